@@ -1,0 +1,14 @@
+//! What the peer asks of the outside, a disk, a link, a source and a sink, and such things in memory.
+//!
+//! Each trait has one meaning, plain data of `pp_terms`, and says of each call what it does to that meaning. A call
+//! answers its fault only where the object's count of faults rose in it; a count that stands at the greatest `u64`
+//! stays there.
+#![tactic(auto)]
+
+mod disk;
+mod link;
+mod stream;
+
+pub use disk::{Disk, DiskFault};
+pub use link::{Address, Event, Link, LinkFault};
+pub use stream::{Sink, SinkFault, Source, SourceFault};

@@ -1,0 +1,47 @@
+// A link that carries datagrams.
+ghost use Rattle.std.specs.Prelude.{◌≡◌, ◌≤◌, length};
+ghost use Rattle.pp_terms.specs.Traffic.{LinkState};
+ghost use Rattle.pp_terms.specs.Disk.{moment_of};
+
+use crate::Disk;
+
+/// A UDP address: the 4 bytes of an IPv4 address or the 16 of an IPv6 address, in network order, and a port.
+#[derive(Clone, Copy, Debug, PartialEq, Eq)]
+pub enum Address {
+    V4([u8; 4], u16),
+    V6([u8; 16], u16),
+}
+
+/// What one wait brought: a datagram of `len` bytes, or none. `at` is the moment, in microseconds.
+#[derive(Clone, Copy, Debug, PartialEq, Eq)]
+pub enum Event {
+    Datagram { from: Address, len: usize, at: u64 },
+    Quiet { at: u64 },
+}
+
+/// A call of a link was refused.
+#[derive(Clone, Copy, Debug, PartialEq, Eq)]
+pub struct LinkFault;
+
+/// A link that receives and sends datagrams.
+pub trait Link {
+    ghost use Rattle.pp_outside.specs.Outside.{DoesBind, DoesNext, DoesSend};
+
+    /// The records of what came and went, where it tells them; how often it refused a call; and how many calls of
+    /// `next` have returned.
+    ghost seen: { Self → LinkState };
+
+    /// Begins to listen at an address.
+    fn bind(&mut self, listen: &Address) -> Result<(), LinkFault>
+        ensures { DoesBind (seen self.old) result (seen self.new) };
+
+    /// Waits for a datagram, for about `limit_us` microseconds at most, and puts it at the front of the buffer,
+    /// which has at least 65,536 bytes.
+    fn next(&mut self, limit_us: u64, buffer: &mut [u8]) -> Result<Event, LinkFault>
+        requires { 65536 ≤ length buffer.old }
+        ensures { DoesNext (seen self.old) buffer.new result (seen self.new) };
+
+    /// Sends a datagram, which is recorded with the disk's moment.
+    fn send<D: Disk>(&mut self, disk: &D, to: &Address, bytes: &[u8]) -> Result<(), LinkFault>
+        ensures { DoesSend (seen self.old) (moment_of (D.state disk.now).history) to.now bytes.now result (seen self.new) };
+}

@@ -1,0 +1,12 @@
+pub mod Count
+pub mod Content
+pub mod Tree
+pub mod Book
+pub mod Descriptor
+pub mod Store
+pub mod Image
+pub mod Disk
+pub mod Stream
+pub mod Calls
+pub mod Report
+pub mod Traffic

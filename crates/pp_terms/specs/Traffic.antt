@@ -1,0 +1,26 @@
+-- The datagrams of one link, as plain data (RFC 7574, section 8: UDP encapsulation).
+use Rattle.std.specs.Prelude.{◌≡◌, ℕ, Option, Some, None, List, ◌++◌}
+
+-- An IPv4 address of 4 bytes or an IPv6 address of 16, and a port.
+pub data Address : Type 0 where
+  V4 : (bytes : List ℕ) (port : ℕ) → Address
+  V6 : (bytes : List ℕ) (port : ℕ) → Address
+
+-- One record: a datagram that came, a wait in which none came, both at a moment of the link in microseconds; or a
+-- datagram that was sent, with the disk's moment then.
+pub data Record : Type 0 where
+  Received : (at : ℕ) (sender : Address) (bytes : List ℕ) → Record
+  Quiet : (at : ℕ) → Record
+  Sent : (moment : ℕ) (receiver : Address) (bytes : List ℕ) → Record
+
+-- What is meant by a link: its records, the newest first, where it tells them; how often a call of it was refused;
+-- and how many calls of `next` have returned.
+pub record LinkState : Type 0 where
+  pub traffic : Option (List Record)
+  pub faults : ℕ
+  pub nexts : ℕ
+
+-- the link gained these records, the newest first; one that doesn't tell says nothing of them
+abbrev pub GainsRecords : Option (List Record) → List Record → Option (List Record) → Type 0
+GainsRecords None added new = new ≡ None
+GainsRecords (Some old) added new = new ≡ Some (added ++ old)
