@@ -1,0 +1,5 @@
+pub mod Written
+pub mod SizeWords
+pub mod Lines
+pub mod Runs
+pub mod Attached

@@ -21,7 +21,7 @@ pub record IsRooted (d : Descriptor) (book : LookUp) : Type 0 where
   pub root_is : book (height_of d) 0 ≡ Some d.root
   pub digests : (k j : ℕ) (x : List ℕ) → book k j ≡ Some x → length x ≡ 32
   pub hangs : (k j : ℕ) (x : List ℕ) → book k j ≡ Some x
-    → ((k ≡ height_of d) × (j ≡ 0)) ⊎ ((left : List ℕ) × (right : List ℕ) × IsJoined book k (j / 2) left right)
+      → ((k ≡ height_of d) × (j ≡ 0)) ⊎ ((left : List ℕ) × (right : List ℕ) × IsJoined book k (j / 2) left right)
 
 -- The bytes are of chunk i's length and their digest is the book's for its leaf, up to the root.
 pub record IsBacked (d : Descriptor) (book : LookUp) (i : ℕ) (bytes : List ℕ) : Type 0 where
@@ -36,7 +36,7 @@ abbrev pub PairsClash : (ℕ → ℕ → List ℕ) → LookUp → ℕ → ℕ �
 PairsClash tree book zero k j = ⊥
 PairsClash tree book (suc n) k j =
     ((left : List ℕ) × (right : List ℕ) × IsJoined book k (j / 2) left right
-      × (tree k (j / 2) ≡ left ++ right → ⊥) × (sha256 (tree k (j / 2)) ≡ sha256 (left ++ right)))
+    × (tree k (j / 2) ≡ left ++ right → ⊥) × (sha256 (tree k (j / 2)) ≡ sha256 (left ++ right)))
     ⊎ PairsClash tree book n (suc k) (j / 2)
 
 -- Two texts with one digest, one of the content and one of the book or the bytes: the chunks, or two pairs above them.

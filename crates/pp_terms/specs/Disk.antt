@@ -39,7 +39,7 @@ pub record IsImage (epoch : Epoch) (image : List ℕ) : Type 0 where
   pub no_shorter : length epoch.durable ≤ length image
   pub no_longer : length image ≤ max (length epoch.durable) (end_of epoch.pending)
   pub stays : (k : ℕ) → k < length epoch.durable → (IsPending epoch.pending k → ⊥)
-    → slice_index image k ≡ slice_index epoch.durable k
+      → slice_index image k ≡ slice_index epoch.durable k
 
 -- an image of one of these epochs
 abbrev pub WasImage : List Epoch → List ℕ → Type 0
@@ -93,23 +93,28 @@ fresh bytes = record {
   found = bytes;
 }
 
--- reads differ from the old ones in this range and past their end alone
+-- reads differ from the old ones in this range alone; a gap before it is zeros
 pub record IsTorn (place size : ℕ) (old new : List ℕ) : Type 0 where
   pub no_shorter : length old ≤ length new
   pub no_longer : length new ≤ max (length old) (place + size)
-  pub outside : (k : ℕ) → k < length old → (IsWithin place size k → ⊥) → slice_index new k ≡ slice_index old k
+  pub outside : (k : ℕ) → (IsWithin place size k → ⊥) → slice_index new k ≡ slice_index old k
+
+-- an image is another with any bytes in this range, and perhaps more past its end
+pub record IsOver (place size : ℕ) (under image : List ℕ) : Type 0 where
+  pub no_shorter : length under ≤ length image
+  pub outside : (k : ℕ) → k < length under → (IsWithin place size k → ⊥) → slice_index image k ≡ slice_index under k
 
 -- A refused write leaves all as it was, or its range pending with any bytes there.
 abbrev pub IsRefusedWrite : History → ℕ → List ℕ → History → Type 0
 IsRefusedWrite old place bytes new =
     (new ≡ old)
     ⊎ ((torn : List ℕ) × IsTorn place (length bytes) old.reads torn
-      × (new ≡ record old { reads = torn; epoch = pends old.epoch place bytes }))
+    × (new ≡ record old { reads = torn; epoch = pends old.epoch place bytes }))
 
 -- After an attachment, refused or not, the disk goes on in the same epoch or begins another, with any image.
 pub record IsAttached (old new : History) : Type 0 where
   pub goes_on : ((new.past ≡ old.past) × (new.epoch ≡ old.epoch) × (new.reads ≡ old.reads))
-    ⊎ (new.past ≡ old.past ++ old.epoch ∷ [])
+      ⊎ (new.past ≡ old.past ++ old.epoch ∷ [])
   pub started : new.start ≡ length new.past
   pub began : new.first ≡ new.epoch
   pub showed : new.found ≡ new.reads

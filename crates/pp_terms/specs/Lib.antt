@@ -10,3 +10,6 @@ pub mod Stream
 pub mod Calls
 pub mod Report
 pub mod Traffic
+pub mod Law
+pub mod Words
+pub mod Example

@@ -1,6 +1,6 @@
 -- The file of a store, version 1: a header of 64 bytes, then slots of a chunk and a pair of digests each.
 -- The places don't depend on the number of chunks.
-use Rattle.std.specs.Prelude.{◌≡◌, ℕ, suc, ◌+◌, ◌-◌, ◌*◌, ◌^◌, ◌<◌, ◌≤◌, List, ◌++◌, length, replicate, codes, slice_index}
+use Rattle.std.specs.Prelude.{◌≡◌, ◌⊎◌, ℕ, suc, ◌+◌, ◌-◌, ◌*◌, ◌^◌, ◌<◌, ◌≤◌, List, ◌++◌, length, replicate, codes, slice_index}
 use Rattle.std.specs.Int.{w32, w64, to_be_bytes}
 use Rattle.pp_terms.specs.Content.{chunk_of}
 use Rattle.pp_terms.specs.Tree.{leaf_of, pair}
@@ -26,6 +26,10 @@ pair_place chunk k j = chunk_place chunk (pair_slot k j) + chunk
 abbrev pub IsWithin : ℕ → ℕ → ℕ → Type 0
 IsWithin place size k = (place ≤ k) × (k < place + size)
 
+-- two ranges don't meet
+abbrev pub AreApart : (place size other size' : ℕ) → Type 0
+AreApart place size other size' = (place + size ≤ other) ⊎ (other + size' ≤ place)
+
 -- These bytes stand at a place, inside the image.
 pub record Has (place : ℕ) (bytes image : List ℕ) : Type 0 where
   pub inside : place + length bytes ≤ length image
@@ -36,15 +40,15 @@ pub data IsPiece (d : Descriptor) (content : List ℕ) : ℕ → List ℕ → Ty
   the_header : IsPiece d content 0 (header d)
   a_chunk : (i : ℕ) → i < chunks_of d → IsPiece d content (chunk_place d.chunk i) (chunk_of content d.chunk i)
   a_pair : (k j : ℕ) → k < height_of d → j * 2 ^ suc k < chunks_of d
-    → IsPiece d content (pair_place d.chunk k j) (pair (leaf_of content d.chunk) (chunks_of d) k j)
+      → IsPiece d content (pair_place d.chunk k j) (pair (leaf_of content d.chunk) (chunks_of d) k j)
 
 -- The image is the content's whole store: each piece stands at its place, each other byte is zero, and the file ends
 -- where one of its pieces does.
 pub record IsStoreOf (d : Descriptor) (content image : List ℕ) : Type 0 where
   pub pieces : (place : ℕ) (bytes : List ℕ) → IsPiece d content place bytes → Has place bytes image
   pub zeros : (k : ℕ)
-    → ((place : ℕ) (bytes : List ℕ) → IsPiece d content place bytes → IsWithin place (length bytes) k → ⊥)
-    → slice_index image k ≡ 0
+      → ((place : ℕ) (bytes : List ℕ) → IsPiece d content place bytes → IsWithin place (length bytes) k → ⊥)
+      → slice_index image k ≡ 0
   pub ends : (place : ℕ) × (bytes : List ℕ) × IsPiece d content place bytes × (place + length bytes ≡ length image)
 
 -- The image begins as no store does: its first eight bytes, zeros past its end, aren't "PPSTORE1".

@@ -25,7 +25,7 @@ abbrev pub leaf_of : List ℕ → ℕ → ℕ → List ℕ
 leaf_of content chunk i = sha256 (chunk_of content chunk i)
 
 -- How high the smallest tree over n leaves is: the number of powers of two below n, for n up to 2 ^ 20.
-abbrev pub height : ℕ → ℕ
+unfoldable pub height : ℕ → ℕ
 height n = count_by (λ k. nat_lt (2 ^ k) n) (range_with_len 0 20)
 
 -- The same, as what it is: the least h with 2 ^ h at least n.

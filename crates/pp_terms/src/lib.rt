@@ -1,13 +1,26 @@
 //! The words that the contracts of this repository cite, each in the terms of its standard: a content and its hash
 //! tree, books of digests, the store's file and its images, the disk and what a crash may leave, a link's traffic.
+//!
+//! Its functions do nothing. Their contracts are laws on those words, and worked examples of them.
 #![tactic(auto)]
 
-ghost use Rattle.std.specs.Prelude.{◌≡◌};
-ghost use Rattle.pp_terms.specs.Tree.{height, IsHeight};
+ghost use Rattle.pp_terms.specs.Law.{WriteElsewhereKeeps, SyncLeavesOne, SyncKeeps, HeightIsLeast};
+ghost use Rattle.pp_terms.specs.Example.{TreeExamples, StoreExamples};
 
-/// One.
-pub fn one() -> u8
-    ensures { result ≡ 1 }
-{
-    1
-}
+/// What a crash may leave after a write and after a sync.
+pub fn laws_of_the_disk()
+    ensures write { WriteElsewhereKeeps }
+    ensures sync { SyncLeavesOne }
+    ensures sync_keeps { SyncKeeps }
+{}
+
+/// How high a tree is.
+pub fn laws_of_the_tree()
+    ensures { HeightIsLeast }
+{}
+
+/// The words at contents that were worked out elsewhere.
+pub fn worked_examples()
+    ensures tree { TreeExamples }
+    ensures store { StoreExamples }
+{}

@@ -1,0 +1,3 @@
+pub mod Sizes
+pub mod Digits
+pub mod TextPieces

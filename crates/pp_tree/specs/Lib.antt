@@ -1,0 +1,3 @@
+pub mod Method
+pub mod Fields
+pub mod Book

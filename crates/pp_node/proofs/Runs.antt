@@ -1,0 +1,70 @@
+-- A run of an import, from what the import does.
+use Rattle.std.proofs.Common.{◌≡◌, ◌⊎◌, inl, inr, ℕ, ◌+◌, ◌<◌, ◌^◌, ◌≤◌, List, [], length, decimal, Some, Err, sym, ◌∙◌, ap, subst, arith}
+use Rattle.std.proofs.Math.Pow.{pow_mono}
+use Rattle.std.proofs.lemmas.Fmt.{decimal_injective}
+use Rattle.pp_terms.specs.Content.{IsChunkSize}
+use Rattle.pp_terms.specs.Words.{IsImport}
+use Rattle.pp_terms.specs.Descriptor.{Descriptor}
+use Rattle.pp_terms.specs.Store.{IsNoStore}
+use Rattle.pp_terms.specs.Disk.{DiskState, History, IsKnown, moment_of}
+use Rattle.pp_terms.specs.Stream.{SourceState, SinkState}
+use Rattle.pp_store.specs.declared.importing.ImportFault.{ImportFault}
+use Rattle.pp_store.specs.declared.importing.ImportFault.TheVariants as fault
+use Rattle.pp_store.specs.Import.{HasAnswer, IsUntouched, KeepsDisk, LeavesWholeStores, TakesAtMost, IsImported}
+use Rattle.pp_node.specs.declared.status.Status.{Status}
+use Rattle.pp_node.specs.declared.status.Status.TheVariants.{NotEmpty, DiskFault}
+use Rattle.pp_node.specs.Status.{number_of}
+use Rattle.pp_node.specs.Run.{IsImportRun, IsFreshlyAttached, Reports, EndsIn, ImportEnds}
+
+module _ (status : Status) (chunk : ℕ) (source source' : SourceState) (old new : DiskState) (fresh : IsKnown old → IsFreshlyAttached old.history) (keeps : KeepsDisk old new) where
+  start_is : IsKnown old → new.history.start ≡ moment_of old.history
+  start_is known = (keeps.attachment known).start ∙ (fresh known).started
+
+  found_is : IsKnown old → new.history.found ≡ old.history.reads
+  found_is known = (keeps.attachment known).found ∙ (fresh known).showed
+
+  pub import_run : (IsKnown old → (content : List ℕ) → source.left ≡ Some content → LeavesWholeStores chunk content old.history new.history)
+      → (IsKnown old → old.history.reads ≡ [] → moment_of new.history ≡ moment_of old.history → IsNoStore new.history.reads)
+      → (IsKnown old → 0 < length old.history.reads → IsUntouched source source' old new)
+      → TakesAtMost (chunk + 1) source source'
+      → (IsKnown old → 0 < length old.history.reads → (status ≡ NotEmpty) ⊎ (status ≡ DiskFault))
+      → IsImportRun status chunk source source' old new
+  import_run whole no_store untouched takes refused = record {
+    whole = λ known content told moment after. whole known content told moment (subst (λ (s : ℕ). s < moment) (start_is known) after);
+    no_store = λ known empty same. no_store known (sym (found_is known) ∙ empty) (same ∙ start_is known);
+    refused = λ known some. refused known (subst (λ (b : List ℕ). 0 < length b) (found_is known) some);
+    unwritten = λ known some.
+        ap (λ (h : History). h.reads) (untouched known (subst (λ (b : List ℕ). 0 < length b) (found_is known) some)).unwritten ∙ sym (found_is known);
+    unread = λ known some. (untouched known (subst (λ (b : List ℕ). 0 < length b) (found_is known) some)).unread;
+    takes = takes;
+  }
+
+none_there : (bytes : List ℕ) → bytes ≡ [] → 0 < length bytes → ⊥
+none_there bytes is some = let none : length bytes ≡ 0 = ap length is in omega (arith, none, some)
+
+pub refused_done : (status : Status) (chunk : ℕ) (source : SourceState) (old new : DiskState) (d : Descriptor) → IsImported chunk source old new d
+    → IsKnown old → 0 < length old.history.reads → (status ≡ NotEmpty) ⊎ (status ≡ DiskFault)
+refused_done status chunk source old new d done known some = absurd (none_there old.history.reads (done.empty known) some)
+
+pub refused_fault : (f : ImportFault) (status : Status) (chunk : ℕ) (source source' : SourceState) (sink sink' : SinkState) (old new : DiskState)
+    → HasAnswer chunk source source' old new (Err f) → Reports f status sink sink' → IsKnown old → 0 < length old.history.reads → (status ≡ NotEmpty) ⊎ (status ≡ DiskFault)
+refused_fault (fault.NotEmpty len) status chunk source source' sink sink' old new answer report known some = inl report.0
+refused_fault (fault.ContentSize count) status chunk source source' sink sink' old new answer report known some = absurd (none_there old.history.reads (answer.empty known) some)
+refused_fault fault.Source status chunk source source' sink sink' old new answer report known some = absurd (none_there old.history.reads (answer.empty known) some)
+refused_fault fault.Disk status chunk source source' sink sink' old new answer report known some = inr report.0
+
+chunk_below : (chunk : ℕ) → IsChunkSize chunk → chunk < 2 ^ 64
+chunk_below chunk size = let le : 2 ^ size.exponent ≤ 2 ^ 13 = pow_mono size.greatest in omega (arith, size.power, le)
+
+-- words spell one import at the most
+same_chunk : (words : List (List ℕ)) (store store' : List ℕ) (chunk chunk' : ℕ) → IsImport words store chunk → IsImport words store' chunk' → chunk ≡ chunk'
+same_chunk words store store' chunk chunk' a b =
+    let same : decimal chunk ≡ decimal chunk' = cc (a.spelled, b.spelled) in
+    decimal_injective chunk chunk' (chunk_below chunk a.size) (chunk_below chunk' b.size) same
+
+pub import_ends : (words : List (List ℕ)) (store : List ℕ) (chunk result : ℕ) (status : Status) (source source' : SourceState) (sink sink' : SinkState) (disk disk' : DiskState)
+    → IsImport words store chunk → result ≡ number_of status → EndsIn status chunk source source' sink sink' disk disk' → IsImportRun status chunk source source' disk disk'
+    → (store' : List ℕ) (chunk' : ℕ) → IsImport words store' chunk' → ImportEnds result chunk' source source' sink sink' disk disk'
+import_ends words store chunk result status source source' sink sink' disk disk' read number ends run store' chunk' spelled =
+    subst (λ (c : ℕ). ImportEnds result c source source' sink sink' disk disk') (same_chunk words store store' chunk chunk' read spelled)
+    (record { status = status; number = number; ends = ends; run = run })

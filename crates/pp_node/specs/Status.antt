@@ -1,0 +1,13 @@
+-- The numbers of the statuses.
+use Rattle.std.specs.Prelude.{ℕ}
+use Rattle.pp_node.specs.declared.status.Status.{Status}
+use Rattle.pp_node.specs.declared.status.Status.TheVariants.{Done, Usage, DiskFault, SourceFault, SinkFault, NotEmpty, ContentSize}
+
+abbrev pub number_of : Status → ℕ
+number_of Done = 0
+number_of Usage = 1
+number_of DiskFault = 4
+number_of SourceFault = 6
+number_of SinkFault = 7
+number_of NotEmpty = 8
+number_of ContentSize = 9

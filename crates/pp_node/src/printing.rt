@@ -1,0 +1,38 @@
+// Lines for the sink.
+ghost use Rattle.std.specs.Prelude.{◌≡◌, ℕ, ◌++◌, ◌≤◌, decimal, OnOk};
+ghost use Rattle.pp_terms.specs.Count.{HasCause};
+ghost use Rattle.pp_terms.specs.Stream.{Gains};
+
+use itoa::Buffer;
+use pp_outside::{Sink, SinkFault};
+
+/// Writes all the bytes.
+pub(crate) fn put_all<K: Sink>(sink: &mut K, bytes: &[u8]) -> Result<(), SinkFault>
+    ensures gained { OnOk result (Gains (K.state sink.old).taken bytes.now (K.state sink.new).taken) }
+    ensures cause { HasCause (K.state sink.old).faults (K.state sink.new).faults result }
+{
+    let mut written = 0;
+    while written < bytes.len() {
+        match sink.write(&bytes[written..]) {
+            Ok(count) => written += count,
+            Err(fault) => return Err(fault),
+        }
+    }
+    Ok(())
+}
+
+/// Writes a number between two texts, in decimal digits.
+pub(crate) fn put_counted<K: Sink>(
+    sink: &mut K,
+    before: &[u8],
+    count: u64,
+    after: &[u8],
+) -> Result<(), SinkFault>
+    ensures gained { OnOk result (Gains (K.state sink.old).taken (before.now ++ decimal count ++ after.now) (K.state sink.new).taken) }
+    ensures cause { HasCause (K.state sink.old).faults (K.state sink.new).faults result }
+{
+    let mut digits = Buffer::new();
+    put_all(sink, before)?;
+    put_all(sink, digits.format(count).as_bytes())?;
+    put_all(sink, after)
+}

@@ -1,0 +1,31 @@
+// How a command ended.
+ghost use Rattle.std.specs.Prelude.{◌≡◌};
+
+/// The exit status of the program, by its number.
+#[derive(Clone, Copy, Debug, PartialEq, Eq)]
+pub enum Status {
+    /// The command was done to its end.
+    Done = 0,
+    /// The words are no command.
+    Usage = 1,
+    /// The disk refused a call.
+    DiskFault = 4,
+    /// The source refused a read.
+    SourceFault = 6,
+    /// The sink refused a write.
+    SinkFault = 7,
+    /// The disk wasn't empty.
+    NotEmpty = 8,
+    /// The content is none of a swarm.
+    ContentSize = 9,
+}
+
+impl Status {
+    ghost use Rattle.pp_node.specs.Status.{number_of};
+
+    pub(crate) fn number(self) -> u8
+        ensures { result ≡ number_of self }
+    {
+        self as u8
+    }
+}

@@ -1,0 +1,5 @@
+pub mod Images
+pub mod Headers
+pub mod Examples
+pub mod Knowing
+pub mod Heights

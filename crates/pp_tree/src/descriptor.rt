@@ -1,0 +1,254 @@
+// What names a swarm.
+ghost use Rattle.std.specs.Prelude.{◌≡◌, ◌↔◌, ◌+◌, ◌^◌, ◌<◌, ◌≤◌, length, take, drop, IsOk, IfOk, IsTrue};
+ghost use Rattle.pp_terms.specs.Content.{chunk_length, IsChunkSize, IsContentSize};
+ghost use Rattle.pp_terms.specs.Descriptor.{chunks_of, height_of, descriptor_text, IsDescriptor};
+ghost use Rattle.pp_terms.specs.Tree.{IsHeight};
+ghost use Rattle.pp_tree.specs.Method.{method_of};
+
+use crate::digest::Digest;
+use crate::text::{put, put_decimal, put_hex};
+use std::marker::Model;
+
+/// How the messages of a swarm name its chunks: by bins or by ranges, in numbers of 32 or 64 bits
+/// (RFC 7574, section 7.8).
+#[derive(Clone, Copy, PartialEq, Eq, Debug)]
+pub enum Method {
+    Bin32,
+    Range32,
+    Bin64,
+    Range64,
+}
+
+impl Method {
+    ghost use Rattle.pp_terms.specs.Descriptor.{method_number};
+
+    /// Its number on the wire and in a descriptor's text.
+    pub fn number(self) -> u8
+        ensures { result ≡ method_number (method_of self) }
+    {
+        match self {
+            Method::Bin32 => 0,
+            Method::Range32 => 2,
+            Method::Bin64 => 3,
+            Method::Range64 => 4,
+        }
+    }
+}
+
+/// A field of a descriptor that no swarm can have: the size of its chunks, or that of its content.
+#[derive(Clone, Copy, PartialEq, Eq, Debug)]
+pub enum FieldFault {
+    Chunk,
+    Size,
+}
+
+/// What names a swarm: the root hash, the chunk size and the content size in bytes, and the method.
+#[derive(Clone, Copy, PartialEq, Eq, Debug)]
+pub struct Descriptor {
+    root: Digest,
+    chunk: u32,
+    size: u64,
+    method: Method,
+}
+
+impl Model for Descriptor {
+    ghost use Rattle.pp_terms.specs.Descriptor as terms;
+
+    ghost Value = { terms.Descriptor };
+
+    ghost use Rattle.pp_tree.specs.Fields.{descriptor_from, fields_from};
+
+    ghost view = { descriptor_from };
+
+    ghost invariant = { λ d. terms.IsDescriptor (descriptor_from d) };
+
+    ghost inverse = { fields_from };
+}
+
+impl Descriptor {
+    ghost use Rattle.pp_terms.specs.Descriptor.{Descriptor};
+
+    /// A swarm's descriptor. The chunk size is a power of two from 256 to 8192, and a content has at least one byte and
+    /// at most 2^20 chunks; the chunk size is judged first.
+    pub fn new(
+        root: Digest,
+        chunk: u32,
+        size: u64,
+        method: Method,
+    ) -> Result<Descriptor, FieldFault>
+        ensures chunk { (result ≡ Err FieldFault.Chunk) ↔ ¬ IsChunkSize chunk }
+        ensures size { (result ≡ Err FieldFault.Size) ↔ (IsChunkSize chunk × ¬ IsContentSize chunk size) }
+        ensures ok { IsOk result ↔ (IsChunkSize chunk × IsContentSize chunk size) }
+        ensures value { IfOk result (λ d.
+            d ≡ record { root = root; chunk = chunk; size = size; method = method_of method }) }
+        ensures valid { IfOk result IsDescriptor }
+    {
+        if !is_chunk_size(chunk) {
+            return Err(FieldFault::Chunk);
+        }
+        if size == 0 || size > u64::from(chunk) * MOST_CHUNKS {
+            return Err(FieldFault::Size);
+        }
+        // Its contract tells that the root has 32 bytes.
+        let _ = root.bytes();
+        Ok(Descriptor {
+            root,
+            chunk,
+            size,
+            method,
+        })
+    }
+
+    /// Its text, `ppspp1:ROOT:CHUNK:SIZE:METHOD`, the root in lower-case hexadecimal digits and the others in decimal, at
+    /// the front of the buffer; answers how many bytes it has.
+    pub fn write(&self, out: &mut [u8; 128]) -> usize
+        ensures len { result ≡ length (descriptor_text self.now) }
+        ensures within { result ≤ 128 }
+        ensures text { take result out.new ≡ descriptor_text self.now }
+        ensures rest { drop result out.new ≡ drop result out.old }
+    {
+        let at = put(out, 0, b"ppspp1:");
+        let at = put_hex(out, at, self.root.bytes());
+        let at = put(out, at, b":");
+        let at = put_decimal(out, at, u64::from(self.chunk));
+        let at = put(out, at, b":");
+        let at = put_decimal(out, at, self.size);
+        let at = put(out, at, b":");
+        put_decimal(out, at, u64::from(self.method.number()))
+    }
+
+    /// The root hash of the content's tree, which is the swarm's identifier.
+    pub fn root(&self) -> Digest
+        ensures root { result ≡ self.now.root }
+        ensures valid { IsDescriptor self.now }
+    {
+        self.root
+    }
+
+    /// The chunk size in bytes.
+    pub fn chunk(&self) -> u32
+        ensures chunk { result ≡ self.now.chunk }
+        ensures range { (256 ≤ result) × (result ≤ 8192) }
+        ensures valid { IsDescriptor self.now }
+    {
+        self.chunk
+    }
+
+    /// The content's size in bytes.
+    pub fn size(&self) -> u64
+        ensures size { result ≡ self.now.size }
+        ensures range { (0 < result) × (result ≤ 2 ^ 33) }
+        ensures valid { IsDescriptor self.now }
+    {
+        self.size
+    }
+
+    /// How the swarm's messages name chunks.
+    pub fn method(&self) -> Method
+        ensures method { method_of result ≡ self.now.method }
+        ensures valid { IsDescriptor self.now }
+    {
+        self.method
+    }
+
+    /// How many chunks the content has.
+    pub fn chunks(&self) -> u32
+        ensures chunks { result ≡ chunks_of self.now }
+        ensures range { (0 < result) × (result ≤ 2 ^ 20) }
+        ensures valid { IsDescriptor self.now }
+    {
+        self.size.div_ceil(u64::from(self.chunk)) as u32
+    }
+
+    /// The layer of the root: the least h with 2^h at least the number of chunks.
+    pub fn height(&self) -> u8
+        ensures height { result ≡ height_of self.now }
+        ensures least { IsHeight (chunks_of self.now) result }
+        ensures range { result ≤ 20 }
+        ensures valid { IsDescriptor self.now }
+    {
+        (32 - (self.chunks() - 1).leading_zeros()) as u8
+    }
+
+    /// The length of chunk i in bytes, the chunk size but for the last one.
+    pub fn chunk_len(&self, i: u32) -> u32
+        requires { i < chunks_of self.now }
+        ensures len { result ≡ chunk_length self.now.size self.now.chunk i }
+        ensures range { (0 < result) × (result ≤ self.now.chunk) }
+        ensures valid { IsDescriptor self.now }
+    {
+        let chunk = u64::from(self.chunk);
+        chunk.min(self.size - u64::from(i) * chunk) as u32
+    }
+}
+
+// How many chunks a content may have.
+const MOST_CHUNKS: u64 = 1 << 20;
+
+fn is_chunk_size(chunk: u32) -> bool
+    ensures { IsTrue result ↔ IsChunkSize chunk }
+{
+    [256, 512, 1024, 2048, 4096, 8192].contains(&chunk)
+}
+
+#[cfg(test)]
+mod tests {
+    use super::*;
+    use crate::digest::leaf;
+
+    #[test]
+    fn writes_its_text(rt: HostRuntime) {
+        let mut text = [0u8; 128];
+        match Descriptor::new(leaf(b"abc"), 1024, 3, Method::Range32) {
+            Ok(descriptor) => {
+                let len = descriptor.write(&mut text);
+                let want =
+                    b"ppspp1:ba7816bf8f01cfea414140de5dae2223b00361a396177a9cb410ff61f20015ad:1024:3:2";
+                assert_eq!(rt; text[..len], want[..]);
+            }
+            Err(_) => assert!(rt; false),
+        }
+    }
+
+    #[test]
+    fn judges_its_fields(rt: HostRuntime) {
+        let root = leaf(b"abc");
+        for (chunk, size, want) in [
+            (1000, 3, FieldFault::Chunk),
+            (128, 3, FieldFault::Chunk),
+            (16384, 0, FieldFault::Chunk),
+            (1024, 0, FieldFault::Size),
+            (256, 268_435_457, FieldFault::Size),
+        ] {
+            assert_eq!(rt;
+                Descriptor::new(root, chunk, size, Method::Bin32),
+                Err(want),
+                "at {chunk} and {size}"
+            );
+        }
+    }
+
+    #[test]
+    fn counts_its_chunks(rt: HostRuntime) {
+        let root = leaf(b"abc");
+        for (chunk, size, chunks, height, last) in [
+            (256, 268_435_456, 1_048_576, 20, 256),
+            (1024, 7000, 7, 3, 856),
+            (8192, 1, 1, 0, 1),
+        ] {
+            match Descriptor::new(root, chunk, size, Method::Range64) {
+                Ok(descriptor) => {
+                    assert_eq!(rt; descriptor.chunks(), chunks);
+                    assert_eq!(rt; descriptor.height(), height);
+                    assert_eq!(rt; descriptor.chunk_len(descriptor.chunks() - 1), last);
+                    assert_eq!(rt;
+                        (descriptor.root(), descriptor.chunk(), descriptor.size()),
+                        (root, chunk, size)
+                    );
+                    assert_eq!(rt; descriptor.method(), Method::Range64);
+                }
+                Err(_) => assert!(rt; false),
+            }
+        }
+    }
+}
