@@ -1,0 +1,158 @@
+use crate::run;
+use pp_outside::{Call, MemoryDisk, MemoryLink, MemorySink, MemorySource, Source};
+use pp_tree::Book;
+use std::alloc::{AllocError, Global};
+use std::test::Fail;
+
+// What a run left, and what it answered.
+#[derive(Drop)]
+struct Ran {
+    status: u8,
+    disk: MemoryDisk,
+    sink: MemorySink,
+}
+
+fn import_over(
+    alloc: Global,
+    line: &[&str],
+    mut disk: MemoryDisk,
+    mut sink: MemorySink,
+    source: &mut MemorySource<'_>,
+) -> Result<Ran, AllocError> {
+    let mut words = Vec::new(alloc);
+    for word in line {
+        words.push(String::from_str(alloc, word)?)?;
+    }
+    let mut link = MemoryLink::new(alloc)?;
+    let mut book = Book::empty(alloc);
+    let status = run(
+        alloc, &words, [0; 32], &mut disk, &mut link, source, &mut sink, &mut book,
+    );
+    Ok(Ran { status, disk, sink })
+}
+
+fn import_of(alloc: Global, content: &[u8], disk: MemoryDisk) -> Result<Ran, AllocError> {
+    import_over(
+        alloc,
+        &["import", "s", "1024"],
+        disk,
+        MemorySink::new(alloc),
+        &mut MemorySource::new(content),
+    )
+}
+
+// The store of `abc`.
+const STORE_OF_ABC: [u8; 67] = [
+    0x50, 0x50, 0x53, 0x54, 0x4f, 0x52, 0x45, 0x31, 0x00, 0x00, 0x04, 0x00, 0x00, 0x00, 0x00, 0x00,
+    0x00, 0x00, 0x00, 0x03, 0xba, 0x78, 0x16, 0xbf, 0x8f, 0x01, 0xcf, 0xea, 0x41, 0x41, 0x40, 0xde,
+    0x5d, 0xae, 0x22, 0x23, 0xb0, 0x03, 0x61, 0xa3, 0x96, 0x17, 0x7a, 0x9c, 0xb4, 0x10, 0xff, 0x61,
+    0xf2, 0x00, 0x15, 0xad, 0x00, 0x00, 0x00, 0x00, 0x00, 0x00, 0x00, 0x00, 0x00, 0x00, 0x00, 0x00,
+    0x61, 0x62, 0x63,
+];
+
+#[test]
+fn imports_one_chunk(rt: HostRuntime) -> Result<(), Fail> {
+    let alloc = rt.alloc();
+    let ran = import_of(alloc, b"abc", MemoryDisk::new(alloc, &[])?)?;
+    assert_eq!(rt; ran.status, 0);
+    let line =
+        b"ppspp1:ba7816bf8f01cfea414140de5dae2223b00361a396177a9cb410ff61f20015ad:1024:3:2\n";
+    assert_eq!(rt; ran.sink.bytes(), line.as_slice());
+    assert_eq!(rt; ran.disk.bytes(), STORE_OF_ABC.as_slice());
+    Ok(())
+}
+
+#[test]
+fn says_why_a_content_is_none(rt: HostRuntime) -> Result<(), Fail> {
+    let alloc = rt.alloc();
+    let ran = import_of(alloc, &[], MemoryDisk::new(alloc, &[])?)?;
+    assert_eq!(rt; ran.status, 9);
+    assert_eq!(rt; ran.sink.bytes(), b"content size: 0 bytes\n".as_slice());
+
+    let long = vec![in alloc; 7; 2000]?;
+    let ran = import_of(alloc, &long, MemoryDisk::new(alloc, &[])?)?;
+    assert_eq!(rt; ran.status, 9);
+    assert_eq!(rt; ran.sink.bytes(), b"content size: 1025 bytes\n".as_slice());
+    assert_eq!(rt; ran.disk.bytes().len(), 0);
+    Ok(())
+}
+
+#[test]
+fn refuses_a_disk_that_is_not_empty(rt: HostRuntime) -> Result<(), Fail> {
+    let alloc = rt.alloc();
+    let mut source = MemorySource::new(b"abc");
+    let ran = import_over(
+        alloc,
+        &["import", "s", "1024"],
+        MemoryDisk::new(alloc, &[5])?,
+        MemorySink::new(alloc),
+        &mut source,
+    )?;
+    assert_eq!(rt; ran.status, 8);
+    assert_eq!(rt; ran.sink.bytes(), b"not empty: 1 bytes\n".as_slice());
+    assert_eq!(rt; ran.disk.bytes(), [5].as_slice());
+    let mut rest = [0; 4];
+    assert_eq!(rt; source.read(&mut rest), Ok(3));
+    Ok(())
+}
+
+#[test]
+fn says_which_device_failed(rt: HostRuntime) -> Result<(), Fail> {
+    let alloc = rt.alloc();
+    for call in [Call::Attach, Call::Len, Call::Write, Call::Sync] {
+        let mut disk = MemoryDisk::new(alloc, &[])?;
+        disk.fail_next(call);
+        let ran = import_of(alloc, b"abc", disk)?;
+        assert_eq!(rt; ran.status, 4, "at {call:?}");
+        assert_eq!(rt; ran.sink.bytes(), b"disk fault\n".as_slice(), "at {call:?}");
+    }
+
+    let mut source = MemorySource::failing(b"ab");
+    let disk = MemoryDisk::new(alloc, &[])?;
+    let ran = import_over(
+        alloc,
+        &["import", "s", "1024"],
+        disk,
+        MemorySink::new(alloc),
+        &mut source,
+    )?;
+    assert_eq!(rt; ran.status, 6);
+    assert_eq!(rt; ran.sink.bytes(), b"source fault\n".as_slice());
+
+    let mut sink = MemorySink::new(alloc);
+    sink.fail_next();
+    let mut source = MemorySource::new(b"abc");
+    let disk = MemoryDisk::new(alloc, &[])?;
+    let ran = import_over(alloc, &["import", "s", "1024"], disk, sink, &mut source)?;
+    assert_eq!(rt; ran.status, 7);
+    assert_eq!(rt; ran.disk.bytes(), STORE_OF_ABC.as_slice());
+    Ok(())
+}
+
+#[test]
+fn refuses_other_words(rt: HostRuntime) -> Result<(), Fail> {
+    let alloc = rt.alloc();
+    let lines: [&[&str]; 8] = [
+        &[],
+        &["import"],
+        &["import", "s"],
+        &["import", "s", "1000"],
+        &["import", "s", "01024"],
+        &["import", "", "1024"],
+        &["import", "s", "1024", "x"],
+        &["check", "s", "1024"],
+    ];
+    for line in lines {
+        let ran = import_over(
+            alloc,
+            line,
+            MemoryDisk::new(alloc, &[])?,
+            MemorySink::new(alloc),
+            &mut MemorySource::new(b"abc"),
+        )?;
+        assert_eq!(rt; ran.status, 1, "at {line:?}");
+        assert_eq!(rt; ran.sink.bytes().len(), 0);
+        assert_eq!(rt; ran.disk.bytes().len(), 0);
+    }
+    Ok(())
+}
