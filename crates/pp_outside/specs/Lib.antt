@@ -1,1 +1,9 @@
 pub mod Outside
+pub mod Faults
+pub mod Steps
+pub mod Log
+pub mod Whole
+pub mod MemoryDisk
+pub mod MemoryLink
+pub mod MemorySource
+pub mod MemorySink

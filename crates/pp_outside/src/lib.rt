@@ -5,10 +5,22 @@
 //! stays there.
 #![tactic(auto)]
 
+mod bytes;
+mod call;
 mod disk;
 mod link;
+mod log;
+mod memory_disk;
+mod memory_link;
+mod memory_sink;
+mod memory_source;
 mod stream;
 
+pub use call::Call;
 pub use disk::{Disk, DiskFault};
 pub use link::{Address, Event, Link, LinkFault};
+pub use memory_disk::MemoryDisk;
+pub use memory_link::{Mark, MemoryLink};
+pub use memory_sink::MemorySink;
+pub use memory_source::MemorySource;
 pub use stream::{Sink, SinkFault, Source, SourceFault};

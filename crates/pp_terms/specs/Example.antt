@@ -35,6 +35,8 @@ pub record TreeExamples : Type 0 where
       × (is_full 7 (record { layer = 1; offset = 3 }) ≡ false) × (is_full 7 (record { layer = 2; offset = 1 }) ≡ false)
   -- the right half of the pair of (1, 3) is 32 zero bytes, whatever the leaves are
   pub last_half_is_empty : (leaf : ℕ → List ℕ) → node leaf 7 0 7 ≡ empty_hash
+  -- over five leaves a node of layer 1 covers no chunk: it is 32 zero bytes too
+  pub inner_node_is_empty : (leaf : ℕ → List ℕ) → node leaf 5 1 3 ≡ empty_hash
   -- the root of the seven chunks
   pub root_of_seven : root_of seven 1024 ≡
       0xb4 ∷ 0x2e ∷ 0xff ∷ 0xe6 ∷ 0xef ∷ 0xb1 ∷ 0xb6 ∷ 0x0e ∷ 0x31 ∷ 0x99 ∷ 0xb1 ∷ 0x81 ∷ 0x82 ∷ 0xc6 ∷ 0x3d ∷ 0x95 ∷

@@ -1,4 +1,4 @@
-use Rattle.pp_terms.proofs.Examples.{seven-chunks, seven-bytes, heights, peaks_of_seven, full_nodes_of_seven, last_half_is_empty, root_of_seven, root_of_abc, pair_places, text_of_abc, header_of_abc, abc_is_held, abc_is_not_held}
+use Rattle.pp_terms.proofs.Examples.{seven-chunks, seven-bytes, heights, peaks_of_seven, full_nodes_of_seven, last_half_is_empty, inner_node_is_empty, root_of_seven, root_of_abc, pair_places, text_of_abc, header_of_abc, abc_is_held, abc_is_not_held}
 use Rattle.pp_terms.proofs.worked_examples.Goals as goal
 
 pub returns-clause-tree : goal.returns-clause-tree
@@ -9,6 +9,7 @@ returns-clause-tree c = record {
   peaks_of_seven = peaks_of_seven;
   full_nodes_of_seven = full_nodes_of_seven;
   last_half_is_empty = last_half_is_empty;
+  inner_node_is_empty = inner_node_is_empty;
   root_of_seven = root_of_seven;
   root_of_abc = root_of_abc;
 }

@@ -1,0 +1,4 @@
+pub mod Crashes
+pub mod Possible
+pub mod Replays
+pub mod Written

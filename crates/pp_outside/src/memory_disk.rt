@@ -1,0 +1,286 @@
+// A disk in memory, which fails and crashes on order.
+ghost use Rattle.std.specs.Prelude.{◌≡◌, ◌⊎◌, ◌≢◌, ◌+◌, ◌^◌, ◌<◌, ◌≤◌, ◌↔◌, true, false, length, IsTrue, IsErr, IfOk, OnOk, OnErr};
+ghost use Rattle.pp_terms.specs.Disk.{DoesAttach, DoesLen, DoesRead, DoesWrite, DoesSync, IsRead, MayLeave, fresh, settled, moment_of};
+ghost use Rattle.pp_terms.specs.Calls.{attached, crash_image};
+
+use crate::log::Log;
+use crate::{Call, Disk, DiskFault};
+use std::alloc::{AllocError, Global};
+
+// Which calls of a disk are to be refused next.
+#[derive(Clone, Copy)]
+struct Orders {
+    attach: bool,
+    len: bool,
+    read: bool,
+    write: bool,
+    sync: bool,
+}
+
+impl Orders {
+    ghost use Rattle.pp_outside.specs.MemoryDisk.{has_order, with_order};
+
+    fn has(&self, call: Call) -> bool
+        ensures { result ≡ has_order self.now call }
+    {
+        match call {
+            Call::Attach => self.attach,
+            Call::Len => self.len,
+            Call::Read => self.read,
+            Call::Write => self.write,
+            Call::Sync => self.sync,
+            Call::Bind | Call::Next | Call::Send => false,
+        }
+    }
+
+    fn set(&mut self, call: Call, to: bool)
+        ensures { self.new ≡ with_order self.old call to }
+    {
+        match call {
+            Call::Attach => self.attach = to,
+            Call::Len => self.len = to,
+            Call::Read => self.read = to,
+            Call::Write => self.write = to,
+            Call::Sync => self.sync = to,
+            Call::Bind | Call::Next | Call::Send => {}
+        }
+    }
+
+    // Whether the call was ordered to fail, which uses the order up.
+    fn take(&mut self, call: Call) -> bool
+        ensures was { result ≡ has_order self.old call }
+        ensures after { self.new ≡ with_order self.old call false }
+    {
+        let ordered = self.has(call);
+        self.set(call, false);
+        ordered
+    }
+}
+
+/// A disk in memory. It keeps all its calls, so that its history answers for every moment.
+///
+/// A write that is refused on order is pending all the same: a crash may do it.
+#[derive(Drop)]
+pub struct MemoryDisk {
+    log: Log,
+    orders: Orders,
+    faults: u64,
+    hard: u64,
+    short: bool,
+}
+
+impl MemoryDisk {
+    ghost use Rattle.pp_outside.specs.MemoryDisk.{state_of, is_ordered, is_short, is_disk_call};
+    ghost use Rattle.pp_outside.specs.Faults.{one_more};
+
+    /// A disk with this image, all of it settled.
+    pub fn new(alloc: Global, image: &[u8]) -> Result<MemoryDisk, AllocError>
+        ensures state { IfOk result (λ disk. state_of disk
+            ≡ record { tells = true; honest = true; history = fresh image.now; faults = 0; hard = 0 }) }
+        ensures nothing_ordered { IfOk result (λ disk. (call : _) → is_ordered disk call ≡ false) }
+        ensures not_short { IfOk result (λ disk. is_short disk ≡ false) }
+    {
+        Ok(MemoryDisk {
+            log: Log::new(alloc, image)?,
+            orders: Orders {
+                attach: false,
+                len: false,
+                read: false,
+                write: false,
+                sync: false,
+            },
+            faults: 0,
+            hard: 0,
+            short: false,
+        })
+    }
+
+    /// Orders that the next call of this kind fails. A call of another device is not ordered.
+    pub fn fail_next(&mut self, call: Call)
+        ensures state { state_of self.new ≡ state_of self.old }
+        ensures short { is_short self.new ≡ is_short self.old }
+        ensures ordered { is_ordered self.new call ≡ is_disk_call call }
+        ensures others { (other : _) → other ≢ call → is_ordered self.new other ≡ is_ordered self.old other }
+    {
+        self.orders.set(call, true);
+    }
+
+    /// Crashes: what is left is one of the images that a crash now may leave, by the pick. The pending writes are
+    /// taken in order, the oldest first, numbered from 0. Pick 0 drops each and pick 1 does each. By another pick a
+    /// write is dropped, done, or fills its range with a5 bytes, as the pick and its number together leave 0, 1 or 2
+    /// when divided by 3.
+    pub fn crash(&mut self, pick: u64)
+        ensures crashed { ((state_of self.new ≡ record (state_of self.old) {
+          history = settled (state_of self.old).history (crash_image pick (state_of self.old).history.epoch);
+        })
+            × (is_short self.new ≡ is_short self.old))
+            ⊎ ((state_of self.new ≡ record (state_of self.old) {
+              faults = one_more (state_of self.old).faults;
+              hard = one_more (state_of self.old).hard;
+            })
+            × IsTrue (is_short self.new)) }
+        ensures possible { MayLeave (state_of self.old).history (state_of self.new).history.reads }
+        ensures orders { (call : _) → is_ordered self.new call ≡ is_ordered self.old call }
+    {
+        if self.log.crash(pick).is_err() {
+            self.short = true;
+            self.count_fault();
+        }
+    }
+
+    /// What reads give.
+    pub fn bytes(&self) -> &[u8]
+        ensures { result.now ≡ (state_of self.now).history.reads }
+    {
+        self.log.bytes()
+    }
+
+    /// How many epochs have ended, each with a sync or a crash.
+    pub fn moment(&self) -> u64
+        ensures { result ≡ moment_of (state_of self.now).history }
+    {
+        self.log.moment()
+    }
+
+    /// Whether a call found no memory for what it was to keep.
+    pub fn short(&self) -> bool
+        ensures { result ≡ is_short self.now }
+    {
+        self.short
+    }
+
+    fn count_fault(&mut self)
+        ensures counted { self.new ≡ record self.old { faults = one_more self.old.faults; hard = one_more self.old.hard } }
+        ensures faults_fit { self.old.faults < 2 ^ 64 }
+        ensures hard_fit { self.old.hard < 2 ^ 64 }
+    {
+        self.faults = self.faults.saturating_add(1);
+        self.hard = self.hard.saturating_add(1);
+    }
+}
+
+impl Disk for MemoryDisk {
+    ghost use Rattle.pp_outside.specs.MemoryDisk.{state_of, is_ordered, is_short, Spends, Counts, RunsShort, after_refused_write};
+    ghost use Rattle.pp_outside.specs.Whole.{reads_are_image};
+
+    ghost state = { state_of };
+
+    ghost whole = { λ disk known. reads_are_image disk.log };
+
+    fn attach(&mut self, _name: &str) -> Result<(), DiskFault>
+        ensures does { DoesAttach (state_of self.old) result (state_of self.new) }
+        ensures attached { (state_of self.new).history ≡ attached (state_of self.old).history (state_of self.old).history }
+        ensures exact { IsErr result ↔ IsTrue (is_ordered self.old Call.Attach) }
+        ensures short { is_short self.new ≡ is_short self.old }
+        ensures spends { Spends self.old Call.Attach self.new }
+        ensures counts { Counts self.old Call.Attach result self.new }
+    {
+        self.log.attach();
+        if self.orders.take(Call::Attach) {
+            self.count_fault();
+            return Err(DiskFault);
+        }
+        Ok(())
+    }
+
+    fn len(&mut self) -> Result<u64, DiskFault>
+        ensures does { DoesLen (state_of self.old) result (state_of self.new) }
+        ensures exact { IsErr result ↔ IsTrue (is_ordered self.old Call.Len) }
+        ensures short { is_short self.new ≡ is_short self.old }
+        ensures spends { Spends self.old Call.Len self.new }
+        ensures counts { Counts self.old Call.Len result self.new }
+    {
+        if self.orders.take(Call::Len) {
+            self.count_fault();
+            return Err(DiskFault);
+        }
+        Ok(self.log.bytes().len() as u64)
+    }
+
+    fn read_at(&mut self, place: u64, into: &mut [u8]) -> Result<(), DiskFault>
+        requires { place + length into.old ≤ 2 ^ 40 }
+        ensures does { DoesRead (state_of self.old) place into.new result (state_of self.new) }
+        ensures exact { IsErr result ↔ IsTrue (is_ordered self.old Call.Read) }
+        ensures refused { OnErr result (into.new ≡ into.old) }
+        ensures short { is_short self.new ≡ is_short self.old }
+        ensures spends { Spends self.old Call.Read self.new }
+        ensures counts { Counts self.old Call.Read result self.new }
+    {
+        if self.orders.take(Call::Read) {
+            self.faults = self.faults.saturating_add(1);
+            return Err(DiskFault);
+        }
+        copy_from(self.log.bytes(), place as usize, into);
+        Ok(())
+    }
+
+    fn write_at(&mut self, place: u64, bytes: &[u8]) -> Result<(), DiskFault>
+        requires { place + length bytes.now ≤ 2 ^ 40 }
+        ensures does { DoesWrite (state_of self.old) place bytes.now result (state_of self.new) }
+        ensures ok { OnOk result (is_short self.new ≡ is_short self.old) }
+        // On order the write is pending and not done.
+        ensures refused { IsTrue (is_ordered self.old Call.Write) → IsErr result
+            × ((((state_of self.new).history ≡ after_refused_write (state_of self.old).history place bytes.now)
+            × (is_short self.new ≡ is_short self.old))
+            ⊎ RunsShort self.old self.new) }
+        ensures cause { IsErr result → IsTrue (is_ordered self.old Call.Write) ⊎ RunsShort self.old self.new }
+        ensures short { IsTrue (is_short self.old) → IsTrue (is_short self.new) }
+        ensures spends { Spends self.old Call.Write self.new }
+        ensures counts { Counts self.old Call.Write result self.new }
+    {
+        let place = place as usize;
+        let refused = self.orders.take(Call::Write);
+        let kept = if refused {
+            self.log.refuse_write(place, bytes)
+        } else {
+            self.log.write(place, bytes)
+        };
+        if kept.is_err() {
+            self.short = true;
+        }
+        if refused || kept.is_err() {
+            self.count_fault();
+            return Err(DiskFault);
+        }
+        Ok(())
+    }
+
+    fn sync(&mut self) -> Result<(), DiskFault>
+        ensures does { DoesSync (state_of self.old) result (state_of self.new) }
+        ensures ok { OnOk result (is_short self.new ≡ is_short self.old) }
+        ensures refused { IsTrue (is_ordered self.old Call.Sync) → IsErr result × (is_short self.new ≡ is_short self.old) }
+        ensures cause { IsErr result → IsTrue (is_ordered self.old Call.Sync) ⊎ RunsShort self.old self.new }
+        ensures short { IsTrue (is_short self.old) → IsTrue (is_short self.new) }
+        ensures spends { Spends self.old Call.Sync self.new }
+        ensures counts { Counts self.old Call.Sync result self.new }
+    {
+        if self.orders.take(Call::Sync) {
+            self.count_fault();
+            return Err(DiskFault);
+        }
+        if self.log.sync().is_err() {
+            self.short = true;
+            self.count_fault();
+            return Err(DiskFault);
+        }
+        Ok(())
+    }
+
+    fn moment(&self) -> u64 {
+        self.log.moment()
+    }
+}
+
+// Fills `into` with the bytes from a place on, and with zeros past their end.
+fn copy_from(bytes: &[u8], place: usize, into: &mut [u8])
+    ensures copied { IsRead bytes.now place into.new }
+{
+    let from = place.min(bytes.len());
+    let rest = &bytes[from..];
+    let some = rest.len().min(into.len());
+    into[..some].copy_from_slice(&rest[..some]);
+    into[some..].fill(0);
+}
+
+#[cfg(test)]
+mod tests;

@@ -1,0 +1,94 @@
+use super::*;
+use std::test::Fail;
+
+const PLACES: u64 = 1 << 40;
+
+// Six bytes are settled. Then two writes are pending, the second with a gap before it.
+fn with_two_writes(alloc: Global) -> Result<MemoryDisk, Fail> {
+    let mut disk = MemoryDisk::new(alloc, &[9, 9, 9])?;
+    write(&mut disk, 0, &[10, 11, 12, 13, 14, 15]);
+    let _ = disk.sync();
+    write(&mut disk, 1, &[1, 2]);
+    write(&mut disk, 7, &[3, 4]);
+    Ok(disk)
+}
+
+fn write(disk: &mut MemoryDisk, place: u64, bytes: &[u8]) -> bool {
+    place < PLACES && (bytes.len() as u64) < PLACES - place && disk.write_at(place, bytes).is_ok()
+}
+
+#[test]
+fn crashes_leave_what_the_pick_says(rt: HostRuntime) -> Result<(), Fail> {
+    let left: [(u64, &[u8]); 5] = [
+        (0, &[10, 11, 12, 13, 14, 15]),
+        (1, &[10, 1, 2, 13, 14, 15, 0, 3, 4]),
+        (2, &[10, 0xa5, 0xa5, 13, 14, 15]),
+        (3, &[10, 11, 12, 13, 14, 15, 0, 3, 4]),
+        (4, &[10, 1, 2, 13, 14, 15, 0, 0xa5, 0xa5]),
+    ];
+    for (pick, image) in left {
+        let mut disk = with_two_writes(rt.alloc())?;
+        assert_eq!(rt; disk.moment(), 1);
+        disk.crash(pick);
+        assert_eq!(rt; disk.bytes(), image, "by pick {pick}");
+        // That image is then the only one.
+        disk.crash(2);
+        assert_eq!(rt; disk.bytes(), image, "twice, by pick {pick}");
+        assert_eq!(rt; disk.moment(), 3);
+        assert!(rt; !disk.short());
+    }
+    Ok(())
+}
+
+#[test]
+fn a_gap_is_zeros(rt: HostRuntime) -> Result<(), Fail> {
+    let mut disk = MemoryDisk::new(rt.alloc(), &[5])?;
+    assert!(rt; write(&mut disk, 3, &[7, 8]));
+    assert_eq!(rt; disk.bytes(), [5, 0, 0, 7, 8].as_slice());
+    assert_eq!(rt; disk.len(), Ok(5));
+    let mut into = [1; 4];
+    assert_eq!(rt; disk.read_at(2, &mut into), Ok(()));
+    assert_eq!(rt; into, [0, 7, 8, 0]);
+    let mut far = [1; 2];
+    assert_eq!(rt; disk.read_at(100, &mut far), Ok(()));
+    assert_eq!(rt; far, [0, 0]);
+    Ok(())
+}
+
+#[test]
+fn a_refused_write_may_come_with_a_crash(rt: HostRuntime) -> Result<(), Fail> {
+    let mut disk = MemoryDisk::new(rt.alloc(), &[1, 2, 3])?;
+    disk.fail_next(Call::Write);
+    assert!(rt; !write(&mut disk, 1, &[8, 9]));
+    assert_eq!(rt; disk.bytes(), [1, 2, 3].as_slice());
+    disk.crash(1);
+    assert_eq!(rt; disk.bytes(), [1, 8, 9].as_slice());
+    assert!(rt; !disk.short());
+    Ok(())
+}
+
+fn succeeds(disk: &mut MemoryDisk, call: Call) -> bool {
+    match call {
+        Call::Attach => disk.attach("store").is_ok(),
+        Call::Len => disk.len().is_ok(),
+        Call::Read => disk.read_at(0, &mut [0; 4]).is_ok(),
+        Call::Write => disk.write_at(0, &[1]).is_ok(),
+        Call::Sync => disk.sync().is_ok(),
+        Call::Bind | Call::Next | Call::Send => true,
+    }
+}
+
+#[test]
+fn each_ordered_call_fails_once(rt: HostRuntime) -> Result<(), Fail> {
+    let calls = [Call::Attach, Call::Len, Call::Read, Call::Write, Call::Sync];
+    let mut disk = MemoryDisk::new(rt.alloc(), &[1])?;
+    for ordered in calls {
+        disk.fail_next(ordered);
+        disk.fail_next(Call::Send);
+        for call in calls {
+            assert_eq!(rt; succeeds(&mut disk, call), call != ordered, "{call:?}");
+        }
+        assert!(rt; succeeds(&mut disk, ordered));
+    }
+    Ok(())
+}
