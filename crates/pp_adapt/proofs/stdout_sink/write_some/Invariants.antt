@@ -1,0 +1,6 @@
+-- A refused write gives nothing to the writer.
+use Rattle.std.specs.Io.KnownBytes.{Keeps}
+use Rattle.pp_adapt.proofs.stdout_sink.write_some.Given as goal
+
+abbrev pub invariant-loop : goal.invariant-loop
+invariant-loop g l = Keeps (g.W.Write.contents l.initial.writer) (g.W.Write.contents l.writer)

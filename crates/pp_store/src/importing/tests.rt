@@ -1,0 +1,171 @@
+// Imports at chunks of 1,024 bytes.
+use super::*;
+use pp_outside::{Call, MemoryDisk, MemorySource};
+use std::test::Fail;
+
+// The digest of `abc` is that of FIPS 180-4's examples.
+const ABC_TEXT: &[u8] =
+    b"ppspp1:ba7816bf8f01cfea414140de5dae2223b00361a396177a9cb410ff61f20015ad:1024:3:2";
+
+const ABC_STORE: [u8; 67] = [
+    0x50, 0x50, 0x53, 0x54, 0x4f, 0x52, 0x45, 0x31, // "PPSTORE1"
+    0x00, 0x00, 0x04, 0x00, // the chunk size
+    0x00, 0x00, 0x00, 0x00, 0x00, 0x00, 0x00, 0x03, // the content size
+    0xba, 0x78, 0x16, 0xbf, 0x8f, 0x01, 0xcf, 0xea, 0x41, 0x41, 0x40, 0xde, 0x5d, 0xae, 0x22, 0x23,
+    0xb0, 0x03, 0x61, 0xa3, 0x96, 0x17, 0x7a, 0x9c, 0xb4, 0x10, 0xff, 0x61, 0xf2, 0x00, 0x15, 0xad,
+    0x00, 0x00, 0x00, 0x00, 0x00, 0x00, 0x00, 0x00, 0x00, 0x00, 0x00, 0x00, //
+    0x61, 0x62, 0x63, // "abc"
+];
+
+// A disk that takes `left` calls more and refuses each after them. A write that it refuses is pending all the same.
+#[derive(Drop)]
+struct StoppingDisk {
+    inner: MemoryDisk,
+    left: u32,
+}
+
+impl StoppingDisk {
+    ghost use Rattle.std.specs.Prelude.{◌≡◌};
+    ghost use Rattle.pp_outside.specs.MemoryDisk.{state_of};
+
+    // Counts a call, and orders the inner disk to refuse it if none is left.
+    fn count(&mut self, call: Call)
+        ensures { state_of self.new.inner ≡ state_of self.old.inner }
+    {
+        if self.left == 0 {
+            self.inner.fail_next(call);
+        } else {
+            self.left -= 1;
+        }
+    }
+}
+
+impl Disk for StoppingDisk {
+    ghost use Rattle.pp_outside.specs.MemoryDisk.{state_of};
+    ghost use Rattle.pp_outside.specs.Whole.{reads_are_image};
+
+    ghost state = { λ disk. state_of disk.inner };
+
+    ghost whole = { λ disk known. reads_are_image disk.inner.log };
+
+    fn attach(&mut self, name: &str) -> Result<(), DiskFault> {
+        self.count(Call::Attach);
+        self.inner.attach(name)
+    }
+
+    fn len(&mut self) -> Result<u64, DiskFault> {
+        self.count(Call::Len);
+        self.inner.len()
+    }
+
+    fn read_at(&mut self, place: u64, into: &mut [u8]) -> Result<(), DiskFault> {
+        self.count(Call::Read);
+        self.inner.read_at(place, into)
+    }
+
+    fn write_at(&mut self, place: u64, bytes: &[u8]) -> Result<(), DiskFault> {
+        self.count(Call::Write);
+        self.inner.write_at(place, bytes)
+    }
+
+    fn sync(&mut self) -> Result<(), DiskFault> {
+        self.count(Call::Sync);
+        self.inner.sync()
+    }
+
+    fn moment(&self) -> u64 {
+        self.inner.moment()
+    }
+}
+
+fn import_from<D: Disk>(
+    source: &mut MemorySource,
+    disk: &mut D,
+) -> Result<Descriptor, ImportFault> {
+    import(1024, source, disk)
+}
+
+#[test]
+fn abc_becomes_a_store(rt: HostRuntime) -> Result<(), Fail> {
+    let mut disk = MemoryDisk::new(rt.alloc(), &[])?;
+    let descriptor = import_from(&mut MemorySource::new(b"abc"), &mut disk)?;
+    let mut text = [0; 128];
+    let len = descriptor.write(&mut text);
+    assert_eq!(rt; &text[..len], ABC_TEXT);
+    assert_eq!(rt; disk.bytes(), ABC_STORE.as_slice());
+    Ok(())
+}
+
+#[test]
+fn a_content_has_one_chunk(rt: HostRuntime) -> Result<(), Fail> {
+    let bytes = [7; 5000];
+    let cases = [
+        (&bytes[..0], Some(ImportFault::ContentSize { count: 0 }), 0),
+        (&bytes[..1024], None, 64 + 1024),
+        (
+            &bytes[..1025],
+            Some(ImportFault::ContentSize { count: 1025 }),
+            0,
+        ),
+        (
+            &bytes[..],
+            Some(ImportFault::ContentSize { count: 1025 }),
+            0,
+        ),
+    ];
+    for (content, fault, left) in cases {
+        let mut disk = MemoryDisk::new(rt.alloc(), &[])?;
+        let answer = import_from(&mut MemorySource::new(content), &mut disk);
+        assert_eq!(rt; answer.err(), fault, "at {} bytes", content.len());
+        assert_eq!(rt; disk.bytes().len(), left, "at {} bytes", content.len());
+    }
+    Ok(())
+}
+
+#[test]
+fn a_disk_of_one_byte_stays(rt: HostRuntime) -> Result<(), Fail> {
+    let mut source = MemorySource::new(b"abc");
+    let mut disk = MemoryDisk::new(rt.alloc(), &[9])?;
+    let answer = import_from(&mut source, &mut disk);
+    assert_eq!(rt; answer, Err(ImportFault::NotEmpty { len: 1 }));
+    assert_eq!(rt; disk.bytes(), [9].as_slice());
+    let mut first = [0];
+    assert_eq!(rt; source.read(&mut first), Ok(1));
+    assert_eq!(rt; first, *b"a");
+    Ok(())
+}
+
+#[test]
+fn a_source_that_fails_leaves_the_disk_empty(rt: HostRuntime) -> Result<(), Fail> {
+    let mut disk = MemoryDisk::new(rt.alloc(), &[])?;
+    let answer = import_from(&mut MemorySource::failing(b"ab"), &mut disk);
+    assert_eq!(rt; answer, Err(ImportFault::Source));
+    assert_eq!(rt; disk.bytes(), [].as_slice());
+    Ok(())
+}
+
+// An import makes five calls: of the length, and twice of a write and a sync.
+#[test]
+fn a_crash_leaves_no_other_store(rt: HostRuntime) -> Result<(), Fail> {
+    for (left, pick) in (0..=5).flat_map(|left| (0..=5).map(move |pick| (left, pick))) {
+        let inner = MemoryDisk::new(rt.alloc(), &[])?;
+        let mut disk = StoppingDisk { inner, left };
+        let answer = import_from(&mut MemorySource::new(b"abc"), &mut disk);
+        let fault = if left < 5 {
+            Some(ImportFault::Disk)
+        } else {
+            None
+        };
+        assert_eq!(rt; answer.err(), fault, "after {left} calls");
+        disk.inner.crash(pick);
+        let image = disk.inner.bytes();
+        if left == 5 || image.starts_with(&ABC_STORE[..64]) {
+            assert_eq!(rt;
+                image,
+                ABC_STORE.as_slice(),
+                "after {left} calls, by pick {pick}"
+            );
+        }
+    }
+    Ok(())
+}
