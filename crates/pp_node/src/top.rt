@@ -1,6 +1,7 @@
 // The top call.
-ghost use Rattle.std.specs.Prelude.{◌≡◌, ◌↔◌, ℕ, [], List};
+ghost use Rattle.std.specs.Prelude.{◌≡◌, ◌↔◌, ℕ, List};
 ghost use Rattle.pp_terms.specs.Words.{IsImport};
+ghost use Rattle.pp_tree.specs.Book.{empty_book};
 ghost use Rattle.pp_node.specs.Text.{texts};
 ghost use Rattle.pp_node.specs.Run.{ImportEnds};
 
@@ -25,7 +26,7 @@ pub fn run<D: Disk, L: Link, S: Source, K: Sink>(
     sink: &mut K,
     book: &mut Book,
 ) -> u8
-    requires { book.old ≡ [] }
+    requires { book.old ≡ empty_book }
 
     // Status 1 comes exactly where the words are no command.
     ensures usage { (result ≡ 1) ↔ ((store : List ℕ) (chunk : ℕ) → IsImport (texts words.now) store chunk → ⊥) }

@@ -1,4 +1,6 @@
 pub mod Crashes
 pub mod Possible
 pub mod Replays
+pub mod Telling
 pub mod Written
+pub mod Zeros

@@ -1,5 +1,9 @@
 pub mod Outside
 pub mod Faults
+pub mod Orders
+pub mod Arrivals
+pub mod Events
+pub mod Records
 pub mod Steps
 pub mod Log
 pub mod Whole
@@ -7,3 +11,6 @@ pub mod MemoryDisk
 pub mod MemoryLink
 pub mod MemorySource
 pub mod MemorySink
+pub mod LyingDisk
+pub mod NullDisk
+pub mod ZeroSource

@@ -1,42 +1,12 @@
 -- A disk in memory: its meaning, the calls that it is ordered to refuse, and whether memory ran out.
-use Rattle.std.specs.Prelude.{◌≡◌, ℕ, Bool, true, false, if◌then◌else◌, List, Result, IsTrue}
-use Rattle.pp_terms.specs.Disk.{History, DiskState, pends}
-use Rattle.pp_terms.specs.Calls.{history_of}
+use Rattle.std.specs.Prelude.{◌≡◌, ◌⊎◌, ◌≢◌, ◌↔◌, ℕ, Bool, true, false, ◌&&◌, if◌then◌else◌, List, length, Result, IsTrue, IsErr, IfOk, OnOk, OnErr}
+use Rattle.pp_terms.specs.Disk.{History, DiskState, IsRead, pends, after_write, settled}
+use Rattle.pp_terms.specs.Calls.{history_of, attached}
 use Rattle.pp_outside.specs.Faults.{counted}
+use Rattle.pp_outside.specs.Orders.{has_order, is_disk_call}
 use Rattle.pp_outside.specs.declared.call.Call.{Call}
-use Rattle.pp_outside.specs.declared.call.Call.TheVariants.{Attach, Len, Read, Write, Sync, Bind, Next, Send}
-use Rattle.pp_outside.specs.declared.memory_disk.Orders.{Orders}
+use Rattle.pp_outside.specs.declared.call.Call.TheVariants.{Attach, Len, Read, Write, Sync}
 use Rattle.pp_outside.specs.declared.memory_disk.MemoryDisk.{MemoryDisk}
-
-abbrev pub has_order : Orders → Call → Bool
-has_order orders Attach = orders.attach
-has_order orders Len = orders.len
-has_order orders Read = orders.read
-has_order orders Write = orders.write
-has_order orders Sync = orders.sync
-has_order orders Bind = false
-has_order orders Next = false
-has_order orders Send = false
-
-abbrev pub with_order : Orders → Call → Bool → Orders
-with_order orders Attach to = record orders { attach = to }
-with_order orders Len to = record orders { len = to }
-with_order orders Read to = record orders { read = to }
-with_order orders Write to = record orders { write = to }
-with_order orders Sync to = record orders { sync = to }
-with_order orders Bind to = orders
-with_order orders Next to = orders
-with_order orders Send to = orders
-
-abbrev pub is_disk_call : Call → Bool
-is_disk_call Attach = true
-is_disk_call Len = true
-is_disk_call Read = true
-is_disk_call Write = true
-is_disk_call Sync = true
-is_disk_call Bind = false
-is_disk_call Next = false
-is_disk_call Send = false
 
 abbrev pub is_read : Call → Bool
 is_read Read = true
@@ -54,26 +24,67 @@ state_of disk = record {
 
 -- the next call of this kind is to be refused
 abbrev pub is_ordered : MemoryDisk → Call → Bool
-is_ordered disk call = has_order disk.orders call
+is_ordered disk call = is_disk_call call && has_order disk.orders call
 
 -- a call found no memory
 abbrev pub is_short : MemoryDisk → Bool
 is_short disk = disk.short
 
--- The order of this call is used up, and the others stay.
-pub record Spends (old : MemoryDisk) (call : Call) (new : MemoryDisk) : Type 0 where
-  pub spent : is_ordered new call ≡ false
-  pub others : (other : Call) → (other ≡ call → ⊥) → is_ordered new other ≡ is_ordered old other
+-- its range is pending with its bytes, and reads stay
+abbrev pub after_refused_write : History → ℕ → List ℕ → History
+after_refused_write h place bytes = record h { epoch = pends h.epoch place bytes }
 
--- Each refusal is counted, by one count only where it is a read's.
-pub record Counts {T E : Type 0} (old : MemoryDisk) (call : Call) (result : Result T E) (new : MemoryDisk) : Type 0 where
+-- The order of this call is used up, and the others stay. Each refusal is counted, by one count only where it is a
+-- read's.
+pub record Spends {T E : Type 0} (old : MemoryDisk) (call : Call) (result : Result T E) (new : MemoryDisk) : Type 0 where
+  pub spent : is_ordered new call ≡ false
+  pub others : (other : Call) → other ≢ call → is_ordered new other ≡ is_ordered old other
   pub faults : (state_of new).faults ≡ counted (state_of old).faults result
   pub hard : (state_of new).hard ≡ (if is_read call then (state_of old).hard else counted (state_of old).hard result)
+
+-- A call is refused on order, and never else.
+pub record FailsOnOrder {T E : Type 0} (old : MemoryDisk) (call : Call) (result : Result T E) (new : MemoryDisk) : Type 0 where
+  pub exact : IsErr result ↔ IsTrue (is_ordered old call)
+  pub short : is_short new ≡ is_short old
+  pub spends : Spends old call result new
 
 -- memory ran out, and what is on the disk stays
 abbrev pub RunsShort : MemoryDisk → MemoryDisk → Type 0
 RunsShort old new = ((state_of new).history ≡ (state_of old).history) × IsTrue (is_short new)
 
--- its range is pending with its bytes, and reads stay
-abbrev pub after_refused_write : History → ℕ → List ℕ → History
-after_refused_write h place bytes = record h { epoch = pends h.epoch place bytes }
+-- A call is refused on order, and else only where memory ran out.
+pub record MayRunShort {T E : Type 0} (old : MemoryDisk) (call : Call) (result : Result T E) (new : MemoryDisk) : Type 0 where
+  pub ok : OnOk result (is_short new ≡ is_short old)
+  pub cause : IsErr result → IsTrue (is_ordered old call) ⊎ RunsShort old new
+  pub short : IsTrue (is_short old) → IsTrue (is_short new)
+  pub spends : Spends old call result new
+
+-- What each call does, exactly.
+pub record Attaches {E : Type 0} (old : MemoryDisk) (result : Result (Unit {0}) E) (new : MemoryDisk) : Type 0 where
+  pub history : (state_of new).history ≡ attached (state_of old).history (state_of old).history
+  pub fails : FailsOnOrder old Attach result new
+
+pub record Measures {E : Type 0} (old : MemoryDisk) (result : Result ℕ E) (new : MemoryDisk) : Type 0 where
+  pub history : (state_of new).history ≡ (state_of old).history
+  pub length : IfOk result (λ n. n ≡ length (state_of old).history.reads)
+  pub fails : FailsOnOrder old Len result new
+
+pub record Reads {E : Type 0} (old : MemoryDisk) (place : ℕ) (before : List ℕ) (result : Result (Unit {0}) E) (into : List ℕ) (new : MemoryDisk) : Type 0 where
+  pub history : (state_of new).history ≡ (state_of old).history
+  pub filled : OnOk result (IsRead (state_of old).history.reads place into)
+  pub refused : OnErr result (into ≡ before)
+  pub fails : FailsOnOrder old Read result new
+
+-- On order the write is pending and not done, so that a crash may do it.
+pub record Writes {E : Type 0} (old : MemoryDisk) (place : ℕ) (bytes : List ℕ) (result : Result (Unit {0}) E) (new : MemoryDisk) : Type 0 where
+  pub done : OnOk result ((state_of new).history ≡ after_write (state_of old).history place bytes)
+  pub ordered : IsTrue (is_ordered old Write) → IsErr result
+      × ((((state_of new).history ≡ after_refused_write (state_of old).history place bytes) × (is_short new ≡ is_short old))
+      ⊎ RunsShort old new)
+  pub short : MayRunShort old Write result new
+
+pub record Syncs {E : Type 0} (old : MemoryDisk) (result : Result (Unit {0}) E) (new : MemoryDisk) : Type 0 where
+  pub done : OnOk result ((state_of new).history ≡ settled (state_of old).history (state_of old).history.reads)
+  pub refused : OnErr result ((state_of new).history ≡ (state_of old).history)
+  pub ordered : IsTrue (is_ordered old Sync) → IsErr result × (is_short new ≡ is_short old)
+  pub short : MayRunShort old Sync result new

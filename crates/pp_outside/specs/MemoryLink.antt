@@ -1,29 +1,46 @@
--- A link in memory, and its records.
-use Rattle.std.specs.Prelude.{ℕ, Some, List, map, reverse}
-use Rattle.pp_terms.specs.Traffic as traffic
+-- A link in memory: its meaning, what it is still to hand out, the calls that it is ordered to refuse, and whether
+-- memory ran out.
+use Rattle.std.specs.Prelude.{◌≡◌, ◌⊎◌, ◌≢◌, Bool, false, ◌&&◌, Some, List, reverse, Result, IsTrue, IsErr, OnOk}
 use Rattle.pp_terms.specs.Traffic.{Record, LinkState}
-use Rattle.pp_outside.specs.Outside.{address_of}
-use Rattle.pp_outside.specs.declared.memory_link.Mark.{Mark}
-use Rattle.pp_outside.specs.declared.memory_link.Mark.TheVariants.{Received, Quiet, Sent}
-use Rattle.pp_outside.specs.declared.memory_link.Passed.{Passed}
+use Rattle.pp_outside.specs.Faults.{counted}
+use Rattle.pp_outside.specs.Orders.{has_order, is_link_call}
+use Rattle.pp_outside.specs.Arrivals.{Arrivals}
+use Rattle.pp_outside.specs.Records.{told_of}
+use Rattle.pp_outside.specs.declared.call.Call.{Call}
 use Rattle.pp_outside.specs.declared.memory_link.MemoryLink.{MemoryLink}
 
--- a mark with the bytes of its datagram
-abbrev pub marked : Mark → List ℕ → Record
-marked (Received at sender) bytes = traffic.Received at (address_of sender) bytes
-marked (Quiet at) bytes = traffic.Quiet at
-marked (Sent moment receiver) bytes = traffic.Sent moment (address_of receiver) bytes
-
-abbrev pub record_of : Passed → Record
-record_of passed = marked passed.mark passed.bytes.items
-
--- the records, the newest first
-abbrev pub records_of : MemoryLink → List Record
-records_of link = reverse (map record_of link.passed.items)
+-- the records in order, the oldest first
+abbrev pub in_order : MemoryLink → List Record
+in_order link = told_of link.records
 
 abbrev pub state_of : MemoryLink → LinkState
 state_of link = record {
-  traffic = Some (records_of link);
+  traffic = Some (reverse (in_order link));
   faults = link.faults;
   nexts = link.nexts;
 }
+
+-- what it is still to hand out
+abbrev pub arrivals_of : MemoryLink → Arrivals
+arrivals_of link = link.events
+
+-- the next call of this kind is to be refused
+abbrev pub is_ordered : MemoryLink → Call → Bool
+is_ordered link call = is_link_call call && has_order link.orders call
+
+-- a call found no memory
+abbrev pub is_short : MemoryLink → Bool
+is_short link = link.short
+
+-- The order of this call is used up, and the others stay; each refusal is counted once.
+pub record Spends {T E : Type 0} (old : MemoryLink) (call : Call) (result : Result T E) (new : MemoryLink) : Type 0 where
+  pub spent : is_ordered new call ≡ false
+  pub others : (other : Call) → other ≢ call → is_ordered new other ≡ is_ordered old other
+  pub faults : (state_of new).faults ≡ counted (state_of old).faults result
+
+-- A call is refused on order, and else only where it found no memory.
+pub record MayRunShort {T E : Type 0} (old : MemoryLink) (call : Call) (result : Result T E) (new : MemoryLink) : Type 0 where
+  pub ok : OnOk result (is_short new ≡ is_short old)
+  pub ordered : IsTrue (is_ordered old call) → IsErr result × (is_short new ≡ is_short old)
+  pub cause : IsErr result → IsTrue (is_ordered old call) ⊎ IsTrue (is_short new)
+  pub stays : IsTrue (is_short old) → IsTrue (is_short new)

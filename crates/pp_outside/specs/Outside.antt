@@ -23,6 +23,11 @@ abbrev pub FitsIn : Event → List ℕ → Type 0
 FitsIn (Datagram sender len at) buffer = len ≤ length buffer
 FitsIn (Quiet at) buffer = Unit {0}
 
+-- how many bytes it put into the buffer
+abbrev pub size_of : Event → ℕ
+size_of (Datagram sender len at) = len
+size_of (Quiet at) = 0
+
 pub record DoesBind {E : Type 0} (old : LinkState) (result : Result (Unit {0}) E) (new : LinkState) : Type 0 where
   pub traffic : new.traffic ≡ old.traffic
   pub nexts : new.nexts ≡ old.nexts

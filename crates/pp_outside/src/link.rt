@@ -3,7 +3,7 @@ ghost use Rattle.std.specs.Prelude.{◌≡◌, ◌≤◌, length};
 ghost use Rattle.pp_terms.specs.Traffic.{LinkState};
 ghost use Rattle.pp_terms.specs.Disk.{moment_of};
 
-use crate::Disk;
+use crate::{Disk, Mark};
 
 /// A UDP address: the 4 bytes of an IPv4 address or the 16 of an IPv6 address, in network order, and a port.
 #[derive(Clone, Copy, Debug, PartialEq, Eq)]
@@ -17,6 +17,30 @@ pub enum Address {
 pub enum Event {
     Datagram { from: Address, len: usize, at: u64 },
     Quiet { at: u64 },
+}
+
+impl Event {
+    ghost use Rattle.pp_outside.specs.Outside.{record_of};
+    ghost use Rattle.pp_outside.specs.Arrivals.{at_of, IsEvent};
+    ghost use Rattle.pp_outside.specs.Records.{marked};
+
+    pub(crate) fn at(&self) -> u64
+        ensures { (buffer : _) → result ≡ at_of (record_of self.now buffer) }
+    {
+        match *self {
+            Event::Datagram { at, .. } | Event::Quiet { at } => at,
+        }
+    }
+
+    // Its record but for the bytes.
+    pub(crate) fn mark(&self) -> Mark
+        ensures { (bytes : _) → IsEvent self.now bytes → marked result bytes ≡ record_of self.now bytes }
+    {
+        match *self {
+            Event::Datagram { from, at, .. } => Mark::Received { at, from },
+            Event::Quiet { at } => Mark::Quiet { at },
+        }
+    }
 }
 
 /// A call of a link was refused.

@@ -4,58 +4,9 @@ ghost use Rattle.pp_terms.specs.Disk.{DoesAttach, DoesLen, DoesRead, DoesWrite, 
 ghost use Rattle.pp_terms.specs.Calls.{attached, crash_image};
 
 use crate::log::Log;
+use crate::orders::Orders;
 use crate::{Call, Disk, DiskFault};
 use std::alloc::{AllocError, Global};
-
-// Which calls of a disk are to be refused next.
-#[derive(Clone, Copy)]
-struct Orders {
-    attach: bool,
-    len: bool,
-    read: bool,
-    write: bool,
-    sync: bool,
-}
-
-impl Orders {
-    ghost use Rattle.pp_outside.specs.MemoryDisk.{has_order, with_order};
-
-    fn has(&self, call: Call) -> bool
-        ensures { result ≡ has_order self.now call }
-    {
-        match call {
-            Call::Attach => self.attach,
-            Call::Len => self.len,
-            Call::Read => self.read,
-            Call::Write => self.write,
-            Call::Sync => self.sync,
-            Call::Bind | Call::Next | Call::Send => false,
-        }
-    }
-
-    fn set(&mut self, call: Call, to: bool)
-        ensures { self.new ≡ with_order self.old call to }
-    {
-        match call {
-            Call::Attach => self.attach = to,
-            Call::Len => self.len = to,
-            Call::Read => self.read = to,
-            Call::Write => self.write = to,
-            Call::Sync => self.sync = to,
-            Call::Bind | Call::Next | Call::Send => {}
-        }
-    }
-
-    // Whether the call was ordered to fail, which uses the order up.
-    fn take(&mut self, call: Call) -> bool
-        ensures was { result ≡ has_order self.old call }
-        ensures after { self.new ≡ with_order self.old call false }
-    {
-        let ordered = self.has(call);
-        self.set(call, false);
-        ordered
-    }
-}
 
 /// A disk in memory. It keeps all its calls, so that its history answers for every moment.
 ///
@@ -70,7 +21,8 @@ pub struct MemoryDisk {
 }
 
 impl MemoryDisk {
-    ghost use Rattle.pp_outside.specs.MemoryDisk.{state_of, is_ordered, is_short, is_disk_call};
+    ghost use Rattle.pp_outside.specs.Orders.{is_disk_call};
+    ghost use Rattle.pp_outside.specs.MemoryDisk.{state_of, is_ordered, is_short};
     ghost use Rattle.pp_outside.specs.Faults.{one_more};
 
     /// A disk with this image, all of it settled.
@@ -82,13 +34,7 @@ impl MemoryDisk {
     {
         Ok(MemoryDisk {
             log: Log::new(alloc, image)?,
-            orders: Orders {
-                attach: false,
-                len: false,
-                read: false,
-                write: false,
-                sync: false,
-            },
+            orders: Orders::none(),
             faults: 0,
             hard: 0,
             short: false,
@@ -102,7 +48,9 @@ impl MemoryDisk {
         ensures ordered { is_ordered self.new call ≡ is_disk_call call }
         ensures others { (other : _) → other ≢ call → is_ordered self.new other ≡ is_ordered self.old other }
     {
-        self.orders.set(call, true);
+        if call.is_of_disk() {
+            self.orders.set(call, true);
+        }
     }
 
     /// Crashes: what is left is one of the images that a crash now may leave, by the pick. The pending writes are
@@ -160,7 +108,7 @@ impl MemoryDisk {
 }
 
 impl Disk for MemoryDisk {
-    ghost use Rattle.pp_outside.specs.MemoryDisk.{state_of, is_ordered, is_short, Spends, Counts, RunsShort, after_refused_write};
+    ghost use Rattle.pp_outside.specs.MemoryDisk.{state_of, Attaches, Measures, Reads, Writes, Syncs};
     ghost use Rattle.pp_outside.specs.Whole.{reads_are_image};
 
     ghost state = { state_of };
@@ -169,11 +117,7 @@ impl Disk for MemoryDisk {
 
     fn attach(&mut self, _name: &str) -> Result<(), DiskFault>
         ensures does { DoesAttach (state_of self.old) result (state_of self.new) }
-        ensures attached { (state_of self.new).history ≡ attached (state_of self.old).history (state_of self.old).history }
-        ensures exact { IsErr result ↔ IsTrue (is_ordered self.old Call.Attach) }
-        ensures short { is_short self.new ≡ is_short self.old }
-        ensures spends { Spends self.old Call.Attach self.new }
-        ensures counts { Counts self.old Call.Attach result self.new }
+        ensures exactly { Attaches self.old result self.new }
     {
         self.log.attach();
         if self.orders.take(Call::Attach) {
@@ -185,10 +129,7 @@ impl Disk for MemoryDisk {
 
     fn len(&mut self) -> Result<u64, DiskFault>
         ensures does { DoesLen (state_of self.old) result (state_of self.new) }
-        ensures exact { IsErr result ↔ IsTrue (is_ordered self.old Call.Len) }
-        ensures short { is_short self.new ≡ is_short self.old }
-        ensures spends { Spends self.old Call.Len self.new }
-        ensures counts { Counts self.old Call.Len result self.new }
+        ensures exactly { Measures self.old result self.new }
     {
         if self.orders.take(Call::Len) {
             self.count_fault();
@@ -200,11 +141,7 @@ impl Disk for MemoryDisk {
     fn read_at(&mut self, place: u64, into: &mut [u8]) -> Result<(), DiskFault>
         requires { place + length into.old ≤ 2 ^ 40 }
         ensures does { DoesRead (state_of self.old) place into.new result (state_of self.new) }
-        ensures exact { IsErr result ↔ IsTrue (is_ordered self.old Call.Read) }
-        ensures refused { OnErr result (into.new ≡ into.old) }
-        ensures short { is_short self.new ≡ is_short self.old }
-        ensures spends { Spends self.old Call.Read self.new }
-        ensures counts { Counts self.old Call.Read result self.new }
+        ensures exactly { Reads self.old place into.old result into.new self.new }
     {
         if self.orders.take(Call::Read) {
             self.faults = self.faults.saturating_add(1);
@@ -217,16 +154,7 @@ impl Disk for MemoryDisk {
     fn write_at(&mut self, place: u64, bytes: &[u8]) -> Result<(), DiskFault>
         requires { place + length bytes.now ≤ 2 ^ 40 }
         ensures does { DoesWrite (state_of self.old) place bytes.now result (state_of self.new) }
-        ensures ok { OnOk result (is_short self.new ≡ is_short self.old) }
-        // On order the write is pending and not done.
-        ensures refused { IsTrue (is_ordered self.old Call.Write) → IsErr result
-            × ((((state_of self.new).history ≡ after_refused_write (state_of self.old).history place bytes.now)
-            × (is_short self.new ≡ is_short self.old))
-            ⊎ RunsShort self.old self.new) }
-        ensures cause { IsErr result → IsTrue (is_ordered self.old Call.Write) ⊎ RunsShort self.old self.new }
-        ensures short { IsTrue (is_short self.old) → IsTrue (is_short self.new) }
-        ensures spends { Spends self.old Call.Write self.new }
-        ensures counts { Counts self.old Call.Write result self.new }
+        ensures exactly { Writes self.old place bytes.now result self.new }
     {
         let place = place as usize;
         let refused = self.orders.take(Call::Write);
@@ -247,12 +175,7 @@ impl Disk for MemoryDisk {
 
     fn sync(&mut self) -> Result<(), DiskFault>
         ensures does { DoesSync (state_of self.old) result (state_of self.new) }
-        ensures ok { OnOk result (is_short self.new ≡ is_short self.old) }
-        ensures refused { IsTrue (is_ordered self.old Call.Sync) → IsErr result × (is_short self.new ≡ is_short self.old) }
-        ensures cause { IsErr result → IsTrue (is_ordered self.old Call.Sync) ⊎ RunsShort self.old self.new }
-        ensures short { IsTrue (is_short self.old) → IsTrue (is_short self.new) }
-        ensures spends { Spends self.old Call.Sync self.new }
-        ensures counts { Counts self.old Call.Sync result self.new }
+        ensures exactly { Syncs self.old result self.new }
     {
         if self.orders.take(Call::Sync) {
             self.count_fault();

@@ -1,66 +1,125 @@
 // A link in memory.
-ghost use Rattle.std.specs.Prelude.{◌≡◌, ◌^◌, ◌<◌, ◌≤◌, [], ◌∷◌, Some, length, IsOk, IfOk, OnOk, OnErr};
+ghost use Rattle.std.specs.Prelude.{◌≡◌, ◌≢◌, ◌+◌, ◌-◌, ◌^◌, ◌<◌, ◌≤◌, ◌++◌, ◌↔◌, min, true, false, [], ◌∷◌, Some, length, drop, map, slice_get, IsTrue, IsErr, IfOk, OnOk, OnErr};
 ghost use Rattle.pp_terms.specs.Disk.{moment_of};
 
-use crate::{Address, Disk, Event, Link, LinkFault};
+use crate::events::Events;
+use crate::orders::Orders;
+use crate::records::Records;
+use crate::{Address, Call, Disk, Event, Link, LinkFault, Mark};
 use std::alloc::{AllocError, Global};
 
-/// What a link did, without the bytes: a datagram that came and a wait in which none came, both at a moment of the
-/// link in microseconds, or a datagram that was sent, with the disk's moment then.
-#[derive(Clone, Copy, Debug, PartialEq, Eq)]
-pub enum Mark {
-    Received { at: u64, from: Address },
-    Quiet { at: u64 },
-    Sent { moment: u64, to: Address },
-}
-
-// A mark with the bytes of its datagram.
-#[derive(Drop)]
-struct Passed {
-    mark: Mark,
-    bytes: Vec<u8>,
-}
-
-/// A link in memory. No datagram comes.
+/// A link in memory. It hands out the events that were added, in order, and then answers that none came, at the last
+/// moment that it handed out, or 0.
 #[derive(Drop)]
 pub struct MemoryLink {
-    alloc: Global,
-    passed: Vec<Passed>,
+    events: Events,
+    records: Records,
+    orders: Orders,
     faults: u64,
     nexts: u64,
+    short: bool,
 }
 
 impl MemoryLink {
-    ghost use Rattle.pp_outside.specs.MemoryLink.{state_of, records_of, marked};
+    ghost use Rattle.pp_outside.specs.Outside.{record_of};
+    ghost use Rattle.pp_outside.specs.Orders.{is_link_call};
+    ghost use Rattle.pp_outside.specs.Arrivals.{IsEvent};
+    ghost use Rattle.pp_outside.specs.Records.{marked, bytes_of, sent_of};
+    ghost use Rattle.pp_outside.specs.MemoryLink.{state_of, in_order, arrivals_of, is_ordered, is_short};
     ghost use Rattle.pp_outside.specs.Faults.{one_more, counted};
 
-    /// A link with no records.
+    /// A link with no events and no records.
     pub fn new(alloc: Global) -> Result<MemoryLink, AllocError>
-        ensures { IfOk result (λ link. state_of link ≡ record { traffic = Some []; faults = 0; nexts = 0 }) }
+        ensures state { IfOk result (λ link. state_of link ≡ record { traffic = Some []; faults = 0; nexts = 0 }) }
+        ensures no_events { IfOk result (λ link. arrivals_of link ≡ record { coming = []; last = 0 }) }
+        ensures nothing_ordered { IfOk result (λ link. (call : _) → is_ordered link call ≡ false) }
+        ensures not_short { IfOk result (λ link. is_short link ≡ false) }
     {
         Ok(MemoryLink {
-            alloc,
-            passed: Vec::new(alloc),
+            events: Events::new(alloc),
+            records: Records::new(alloc),
+            orders: Orders::none(),
             faults: 0,
             nexts: 0,
+            short: false,
         })
     }
 
-    // Keeps a record, or counts a fault.
-    fn keep(&mut self, mark: Mark, bytes: &[u8]) -> Result<(), LinkFault>
-        ensures ok { OnOk result (records_of self.new ≡ marked mark bytes.now ∷ records_of self.old) }
-        ensures err { OnErr result (records_of self.new ≡ records_of self.old) }
-        ensures counts { self.new.faults ≡ counted self.old.faults result }
-        ensures later { self.old.faults ≤ self.new.faults }
-        ensures nexts { self.new.nexts ≡ self.old.nexts }
+    /// Adds an event to hand out, the last of all. A datagram's `len` is that of `bytes`, at most 65,536; a quiet wait
+    /// has no bytes. Where there is no memory, nothing is added, and that counts as a fault.
+    pub fn add(&mut self, event: Event, bytes: &[u8]) -> Result<(), AllocError>
+        requires { IsEvent event bytes.now }
+        ensures added { OnOk result (arrivals_of self.new ≡ record (arrivals_of self.old) {
+          coming = (arrivals_of self.old).coming ++ record_of event bytes.now ∷ [];
+        }) }
+        ensures ok { OnOk result (is_short self.new ≡ is_short self.old) }
+        ensures refused { OnErr result ((arrivals_of self.new ≡ arrivals_of self.old) × IsTrue (is_short self.new)) }
+        ensures state { state_of self.new ≡ record (state_of self.old) { faults = counted (state_of self.old).faults result } }
+        ensures orders { (call : _) → is_ordered self.new call ≡ is_ordered self.old call }
     {
-        let Ok(bytes) = bytes.to_vec(self.alloc) else {
-            return Err(self.fault());
-        };
-        if self.passed.push(Passed { mark, bytes }).is_err() {
-            return Err(self.fault());
+        if let Err(none) = self.events.add(event, bytes) {
+            self.run_short();
+            return Err(none);
         }
         Ok(())
+    }
+
+    /// Orders that the next call of this kind fails. A call of another device is not ordered.
+    pub fn fail_next(&mut self, call: Call)
+        ensures state { state_of self.new ≡ state_of self.old }
+        ensures events { arrivals_of self.new ≡ arrivals_of self.old }
+        ensures short { is_short self.new ≡ is_short self.old }
+        ensures ordered { is_ordered self.new call ≡ is_link_call call }
+        ensures others { (other : _) → other ≢ call → is_ordered self.new other ≡ is_ordered self.old other }
+    {
+        if !call.is_of_disk() {
+            self.orders.set(call, true);
+        }
+    }
+
+    /// How many datagrams were sent.
+    pub fn sent(&self) -> usize
+        ensures { result ≡ length (sent_of (in_order self.now)) }
+    {
+        self.records.sent()
+    }
+
+    /// The datagram that was sent as number `n`, from 0.
+    pub fn sent_bytes(&self, n: usize) -> &[u8]
+        requires { n < length (sent_of (in_order self.now)) }
+        ensures { slice_get (sent_of (in_order self.now)) n ≡ Some result.now }
+    {
+        self.records.sent_bytes(n)
+    }
+
+    /// How many records there are.
+    pub fn marks(&self) -> usize
+        ensures { result ≡ length (in_order self.now) }
+    {
+        self.records.count()
+    }
+
+    /// The record of number `n`, from 0, without its bytes.
+    pub fn mark(&self, n: usize) -> Mark
+        requires { n < length (in_order self.now) }
+        ensures { (bytes : _) × (slice_get (in_order self.now) n ≡ Some (marked result bytes)) }
+    {
+        self.records.mark(n)
+    }
+
+    /// The datagram of the record of number `n`, from 0; no bytes where none came.
+    pub fn mark_bytes(&self, n: usize) -> &[u8]
+        requires { n < length (in_order self.now) }
+        ensures { slice_get (map bytes_of (in_order self.now)) n ≡ Some result.now }
+    {
+        self.records.bytes(n)
+    }
+
+    /// Whether a call found no memory for what it was to keep.
+    pub fn short(&self) -> bool
+        ensures { result ≡ is_short self.now }
+    {
+        self.short
     }
 
     fn fault(&mut self) -> LinkFault
@@ -70,63 +129,82 @@ impl MemoryLink {
         self.faults = self.faults.saturating_add(1);
         LinkFault
     }
+
+    fn run_short(&mut self) -> LinkFault
+        ensures counted { self.new ≡ record self.old { faults = one_more self.old.faults; short = true } }
+        ensures fits { self.old.faults < 2 ^ 64 }
+    {
+        self.short = true;
+        self.fault()
+    }
 }
 
 impl Link for MemoryLink {
-    ghost use Rattle.pp_outside.specs.Outside.{DoesBind, DoesNext, DoesSend};
-    ghost use Rattle.pp_outside.specs.MemoryLink.{state_of};
+    ghost use Rattle.pp_outside.specs.Outside.{DoesBind, DoesNext, DoesSend, record_of, size_of};
+    ghost use Rattle.pp_outside.specs.Arrivals.{next_of, after_next};
+    ghost use Rattle.pp_outside.specs.MemoryLink.{state_of, arrivals_of, is_ordered, is_short, Spends, MayRunShort};
     ghost use Rattle.pp_outside.specs.Faults.{counted};
 
     ghost seen = { state_of };
 
     fn bind(&mut self, _listen: &Address) -> Result<(), LinkFault>
         ensures does { DoesBind (state_of self.old) result (state_of self.new) }
-        ensures ok { IsOk result }
-        ensures same { state_of self.new ≡ state_of self.old }
+        ensures exact { IsErr result ↔ IsTrue (is_ordered self.old Call.Bind) }
+        ensures events { arrivals_of self.new ≡ arrivals_of self.old }
+        ensures short { is_short self.new ≡ is_short self.old }
+        ensures spends { Spends self.old Call.Bind result self.new }
     {
+        if self.orders.take(Call::Bind) {
+            return Err(self.fault());
+        }
         Ok(())
     }
 
-    fn next(&mut self, _limit_us: u64, _buffer: &mut [u8]) -> Result<Event, LinkFault>
-        requires { 65536 ≤ length _buffer.old }
-        ensures does { DoesNext (state_of self.old) _buffer.new result (state_of self.new) }
-        ensures quiet { IfOk result (λ event. event ≡ Event.Quiet 0) }
-        ensures buffer { _buffer.new ≡ _buffer.old }
-        ensures counts { (state_of self.new).faults ≡ counted (state_of self.old).faults result }
+    /// A refused call takes no event, and leaves the buffer.
+    fn next(&mut self, _limit_us: u64, buffer: &mut [u8]) -> Result<Event, LinkFault>
+        requires { 65536 ≤ length buffer.old }
+        ensures does { DoesNext (state_of self.old) buffer.new result (state_of self.new) }
+        ensures event { IfOk result (λ event. record_of event buffer.new ≡ next_of (arrivals_of self.old)) }
+        ensures taken { OnOk result (arrivals_of self.new ≡ after_next (arrivals_of self.old)) }
+        ensures others { IfOk result (λ event. drop (size_of event) buffer.new ≡ drop (size_of event) buffer.old) }
+        ensures refused { OnErr result ((arrivals_of self.new ≡ arrivals_of self.old) × (buffer.new ≡ buffer.old)) }
+        ensures cause { MayRunShort self.old Call.Next result self.new }
+        ensures spends { Spends self.old Call.Next result self.new }
     {
         self.nexts = self.nexts.saturating_add(1);
-        self.keep(Mark::Quiet { at: 0 }, &[])?;
-        Ok(Event::Quiet { at: 0 })
+        if self.orders.take(Call::Next) {
+            return Err(self.fault());
+        }
+        let arrival = self.events.front();
+        let mark = arrival.event.mark();
+        if self.records.keep(mark, arrival.bytes).is_err() {
+            return Err(self.run_short());
+        }
+        buffer[..arrival.bytes.len()].copy_from_slice(arrival.bytes);
+        let event = arrival.event;
+        self.events.advance();
+        Ok(event)
     }
 
     fn send<D: Disk>(&mut self, disk: &D, to: &Address, bytes: &[u8]) -> Result<(), LinkFault>
         ensures does { DoesSend (state_of self.old) (moment_of (D.state disk.now).history) to.now bytes.now result (state_of self.new) }
-        ensures counts { (state_of self.new).faults ≡ counted (state_of self.old).faults result }
+        ensures events { arrivals_of self.new ≡ arrivals_of self.old }
+        ensures cause { MayRunShort self.old Call.Send result self.new }
+        ensures spends { Spends self.old Call.Send result self.new }
     {
+        if self.orders.take(Call::Send) {
+            return Err(self.fault());
+        }
         let mark = Mark::Sent {
             moment: disk.moment(),
             to: *to,
         };
-        self.keep(mark, bytes)
+        if self.records.keep(mark, bytes).is_err() {
+            return Err(self.run_short());
+        }
+        Ok(())
     }
 }
 
 #[cfg(test)]
-mod tests {
-    use super::*;
-    use crate::MemoryDisk;
-    use std::test::Fail;
-
-    #[test]
-    fn is_quiet_and_sends(rt: HostRuntime) -> Result<(), Fail> {
-        let alloc = rt.alloc();
-        let mut link = MemoryLink::new(alloc)?;
-        let disk = MemoryDisk::new(alloc, &[])?;
-        let peer = Address::V4([127, 0, 0, 1], 7000);
-        let mut buffer = vec![in alloc; 0; 65536]?;
-        assert_eq!(rt; link.bind(&peer), Ok(()));
-        assert_eq!(rt; link.next(1000, &mut buffer), Ok(Event::Quiet { at: 0 }));
-        assert_eq!(rt; link.send(&disk, &peer, &[1, 2]), Ok(()));
-        Ok(())
-    }
-}
+mod tests;

@@ -3,3 +3,11 @@ pub mod Headers
 pub mod Examples
 pub mod Knowing
 pub mod Heights
+pub mod Placing
+pub mod Binning
+pub mod Spellings
+pub mod Agreeing
+pub mod BinSpans
+pub mod Grammar
+pub mod MessageLaws
+pub mod DatagramLaws

@@ -13,3 +13,15 @@ pub mod Traffic
 pub mod Law
 pub mod Words
 pub mod Example
+pub mod Place
+pub mod Bins
+pub mod Options
+pub mod Mismatch
+pub mod OptionLaw
+pub mod HandshakeExample
+pub mod Messages
+pub mod MessageExample
+pub mod DescriptorRead
+pub mod Range
+pub mod ReadExample
+pub mod RangeExample

@@ -14,7 +14,7 @@ size_digits chunk n size is =
     let range = content_size_range chunk n size is in
     length-decimal-le 10 n (omega arith) (omega (arith, range.1)) (omega (arith, range.1))
 
-method_below : (m : Method) → method_number m < 10
+pub method_below : (m : Method) → method_number m < 10
 method_below Bin32 = omega arith
 method_below Range32 = omega arith
 method_below Bin64 = omega arith

@@ -1,10 +1,33 @@
--- The cells of a book in memory, and the look-up that they are.
-use Rattle.std.specs.Prelude.{ℕ, ◌+◌, ◌-◌, ◌*◌, ◌^◌, Option, None, List, slice_index_or}
+-- What is meant by a book in memory: its cells, and the look-up that they are.
+use Rattle.std.specs.Prelude.{◌≡◌, ℕ, ◌+◌, ◌-◌, ◌*◌, ◌/◌, ◌^◌, Option, Some, None, List, [], slice_index_or}
 use Rattle.pp_terms.specs.Book.{LookUp}
+use Rattle.pp_terms.specs.Descriptor.{Descriptor, height_of}
+
+-- How many chunks the content has, 0 before the book is prepared, and the cells.
+pub record BookState : Type 0 where
+  pub chunks : ℕ
+  pub cells : List (Option (List ℕ))
+
+abbrev pub empty_book : BookState
+empty_book = record { chunks = 0; cells = [] }
 
 -- the cell of node (k, j): its bin number (RFC 7574, section 4.2)
 abbrev pub cell_of : ℕ → ℕ → ℕ
 cell_of k j = 2 ^ k * (2 * j + 1) - 1
 
-abbrev pub entry : List (Option (List ℕ)) → LookUp
-entry cells k j = slice_index_or cells (cell_of k j) None
+abbrev pub in_cells : List (Option (List ℕ)) → LookUp
+in_cells cells k j = slice_index_or cells (cell_of k j) None
+
+abbrev pub entry : BookState → LookUp
+entry book = in_cells book.cells
+
+-- The book has the root and no other node.
+pub record HasRootAlone (d : Descriptor) (book : LookUp) : Type 0 where
+  pub root_is : book (height_of d) 0 ≡ Some d.root
+  pub others : (k j : ℕ) → ((k ≡ height_of d) × (j ≡ 0) → ⊥) → book k j ≡ None
+
+-- The two children of node (k + 1, i) were added, and all else stays.
+pub record IsAdopted (k i : ℕ) (left right : List ℕ) (old new : LookUp) : Type 0 where
+  pub left_is : new k (2 * i) ≡ Some left
+  pub right_is : new k (2 * i + 1) ≡ Some right
+  pub others : (l j : ℕ) → ((l ≡ k) × (j / 2 ≡ i) → ⊥) → new l j ≡ old l j

@@ -1,44 +1,187 @@
 // A book of digests in memory.
-ghost use Rattle.std.specs.Prelude.{◌≡◌, ℕ, []};
-ghost use Rattle.pp_tree.specs.Book.{entry};
+ghost use Rattle.std.specs.Prelude.{◌≡◌, ℕ, ◌+◌, ◌-◌, ◌*◌, ◌<◌, ◌≤◌, ◌++◌, Some, None, replicate, length, OnOk, OnErr, IfOk, IfSome, MatchOption};
+ghost use Rattle.sha2.specs.Sha256.{sha256};
+ghost use Rattle.pp_terms.specs.Book.{IsRooted};
+ghost use Rattle.pp_terms.specs.Descriptor.{Descriptor, chunks_of};
+ghost use Rattle.pp_terms.specs.Image as image;
+ghost use Rattle.pp_tree.specs.Book.{empty_book, cell_of, entry, HasRootAlone, IsAdopted};
 
-use std::alloc::Global;
+use crate::descriptor::Descriptor;
+use crate::digest::Digest;
+use crate::node::Node;
+use std::alloc::{AllocError, Global};
 use std::marker::Model;
 
 /// A finite map from the nodes of a tree to digests. A node's digest stands in the cell of its bin number
 /// (RFC 7574, section 4.2); past the last cell nothing is known.
 #[derive(Drop)]
 pub struct Book {
+    chunks: u32,
     cells: Vec<Option<[u8; 32]>>,
 }
 
 impl Model for Book {
-    ghost use Rattle.std.specs.Prelude.{ℕ, Option, List};
+    ghost use Rattle.pp_tree.specs.Book.{BookState};
 
-    ghost Value = { List (Option (List ℕ)) };
+    ghost Value = { BookState };
 
-    ghost view = { λ b. b.cells.items };
+    ghost view = { λ b. record { chunks = b.chunks; cells = b.cells.items } };
+
+    ghost use Rattle.pp_tree.specs.Cells.{AreOfTree};
+
+    ghost invariant = { λ b. AreOfTree b.cells.items };
 }
 
 impl Book {
     /// A book that knows no node. It takes no memory yet.
     pub fn empty(alloc: Global) -> Book
-        ensures cells { result ≡ [] }
+        ensures cells { result ≡ empty_book }
         ensures absent { (k j : ℕ) → entry result k j ≡ None }
     {
         Book {
+            chunks: 0,
             cells: Vec::new(alloc),
         }
     }
+
+    /// Makes room for all nodes of the tree, in an empty book, and enters the root. Where memory is refused the book
+    /// stays empty.
+    pub fn prepare(&mut self, alloc: Global, descriptor: &Descriptor) -> Result<(), AllocError>
+        requires { self.old ≡ empty_book }
+        ensures alone { OnOk result (HasRootAlone descriptor.now (entry self.new)) }
+        ensures chunks { OnOk result (self.new.chunks ≡ chunks_of descriptor.now) }
+        ensures rooted { OnOk result (IsRooted descriptor.now (entry self.new)) }
+        ensures err { OnErr result (self.new ≡ self.old) }
+    {
+        let root = descriptor.root();
+        let height = descriptor.height();
+        let middle = (1 << height) - 1;
+        let mut cells = absent_cells(alloc, 2 * middle + 1)?;
+        cells[middle] = Some(*root.bytes());
+        self.chunks = descriptor.chunks();
+        self.cells = cells;
+        Ok(())
+    }
+
+    /// The digest of a node, where the book has it.
+    pub fn get(&self, node: Node) -> Option<Digest>
+        ensures get { result ≡ entry self.now node.layer node.offset }
+        ensures len { IfSome result (λ digest. length digest ≡ 32) }
+    {
+        let at = self.cell(node)?;
+        match self.cells[at] {
+            Some(bytes) => Some(Digest::new(bytes)),
+            None => None,
+        }
+    }
+
+    /// Whether the book has all peaks of its content's tree.
+    pub fn has_peaks(&self) -> bool
+        ensures { result ≡ image.has_peaks (entry self.now) self.now.chunks 21 }
+    {
+        self.has_peaks_below(21)
+    }
+
+    // whether it has the peaks of the lowest layers
+    fn has_peaks_below(&self, layers: u8) -> bool
+        requires { layers ≤ 32 }
+        ensures { result ≡ image.has_peaks (entry self.now) self.now.chunks layers }
+    {
+        for layer in 0..layers {
+            let full = self.chunks >> layer;
+            if full % 2 == 1 {
+                let offset = full - 1;
+                if self.get(Node { layer, offset }).is_none() {
+                    return false;
+                }
+            }
+        }
+        true
+    }
+
+    /// Adds the two children of a node whose digest is that of the pair (RFC 7574, section 5.3).
+    pub fn adopt_pair(&mut self, node: Node, left: Digest, right: Digest)
+        requires inner { 0 < node.layer }
+        requires fits { entry self.old node.layer node.offset ≡ Some (sha256 (left ++ right)) }
+        requires left_absent { entry self.old (node.layer - 1) (2 * node.offset) ≡ None }
+        requires right_absent { entry self.old (node.layer - 1) (2 * node.offset + 1) ≡ None }
+        ensures adopted { IsAdopted (node.layer - 1) node.offset left right (entry self.old) (entry self.new) }
+        ensures chunks { self.new.chunks ≡ self.old.chunks }
+        ensures rooted { (d : Descriptor) → IsRooted d (entry self.old) → IsRooted d (entry self.new) }
+    {
+        let at = self.cell(node).unwrap();
+        let step = 1 << (node.layer - 1);
+        self.cells[at - step] = Some(*left.bytes());
+        self.cells[at + step] = Some(*right.bytes());
+    }
+
+    // The number of a node's cell, None past the last.
+    fn cell(&self, node: Node) -> Option<usize>
+        ensures { MatchOption result (length self.now.cells ≤ cell_of node.layer node.offset)
+            (λ at. (at ≡ cell_of node.layer node.offset) × (at < length self.now.cells) × (node.layer ≤ 20)) }
+    {
+        let count = self.cells.len();
+        if node.layer > 20 {
+            return None;
+        }
+        let at = ((2 * (node.offset as usize) + 1) << node.layer) - 1;
+        if at < count { Some(at) } else { None }
+    }
+}
+
+fn absent_cells(alloc: Global, len: usize) -> Result<Vec<Option<[u8; 32]>>, AllocError>
+    ensures { IfOk result (λ cells. cells.items ≡ replicate len None) }
+{
+    let mut cells = Vec::with_capacity(alloc, len)?;
+    for _ in 0..len {
+        cells.push(None)?;
+    }
+    Ok(cells)
 }
 
 #[cfg(test)]
 mod tests {
     use super::*;
+    use crate::descriptor::Method;
+    use crate::digest::leaf;
+    use crate::node::parent;
 
     #[test]
     fn begins_empty(rt: HostRuntime) {
         let book = Book::empty(rt.alloc());
-        assert!(rt; book.cells.is_empty());
+        assert_eq!(rt; book.get(Node::default()), None);
+    }
+
+    // A tree of two chunks.
+    #[test]
+    fn adopts_pairs(rt: HostRuntime) {
+        let (left, right) = (leaf(b"abc"), leaf(b"d"));
+        let root = parent(&left, &right);
+        let mut book = Book::empty(rt.alloc());
+        let Ok(descriptor) = Descriptor::new(root, 1024, 1025, Method::Range32) else {
+            assert!(rt; false);
+            return;
+        };
+        let Ok(()) = book.prepare(rt.alloc(), &descriptor) else {
+            assert!(rt; false);
+            return;
+        };
+        let (layer, offset) = (1, 0);
+        book.adopt_pair(Node { layer, offset }, left, right);
+        for (layer, offset, want) in [
+            (1, 0, Some(root)),
+            (0, 0, Some(left)),
+            (0, 1, Some(right)),
+            (0, 2, None),
+            (2, 0, None),
+            (200, 1, None),
+        ] {
+            assert_eq!(rt;
+                book.get(Node { layer, offset }),
+                want,
+                "at {layer}, {offset}"
+            );
+        }
+        assert!(rt; book.has_peaks());
     }
 }

@@ -1,11 +1,15 @@
 // What names a swarm.
-ghost use Rattle.std.specs.Prelude.{◌≡◌, ◌↔◌, ◌+◌, ◌^◌, ◌<◌, ◌≤◌, length, take, drop, IsOk, IfOk, IsTrue};
+ghost use Rattle.std.specs.Prelude.{◌≡◌, ◌↔◌, ◌+◌, ◌^◌, ◌<◌, ◌≤◌, length, take, drop, IsOk, IfOk, IfErr, IsTrue, MatchOption};
+ghost use Rattle.hex.specs.Hex.{IsBytes};
 ghost use Rattle.pp_terms.specs.Content.{chunk_length, IsChunkSize, IsContentSize};
 ghost use Rattle.pp_terms.specs.Descriptor.{chunks_of, height_of, descriptor_text, IsDescriptor};
 ghost use Rattle.pp_terms.specs.Tree.{IsHeight};
+ghost use Rattle.pp_tree.specs.Faults.{IsFaultOf};
 ghost use Rattle.pp_tree.specs.Method.{method_of};
 
 use crate::digest::Digest;
+use crate::form::read_words;
+use crate::node;
 use crate::text::{put, put_decimal, put_hex};
 use std::marker::Model;
 
@@ -20,6 +24,7 @@ pub enum Method {
 }
 
 impl Method {
+    ghost use Rattle.pp_terms.specs.Descriptor as terms;
     ghost use Rattle.pp_terms.specs.Descriptor.{method_number};
 
     /// Its number on the wire and in a descriptor's text.
@@ -33,6 +38,24 @@ impl Method {
             Method::Range64 => 4,
         }
     }
+
+    // The method of that number.
+    fn of_number(number: u128) -> Option<Method>
+        ensures { MatchOption result ((m : terms.Method) → number ≡ method_number m → ⊥)
+            (λ m. number ≡ method_number (method_of m)) }
+    {
+        if number == 0 {
+            Some(Method::Bin32)
+        } else if number == 2 {
+            Some(Method::Range32)
+        } else if number == 3 {
+            Some(Method::Bin64)
+        } else if number == 4 {
+            Some(Method::Range64)
+        } else {
+            None
+        }
+    }
 }
 
 /// A field of a descriptor that no swarm can have: the size of its chunks, or that of its content.
@@ -40,6 +63,20 @@ impl Method {
 pub enum FieldFault {
     Chunk,
     Size,
+}
+
+/// What is wrong with a text that isn't a descriptor's, and the byte of the text where it shows. The faults are looked
+/// for in this order.
+#[derive(Clone, Copy, PartialEq, Eq, Debug)]
+pub enum DescriptorFault {
+    /// The form: `at` bytes begin some text of the form, and one more don't.
+    Form { at: usize },
+    /// The word that begins there is no chunk size.
+    Chunk { at: usize },
+    /// The word that begins there is no size of a content.
+    Size { at: usize },
+    /// The word that begins there is no method's number.
+    Method { at: usize },
 }
 
 /// What names a swarm: the root hash, the chunk size and the content size in bytes, and the method.
@@ -86,7 +123,7 @@ impl Descriptor {
         if !is_chunk_size(chunk) {
             return Err(FieldFault::Chunk);
         }
-        if size == 0 || size > u64::from(chunk) * MOST_CHUNKS {
+        if !is_content_size(chunk, size) {
             return Err(FieldFault::Size);
         }
         // Its contract tells that the root has 32 bytes.
@@ -97,6 +134,50 @@ impl Descriptor {
             size,
             method,
         })
+    }
+
+    /// Reads the text that `write` writes: `ppspp1:ROOT:CHUNK:SIZE:METHOD` with 64 hexadecimal digits in lower case and
+    /// three decimal numbers without leading zeros, of at most 20 digits.
+    pub fn read(text: &str) -> Result<Descriptor, DescriptorFault>
+        ensures ok { IfOk result (λ d. text.now ≡ descriptor_text d) }
+        ensures valid { IfOk result IsDescriptor }
+        ensures bytes { IfOk result (λ d. IsBytes d.root) }
+        ensures each { (d : Descriptor) → IsDescriptor d → IsBytes d.root → text.now ≡ descriptor_text d → result ≡ Ok d }
+        ensures fault { IfErr result (IsFaultOf text.now) }
+    {
+        Descriptor::read_bytes(text.as_bytes())
+    }
+
+    fn read_bytes(text: &[u8]) -> Result<Descriptor, DescriptorFault>
+        ensures ok { IfOk result (λ d. text.now ≡ descriptor_text d) }
+        ensures valid { IfOk result IsDescriptor }
+        ensures bytes { IfOk result (λ d. IsBytes d.root) }
+        ensures fault { IfErr result (IsFaultOf text.now) }
+    {
+        let words = match read_words(text) {
+            Ok(words) => words,
+            Err(at) => return Err(DescriptorFault::Form { at }),
+        };
+        if words.chunk > MOST_IN_CHUNK || !is_chunk_size(words.chunk as u32) {
+            let at = words.chunk_at;
+            return Err(DescriptorFault::Chunk { at });
+        }
+        if words.size > MOST_IN_CONTENT || !is_content_size(words.chunk as u32, words.size as u64) {
+            let at = words.size_at;
+            return Err(DescriptorFault::Size { at });
+        }
+        match Method::of_number(words.method) {
+            Some(method) => Ok(Descriptor {
+                root: Digest::new(words.root),
+                chunk: words.chunk as u32,
+                size: words.size as u64,
+                method,
+            }),
+            None => {
+                let at = words.method_at;
+                Err(DescriptorFault::Method { at })
+            }
+        }
     }
 
     /// Its text, `ppspp1:ROOT:CHUNK:SIZE:METHOD`, the root in lower-case hexadecimal digits and the others in decimal, at
@@ -167,7 +248,7 @@ impl Descriptor {
         ensures range { result ≤ 20 }
         ensures valid { IsDescriptor self.now }
     {
-        (32 - (self.chunks() - 1).leading_zeros()) as u8
+        node::height(self.chunks())
     }
 
     /// The length of chunk i in bytes, the chunk size but for the last one.
@@ -182,13 +263,23 @@ impl Descriptor {
     }
 }
 
-// How many chunks a content may have.
+// How many chunks a content may have, and the most bytes in a chunk and in a content.
 const MOST_CHUNKS: u64 = 1 << 20;
+
+const MOST_IN_CHUNK: u128 = 1 << 13;
+
+const MOST_IN_CONTENT: u128 = 1 << 33;
 
 fn is_chunk_size(chunk: u32) -> bool
     ensures { IsTrue result ↔ IsChunkSize chunk }
 {
     [256, 512, 1024, 2048, 4096, 8192].contains(&chunk)
+}
+
+fn is_content_size(chunk: u32, size: u64) -> bool
+    ensures { IsTrue result ↔ IsContentSize chunk size }
+{
+    size > 0 && size <= u64::from(chunk) * MOST_CHUNKS
 }
 
 #[cfg(test)]
@@ -207,6 +298,74 @@ mod tests {
                 assert_eq!(rt; text[..len], want[..]);
             }
             Err(_) => assert!(rt; false),
+        }
+    }
+
+    #[test]
+    fn reads_its_text(rt: HostRuntime) {
+        let root = "ba7816bf8f01cfea414140de5dae2223b00361a396177a9cb410ff61f20015ad";
+        for (words, size, method) in [
+            ("1024:3:2", 3, Method::Range32),
+            ("1024:3:0", 3, Method::Bin32),
+            ("1024:1073741824:3", 1 << 30, Method::Bin64),
+            ("1024:1:4", 1, Method::Range64),
+        ] {
+            match format!(in rt.alloc(); "ppspp1:{root}:{words}") {
+                Ok(text) => {
+                    let want = Descriptor::new(leaf(b"abc"), 1024, size, method);
+                    assert_eq!(rt;
+                        Descriptor::read(text.as_str()).ok(),
+                        want.ok(),
+                        "at {words}"
+                    );
+                }
+                Err(_) => assert!(rt; false),
+            }
+        }
+    }
+
+    #[test]
+    fn names_the_fault_of_a_text(rt: HostRuntime) {
+        let root = "ba7816bf8f01cfea414140de5dae2223b00361a396177a9cb410ff61f20015ad";
+        for (words, want) in [
+            ("1000:3:2", DescriptorFault::Chunk { at: 72 }),
+            (
+                "99999999999999999999:0:9",
+                DescriptorFault::Chunk { at: 72 },
+            ),
+            ("256:268435457:2", DescriptorFault::Size { at: 76 }),
+            ("256:0:9", DescriptorFault::Size { at: 76 }),
+            ("256:268435456:1", DescriptorFault::Method { at: 86 }),
+            ("1024:3:20", DescriptorFault::Method { at: 79 }),
+            ("0256:3:2", DescriptorFault::Form { at: 73 }),
+            ("256:00:2", DescriptorFault::Form { at: 77 }),
+            ("256:3:", DescriptorFault::Form { at: 78 }),
+            ("256:3:2 ", DescriptorFault::Form { at: 79 }),
+            (
+                "256:111111111111111111111:2",
+                DescriptorFault::Form { at: 96 },
+            ),
+        ] {
+            match format!(in rt.alloc(); "ppspp1:{root}:{words}") {
+                Ok(text) => assert_eq!(rt;
+                    Descriptor::read(text.as_str()),
+                    Err(want),
+                    "at {words}"
+                ),
+                Err(_) => assert!(rt; false),
+            }
+        }
+        for (text, at) in [
+            ("", 0),
+            ("ppspp2:", 5),
+            ("ppspp1:BA", 7),
+            ("ppspp1:ba78", 11),
+        ] {
+            assert_eq!(rt;
+                Descriptor::read(text),
+                Err(DescriptorFault::Form { at }),
+                "at {text}"
+            );
         }
     }
 

@@ -2,10 +2,19 @@
 #![tactic(auto)]
 
 mod book;
+mod content;
 mod descriptor;
 mod digest;
+mod form;
+mod laws;
+mod node;
+mod set;
 mod text;
 
 pub use book::Book;
-pub use descriptor::{Descriptor, FieldFault, Method};
+pub use content::root_of;
+pub use descriptor::{Descriptor, DescriptorFault, FieldFault, Method};
 pub use digest::{Digest, leaf};
+pub use laws::{examples_of_reading, laws_of_books};
+pub use node::{Node, height, is_full, parent, peaks};
+pub use set::ChunkSet;

@@ -3,13 +3,15 @@ use std::test::Fail;
 
 const PLACES: u64 = 1 << 40;
 
-// Six bytes are settled. Then two writes are pending, the second with a gap before it.
-fn with_two_writes(alloc: Global) -> Result<MemoryDisk, Fail> {
+// Six bytes are settled. Then three writes are pending that overlap; the second is refused.
+fn with_three_writes(alloc: Global) -> Result<MemoryDisk, Fail> {
     let mut disk = MemoryDisk::new(alloc, &[9, 9, 9])?;
     write(&mut disk, 0, &[10, 11, 12, 13, 14, 15]);
     let _ = disk.sync();
-    write(&mut disk, 1, &[1, 2]);
-    write(&mut disk, 7, &[3, 4]);
+    write(&mut disk, 1, &[1, 2, 3]);
+    disk.fail_next(Call::Write);
+    write(&mut disk, 3, &[4, 5, 6, 7]);
+    write(&mut disk, 2, &[8, 9]);
     Ok(disk)
 }
 
@@ -19,16 +21,18 @@ fn write(disk: &mut MemoryDisk, place: u64, bytes: &[u8]) -> bool {
 
 #[test]
 fn crashes_leave_what_the_pick_says(rt: HostRuntime) -> Result<(), Fail> {
-    let left: [(u64, &[u8]); 5] = [
+    let left: [(u64, &[u8]); 6] = [
         (0, &[10, 11, 12, 13, 14, 15]),
-        (1, &[10, 1, 2, 13, 14, 15, 0, 3, 4]),
-        (2, &[10, 0xa5, 0xa5, 13, 14, 15]),
-        (3, &[10, 11, 12, 13, 14, 15, 0, 3, 4]),
-        (4, &[10, 1, 2, 13, 14, 15, 0, 0xa5, 0xa5]),
+        (1, &[10, 1, 8, 9, 5, 6, 7]),
+        (2, &[10, 0xa5, 8, 9, 14, 15]),
+        (3, &[10, 11, 0xa5, 0xa5, 5, 6, 7]),
+        (4, &[10, 1, 2, 0xa5, 0xa5, 0xa5, 0xa5]),
+        (5, &[10, 0xa5, 8, 9, 14, 15]),
     ];
     for (pick, image) in left {
-        let mut disk = with_two_writes(rt.alloc())?;
+        let mut disk = with_three_writes(rt.alloc())?;
         assert_eq!(rt; disk.moment(), 1);
+        assert_eq!(rt; disk.bytes(), [10, 1, 8, 9, 14, 15].as_slice());
         disk.crash(pick);
         assert_eq!(rt; disk.bytes(), image, "by pick {pick}");
         // That image is then the only one.

@@ -1,0 +1,24 @@
+//! Bins: the numbers of the nodes of a tree over chunks (RFC 7574, section 4.2), in 32 and in 64 bits. Nothing here takes
+//! memory.
+#![tactic(auto)]
+
+ghost use Rattle.pp_terms.specs.Bins.{BinsAreNumbers, BinExamples};
+
+mod bin32;
+mod bin64;
+
+pub use bin32::Bin32;
+pub use bin64::Bin64;
+
+#[cfg(test)]
+mod tests;
+
+/// Bins and their numbers.
+pub fn laws_of_bins()
+    ensures { BinsAreNumbers }
+{}
+
+/// Bins that were worked out by hand.
+pub fn worked_bins()
+    ensures { BinExamples }
+{}

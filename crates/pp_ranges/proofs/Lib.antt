@@ -1,0 +1,4 @@
+pub mod Runs
+pub mod NodeSpans
+pub mod Dyadic
+pub mod CoverSteps

@@ -1,0 +1,32 @@
+use Rattle.std.proofs.Common.{not, ◌&&◌, List, ◌∙◌, subst}
+use Rattle.pp_terms.specs.Range.{Span, within, has, IsRunsFrom}
+use Rattle.pp_ranges.proofs.Runs.{removed_edit, settled_ok, settled_runs, settled_full}
+use Rattle.pp_ranges.proofs.list.RangeList.remove.Goals as goal
+
+pub settle-requires : goal.settle-requires
+settle-requires c =
+    (removed_edit c.args.range c.deref.result.now c.self.inside.ranges.items c.deref-2.result.now
+    (c.deref-2.ensures.0 ∙ c.without-ranges.ensures) c.deref.ensures.0 c.first.ensures.order c.self.invariant).0
+
+pub returns-clause-ok : goal.returns-clause-ok
+returns-clause-ok c =
+    let runs = subst (λ (xs : List Span). IsRunsFrom 0 xs) c.self.view_is c.self.invariant in
+    let edit = removed_edit c.args.range c.deref.result.now c.args.self.now c.deref-2.result.now
+    (c.deref-2.ensures.0 ∙ c.without-ranges.ensures) (c.deref.ensures.0 ∙ c.self.view_is) c.first.ensures.order runs in
+    settled_ok c.settle.result c.settle.new.self c.deref-2.result.now (λ i. not (within c.args.range i) && has c.args.self.now i)
+    c.settle.ensures.ok edit.1
+
+pub returns-clause-runs : goal.returns-clause-runs
+returns-clause-runs c =
+    let runs = subst (λ (xs : List Span). IsRunsFrom 0 xs) c.self.view_is c.self.invariant in
+    let edit = removed_edit c.args.range c.deref.result.now c.args.self.now c.deref-2.result.now
+    (c.deref-2.ensures.0 ∙ c.without-ranges.ensures) (c.deref.ensures.0 ∙ c.self.view_is) c.first.ensures.order runs in
+    settled_runs c.settle.result _ c.settle.new.self c.deref-2.result.now c.settle.ensures.ok c.settle.ensures.err edit.0 runs
+
+pub returns-clause-full : goal.returns-clause-full
+returns-clause-full c =
+    let runs = subst (λ (xs : List Span). IsRunsFrom 0 xs) c.self.view_is c.self.invariant in
+    let edit = removed_edit c.args.range c.deref.result.now c.args.self.now c.deref-2.result.now
+    (c.deref-2.ensures.0 ∙ c.without-ranges.ensures) (c.deref.ensures.0 ∙ c.self.view_is) c.first.ensures.order runs in
+    settled_full c.settle.result _ c.settle.new.self c.deref-2.result.now (λ i. not (within c.args.range i) && has c.args.self.now i)
+    c.settle.ensures.ok c.settle.ensures.err edit.0 edit.1

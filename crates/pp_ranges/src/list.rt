@@ -1,0 +1,269 @@
+// Sets of numbers as lists of ranges.
+ghost use Rattle.std.specs.Prelude.{◌≡◌, ◌↔◌, ℕ, ◌+◌, ◌*◌, ◌<◌, ◌≤◌, true, false, not, ◌&&◌, ◌||◌, Some, List, [], ◌∷◌, ◌++◌, length, slice_index_or, OnOk, OnErr, IsErr, MatchOption};
+ghost use Rattle.std.specs.List.{filter};
+ghost use Rattle.pp_terms.specs.Range.{Span, within, has, IsRunsFrom, NeedsMore};
+ghost use Rattle.pp_ranges.specs.Edits.{inserted, removed, pending_count, below, above, is_apart};
+
+use crate::range::ChunkRange;
+use arrayvec::ArrayVec;
+use std::marker::Model;
+
+/// A set that would need more than 64 ranges.
+#[derive(Clone, Copy, PartialEq, Eq, Debug)]
+pub struct Full;
+
+/// A set of chunks in at most 64 ranges, in rising order, of which no two meet or touch.
+#[derive(Drop)]
+pub struct RangeList {
+    ranges: ArrayVec<ChunkRange, 64>,
+}
+
+impl Model for RangeList {
+    ghost use Rattle.std.specs.Prelude.{List};
+    ghost use Rattle.pp_terms.specs.Range.{Span, IsRunsFrom};
+
+    ghost Value = { List Span };
+
+    ghost view = { λ l. l.ranges.items };
+
+    ghost invariant = { λ l. IsRunsFrom 0 l.ranges.items };
+}
+
+impl RangeList {
+    /// The empty set.
+    pub fn new() -> RangeList
+        ensures { result ≡ [] }
+    {
+        RangeList {
+            ranges: ArrayVec::new(),
+        }
+    }
+
+    /// Adds a range, or changes nothing where more than 64 ranges would be needed.
+    pub fn insert(&mut self, range: ChunkRange) -> Result<(), Full>
+        ensures ok { OnOk result ((i : ℕ) → has self.new i ≡ (within range i || has self.old i)) }
+        ensures runs { IsRunsFrom 0 self.new }
+        ensures err { OnErr result (self.new ≡ self.old) }
+        ensures full { IsErr result ↔ NeedsMore 64 (λ i. within range i || has self.old i) }
+    {
+        // Its contract tells that the range is in order.
+        let _ = range.first();
+        let ranges = merged(&self.ranges, range);
+        self.settle(&ranges)
+    }
+
+    /// Takes a range out, or changes nothing where more than 64 ranges would be needed.
+    pub fn remove(&mut self, range: ChunkRange) -> Result<(), Full>
+        ensures ok { OnOk result ((i : ℕ) → has self.new i ≡ (not (within range i) && has self.old i)) }
+        ensures runs { IsRunsFrom 0 self.new }
+        ensures err { OnErr result (self.new ≡ self.old) }
+        ensures full { IsErr result ↔ NeedsMore 64 (λ i. not (within range i) && has self.old i) }
+    {
+        // Its contract tells that the range is in order.
+        let _ = range.first();
+        let ranges = without(&self.ranges, range);
+        self.settle(&ranges)
+    }
+
+    /// Takes out the range, and the whole of each range of the list that meets it.
+    pub fn remove_wide(&mut self, range: ChunkRange)
+        ensures kept { self.new ≡ filter (is_apart range) self.old }
+        ensures runs { IsRunsFrom 0 self.new }
+    {
+        let mut ranges = ArrayVec::new();
+        for next in self.ranges.iter() {
+            if next.last() < range.first() || range.last() < next.first() {
+                ranges.push(*next);
+            }
+        }
+        self.ranges = ranges;
+    }
+
+    pub fn contains(&self, i: u32) -> bool
+        ensures { result ≡ has self.now i }
+    {
+        for range in self.ranges.iter() {
+            if range.first() <= i && i <= range.last() {
+                return true;
+            }
+        }
+        false
+    }
+
+    /// The least number of the set.
+    pub fn first(&self) -> Option<u32>
+        ensures { MatchOption result (self.now ≡ [])
+            (λ first. (has self.now first ≡ true) × ((i : ℕ) → i < first → has self.now i ≡ false)) }
+    {
+        if self.ranges.is_empty() {
+            return None;
+        }
+        Some(self.ranges[0].first())
+    }
+
+    /// How many ranges the list has.
+    pub fn count(&self) -> usize
+        ensures count { result ≡ length self.now }
+        ensures most { result ≤ 64 }
+        ensures runs { IsRunsFrom 0 self.now }
+    {
+        self.ranges.len()
+    }
+
+    /// The range of that number, from 0, in rising order.
+    pub fn range(&self, n: usize) -> ChunkRange
+        requires { n < length self.now }
+        ensures { result ≡ slice_index_or self.now n result }
+    {
+        self.ranges[n]
+    }
+
+    // Takes the ranges for its own, where they are at most 64.
+    fn settle(&mut self, ranges: &[ChunkRange]) -> Result<(), Full>
+        requires { IsRunsFrom 0 ranges.now }
+        ensures ok { OnOk result ((self.new ≡ ranges.now) × (length ranges.now ≤ 64)) }
+        ensures err { OnErr result ((self.new ≡ self.old) × (64 < length ranges.now)) }
+    {
+        if ranges.len() > 64 {
+            return Err(Full);
+        }
+        let mut kept = ArrayVec::new();
+        for range in ranges {
+            kept.push(*range);
+        }
+        self.ranges = kept;
+        Ok(())
+    }
+}
+
+// The ranges with one more.
+fn merged(list: &[ChunkRange], range: ChunkRange) -> ArrayVec<ChunkRange, 65>
+    requires { length list.now ≤ 64 }
+    ensures { result.items ≡ inserted (Some range) list.now }
+{
+    let mut ranges = ArrayVec::new();
+    let mut pending = Some(range);
+    for next in list {
+        pending = place(&mut ranges, pending, *next);
+    }
+    if let Some(last) = pending {
+        ranges.push(last);
+    }
+    ranges
+}
+
+// What is left of the ranges without one.
+fn without(list: &[ChunkRange], range: ChunkRange) -> ArrayVec<ChunkRange, 128>
+    requires { length list.now ≤ 64 }
+    ensures { result.items ≡ removed range list.now }
+{
+    let mut ranges = ArrayVec::new();
+    for next in list {
+        cut(&mut ranges, range, *next);
+    }
+    ranges
+}
+
+// Puts the next range of a list behind those before it, and the pending one before it or joined with it.
+fn place(
+    ranges: &mut ArrayVec<ChunkRange, 65>,
+    pending: Option<ChunkRange>,
+    next: ChunkRange,
+) -> Option<ChunkRange>
+    requires { length ranges.old.items + pending_count pending ≤ 64 }
+    ensures rest { (xs : List Span) → ranges.new.items ++ inserted result xs ≡ ranges.old.items ++ inserted pending (next ∷ xs) }
+    ensures len { length ranges.new.items + pending_count result ≤ length ranges.old.items + pending_count pending + 1 }
+{
+    let Some(range) = pending else {
+        ranges.push(next);
+        return None;
+    };
+    if next.last() < range.first() && next.last() + 1 < range.first() {
+        ranges.push(next);
+        return Some(range);
+    }
+    if range.last() < next.first() && range.last() + 1 < next.first() {
+        ranges.push(range);
+        ranges.push(next);
+        return None;
+    }
+    ChunkRange::new(
+        range.first().min(next.first()),
+        range.last().max(next.last()),
+    )
+}
+
+// Puts what a range leaves of the next behind those before.
+fn cut(ranges: &mut ArrayVec<ChunkRange, 128>, range: ChunkRange, next: ChunkRange)
+    requires { length ranges.old.items ≤ 126 }
+    ensures items { ranges.new.items ≡ ranges.old.items ++ below range next ++ above range next }
+    ensures len { length ranges.new.items ≤ length ranges.old.items + 2 }
+{
+    if next.first() < range.first() {
+        push_range(ranges, next.first(), next.last().min(range.first() - 1));
+    }
+    if range.last() < next.last() {
+        push_range(ranges, next.first().max(range.last() + 1), next.last());
+    }
+}
+
+fn push_range(ranges: &mut ArrayVec<ChunkRange, 128>, first: u32, last: u32)
+    requires room { length ranges.old.items < 128 }
+    requires order { first ≤ last }
+    ensures { ranges.new.items ≡ ranges.old.items ++ record { first = first; last = last } ∷ [] }
+{
+    if let Some(range) = ChunkRange::new(first, last) {
+        ranges.push(range);
+    }
+}
+
+#[cfg(test)]
+mod tests {
+    use super::*;
+
+    // The even numbers from 0 to 126.
+    fn evens() -> RangeList {
+        let mut list = RangeList::new();
+        for i in 0..64u32 {
+            if let Some(range) = ChunkRange::new(2 * i, 2 * i) {
+                let _ = list.insert(range);
+            }
+        }
+        list
+    }
+
+    #[test]
+    fn takes_no_65th_range(rt: HostRuntime) {
+        let mut list = evens();
+        assert_eq!(rt; (list.count(), list.first()), (64, Some(0)));
+        if let Some(range) = ChunkRange::new(128, 128) {
+            assert_eq!(rt; list.insert(range), Err(Full));
+            assert!(rt; list.count() == 64 && !list.contains(128) && list.contains(126));
+        }
+        if let Some(range) = ChunkRange::new(1, 1) {
+            assert_eq!(rt; list.insert(range), Ok(()));
+            assert_eq!(rt; list.count(), 63);
+            assert_eq!(rt; ChunkRange::new(0, 2), Some(list.range(0)));
+        }
+    }
+
+    #[test]
+    fn takes_ranges_out(rt: HostRuntime) {
+        let mut list = RangeList::new();
+        assert_eq!(rt; list.first(), None);
+        if let (Some(whole), Some(middle), Some(end)) = (
+            ChunkRange::new(5, 20),
+            ChunkRange::new(8, 9),
+            ChunkRange::new(20, 30),
+        ) {
+            assert_eq!(rt; list.insert(whole), Ok(()));
+            assert_eq!(rt; list.remove(middle), Ok(()));
+            assert_eq!(rt; list.count(), 2);
+            assert_eq!(rt; Some(list.range(0)), ChunkRange::new(5, 7));
+            assert_eq!(rt; Some(list.range(1)), ChunkRange::new(10, 20));
+            list.remove_wide(end);
+            assert_eq!(rt; list.count(), 1);
+            assert!(rt; list.contains(7) && !list.contains(10));
+        }
+    }
+}

@@ -1,0 +1,119 @@
+// Nodes of a content's tree, and their digests.
+ghost use Rattle.std.specs.Prelude.{◌≡◌, ℕ, ◌++◌, ◌^◌, ◌<◌, ◌≤◌, map};
+ghost use Rattle.sha2.specs.Sha256.{sha256};
+ghost use Rattle.pp_terms.specs.Tree as terms;
+ghost use Rattle.pp_terms.specs.Tree.{IsHeight, peaks_below};
+ghost use Rattle.pp_tree.specs.Node.{node_of};
+
+use crate::digest::Digest;
+use arrayvec::ArrayVec;
+use sha2::{Digest as _, Sha256};
+
+/// A node of a tree: its layer, 0 for the leaves, and its offset from the left in that layer.
+#[derive(Clone, Copy, PartialEq, Eq, Debug, Default)]
+pub struct Node {
+    pub layer: u8,
+    pub offset: u32,
+}
+
+/// The digest of a node by those of its children (RFC 7574, section 5.1).
+pub fn parent(left: &Digest, right: &Digest) -> Digest
+    ensures { result ≡ sha256 (left.now ++ right.now) }
+{
+    let mut hasher = Sha256::new();
+    hasher.update(left.bytes());
+    hasher.update(right.bytes());
+    Digest::new(hasher.finalize())
+}
+
+/// The layer of the root of the smallest tree over that many chunks, from 1 to 2^20.
+pub fn height(chunks: u32) -> u8
+    requires some { 0 < chunks }
+    requires most { chunks ≤ 2 ^ 20 }
+    ensures height { result ≡ terms.height chunks }
+    ensures least { IsHeight chunks result }
+    ensures range { result ≤ 20 }
+{
+    (32 - (chunks - 1).leading_zeros()) as u8
+}
+
+/// The roots of the largest full subtrees over that many chunks, from left to right (RFC 7574, section 5.6.1).
+pub fn peaks(chunks: u32) -> ArrayVec<Node, 21>
+    ensures { map node_of result.items ≡ terms.peaks chunks }
+{
+    peaks_in(21, chunks)
+}
+
+// the peaks of the lowest layers
+fn peaks_in(layers: u8, chunks: u32) -> ArrayVec<Node, 21>
+    requires { layers ≤ 21 }
+    ensures { map node_of result.items ≡ peaks_below layers chunks }
+{
+    let mut peaks = ArrayVec::new();
+    let mut layer = layers;
+    while layer > 0 {
+        layer -= 1;
+        let full = chunks >> layer;
+        if full % 2 == 1 {
+            let offset = full - 1;
+            peaks.push(Node { layer, offset });
+        }
+    }
+    peaks
+}
+
+/// Whether all leaves under the node are chunks.
+pub fn is_full(node: Node, chunks: u32) -> bool
+    ensures { result ≡ terms.is_full chunks (node_of node) }
+{
+    node.layer < 32 && (u64::from(node.offset) + 1) << node.layer <= u64::from(chunks)
+}
+
+#[cfg(test)]
+mod tests {
+    use super::*;
+
+    #[test]
+    fn finds_the_peaks_of_seven_chunks(rt: HostRuntime) {
+        let want = [(2, 0), (1, 2), (0, 6)].map(|(layer, offset)| Node { layer, offset });
+        assert_eq!(rt; peaks(7)[..], want[..]);
+    }
+
+    #[test]
+    fn measures_trees(rt: HostRuntime) {
+        for (chunks, want) in [
+            (1, 0),
+            (2, 1),
+            (3, 2),
+            (4, 2),
+            (5, 3),
+            (7, 3),
+            (1 << 20, 20),
+        ] {
+            assert_eq!(rt; height(chunks), want, "at {chunks}");
+        }
+    }
+
+    #[test]
+    fn tells_full_nodes(rt: HostRuntime) {
+        for (layer, offset, want) in [(1, 2, true), (0, 6, true), (1, 3, false), (2, 1, false)] {
+            assert_eq!(rt;
+                is_full(Node { layer, offset }, 7),
+                want,
+                "at {layer}, {offset}"
+            );
+        }
+    }
+
+    // The digest of the 448 bits of FIPS 180-4's examples isn't one of 64 bytes: this is that of 64 zeros.
+    #[test]
+    fn joins_two_digests(rt: HostRuntime) {
+        let zeros = Digest::new([0; 32]);
+        let want = [
+            0xf5, 0xa5, 0xfd, 0x42, 0xd1, 0x6a, 0x20, 0x30, 0x27, 0x98, 0xef, 0x6e, 0xd3, 0x09,
+            0x97, 0x9b, 0x43, 0x00, 0x3d, 0x23, 0x20, 0xd9, 0xf0, 0xe8, 0xea, 0x98, 0x31, 0xa9,
+            0x27, 0x59, 0xfb, 0x4b,
+        ];
+        assert_eq!(rt; *parent(&zeros, &zeros).bytes(), want);
+    }
+}

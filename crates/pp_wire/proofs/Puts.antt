@@ -1,0 +1,26 @@
+-- Bytes put one after the other.
+use Rattle.std.proofs.Common.{◌≡◌, ℕ, ◌+◌, ◌≤◌, List, [], ◌∷◌, ◌++◌, length, ap, ◌∙◌, append_assoc, arith, length-append}
+use Rattle.pp_terms.specs.Place.{placed}
+use Rattle.pp_terms.proofs.Placing.{placed-twice}
+
+-- more bytes behind those that were put
+pub then_put : (old one two : List ℕ) (at end : ℕ) (a b : List ℕ) → one ≡ placed old at a → end ≡ at + length a
+    → at + length a ≤ length old → two ≡ placed one end b → two ≡ placed old at (a ++ b)
+then_put old one two at end a b one-is end-is fits two-is =
+    two-is ∙ ap (λ (x : List ℕ). placed x end b) one-is ∙ ap (λ (k : ℕ). placed (placed old at a) k b) end-is
+    ∙ placed-twice old at a b fits
+
+regroup : (kind : ℕ) (a b c : List ℕ) → ((kind ∷ a) ++ b) ++ c ≡ kind ∷ (a ++ (b ++ c))
+regroup kind a b c = ap (λ (t : List ℕ). kind ∷ t) (append_assoc a b c)
+
+-- a byte and three fields
+pub four_put : (old o1 o2 o3 o4 : List ℕ) (at e1 e2 e3 kind : ℕ) (a b c : List ℕ)
+    → o1 ≡ placed old at (kind ∷ []) → e1 ≡ at + 1 → o2 ≡ placed o1 e1 a → e2 ≡ e1 + length a → o3 ≡ placed o2 e2 b
+    → e3 ≡ e2 + length b → o4 ≡ placed o3 e3 c → at + (1 + (length a + (length b + length c))) ≤ length old
+    → o4 ≡ placed old at (kind ∷ (a ++ (b ++ c)))
+four_put old o1 o2 o3 o4 at e1 e2 e3 kind a b c h1 n1 h2 n2 h3 n3 h4 fits =
+    let two : o2 ≡ placed old at (kind ∷ a) = then_put old o1 o2 at e1 (kind ∷ []) a h1 n1 (omega arith) h2 in
+    let three : o3 ≡ placed old at ((kind ∷ a) ++ b) = then_put old o2 o3 at e2 (kind ∷ a) b two (omega arith) (omega arith) h3 in
+    let four : o4 ≡ placed old at (((kind ∷ a) ++ b) ++ c) =
+    then_put old o3 o4 at e3 ((kind ∷ a) ++ b) c three (omega (arith, length-append (kind ∷ a) b)) (omega (arith, length-append (kind ∷ a) b)) h4 in
+    four ∙ ap (λ (t : List ℕ). placed old at t) (regroup kind a b c)
