@@ -1,5 +1,5 @@
 // A link in memory.
-ghost use Rattle.std.specs.Prelude.{◌≡◌, ◌≢◌, ◌+◌, ◌-◌, ◌^◌, ◌<◌, ◌≤◌, ◌++◌, ◌↔◌, min, true, false, [], ◌∷◌, Some, length, drop, map, slice_get, IsTrue, IsErr, IfOk, OnOk, OnErr};
+ghost use Rattle.std.specs.Prelude.{◌≡◌, ◌≢◌, ◌+◌, ◌-◌, ◌^◌, ◌<◌, ◌≤◌, ◌++◌, ◌↔◌, min, true, false, [], ◌∷◌, Some, length, drop, map, slice_get, IsTrue, IsOk, IsErr, IfOk, OnOk, OnErr};
 ghost use Rattle.pp_terms.specs.Disk.{moment_of};
 
 use crate::events::Events;
@@ -28,8 +28,9 @@ impl MemoryLink {
     ghost use Rattle.pp_outside.specs.MemoryLink.{state_of, in_order, arrivals_of, is_ordered, is_short};
     ghost use Rattle.pp_outside.specs.Faults.{one_more, counted};
 
-    /// A link with no events and no records.
+    /// A link with no events and no records. It takes no memory yet.
     pub fn new(alloc: Global) -> Result<MemoryLink, AllocError>
+        ensures ok { IsOk result }
         ensures state { IfOk result (λ link. state_of link ≡ record { traffic = Some []; faults = 0; nexts = 0 }) }
         ensures no_events { IfOk result (λ link. arrivals_of link ≡ record { coming = []; last = 0 }) }
         ensures nothing_ordered { IfOk result (λ link. (call : _) → is_ordered link call ≡ false) }
