@@ -6,3 +6,4 @@ pub mod PlainPlaces
 pub mod OneMore
 pub mod Paths
 pub mod Served
+pub mod Plains

@@ -49,7 +49,7 @@ behind_here which test place r before e lt passes = ⊎_elim
     (λ some. found_since which place before some)
     (or_cases (not (ltb place (length before) && test r)) (some_since which place before) e)
 
-only_from : (which test : Record → Bool) (place : ℕ) (after : List Record) (r : Record) (before : List Record) → none_until_first which test place (after ++ r ∷ before) ≡ true
+pub only_from : (which test : Record → Bool) (place : ℕ) (after : List Record) (r : Record) (before : List Record) → none_until_first which test place (after ++ r ∷ before) ≡ true
     → place < length before → test r ≡ true → StandsFrom which place before
 only_from which test place [] r before e lt passes =
     behind_here which test place r before (and_parts (not (ltb place (length before) && test r) || some_since which place before) (none_until_first which test place before) e).0 lt passes

@@ -9,3 +9,4 @@ pub mod Plain
 pub mod Turns
 pub mod Places
 pub mod Laws
+pub mod Flight

@@ -1,0 +1,155 @@
+-- A message put behind a datagram.
+use Rattle.std.proofs.Common.{◌≡◌, ◌⊎◌, inl, inr, ℕ, zero, suc, ltb, false, ◌^◌, ◌+◌, ◌-◌, ◌<◌, ◌≤◌, Option, Some, None, List, [], ◌∷◌, ◌++◌, length, take, drop, get_or, Result, Ok, Err, refl, sym, ◌∙◌, ap, subst, arith}
+use Rattle.std.specs.List.{AllByRecursion}
+use Rattle.std.specs.Int.{w32, w64, to_be_bytes, from_be_bytes}
+use Rattle.std.proofs.lemmas.Bool.{le-ltb}
+use Rattle.std.specs.Prelude.{IfOk}
+use Rattle.std.proofs.lemmas.List.{length-take, length-append, length-drop, take_at, take-append-le, drop_all}
+use Rattle.std.proofs.Math.Seq.{take-length}
+use Rattle.pp_terms.specs.Place.{placed}
+use Rattle.pp_terms.specs.Content.{IsChunkSize}
+use Rattle.pp_terms.specs.Descriptor.{Descriptor, IsDescriptor, Method, Bin32, Range32, Bin64, Range64}
+use Rattle.pp_terms.specs.Options.{IsBytes, spelling_of}
+use Rattle.pp_terms.specs.Messages.{Message, Handshake, Data, Ack, Have, Integrity, Pex4, PexReq, Request, Cancel, Choke, Unchoke, Pex6, Span, only, spell, spell_span, bin_number_of, IsNamed, IsSpelt, IsFull, AtMostFull, Datagram, datagram, with_last, messages_from, messages_at, next_message}
+use Rattle.pp_terms.proofs.DatagramLaws.{grows_by_one}
+use Rattle.pp_terms.proofs.MessageLaws.{wide32, wide64, IsBytes-take}
+use Rattle.pp_tree.proofs.Sizes.{chunk_size_range}
+use Rattle.pp_wire.specs.Put.{NamesChunks, IsPut, IsSpan}
+use Rattle.pp_wire.specs.declared.message.PutFault.{PutFault}
+use Rattle.pp_wire.specs.declared.message.PutFault.TheVariants as faults
+use Rattle.pp_core.specs.Writing.{IsDatagram, IsFront, IsWritten, own_options}
+
+-- the front of a buffer in which a text was placed
+pub placed_front : (old : List ℕ) (at : ℕ) (text : List ℕ) → at + length text ≤ length old → take (at + length text) (placed old at text) ≡ take at old ++ text
+placed_front old at text le =
+    take_at (take at old ++ text) (drop (at + length text) old) (at + length text) (omega (arith, length-append (take at old) text, length-take at old))
+
+all_push : (P : Message → Type 0) (ms : List Message) (m : Message) → AllByRecursion P ms → P m → AllByRecursion P (ms ++ m ∷ [])
+all_push P [] m all h = (h, tt)
+all_push P (x ∷ ms) m all h = (all.0, all_push P ms m all.1 h)
+
+-- what is read of it
+pub written : (d : Descriptor) (old new text : List ℕ) (at end channel : ℕ) (ms : List Message) (m : Message) → 0 < d.chunk → IsFront d old at channel ms
+    → IsSpelt d.method m text → AtMostFull d.chunk m → end ≡ at + length text → end ≤ length old → new ≡ placed old at text → length new ≡ length old
+    → IsWritten d new end channel (ms ++ m ∷ [])
+written d old new text at end channel ms m some front spelt most ends within is same =
+    let front_is : take end new ≡ take at old ++ text = ap (λ (n : ℕ). take n new) ends ∙ ap (take (at + length text)) is ∙ placed_front old at text (omega (arith, ends)) in
+    let no_fault : (datagram d.method d.chunk (take at old)).messages.fault ≡ None = ap (λ (x : Datagram). x.messages.fault) front.read in
+    let are_full : AllByRecursion (IsFull d.chunk) (datagram d.method d.chunk (take at old)).messages.read =
+        subst (λ (x : Datagram). AllByRecursion (IsFull d.chunk) x.messages.read) (sym front.read) front.full in
+    let grown = grows_by_one d.method d.chunk (take at old) m text some front.bytes (omega (arith, length-take at old, front.some, front.within)) no_fault are_full spelt most in
+    record {
+      within = omega (arith, same);
+      read = ap (datagram d.method d.chunk) front_is ∙ grown
+          ∙ ap (λ (x : Datagram). record { channel = x.channel; messages = with_last m x.messages }) front.read;
+    }
+
+pub fronted : (d : Descriptor) (old new text : List ℕ) (at end channel : ℕ) (ms : List Message) (m : Message) → 0 < d.chunk → IsFront d old at channel ms
+    → IsSpelt d.method m text → IsFull d.chunk m → AtMostFull d.chunk m → end ≡ at + length text → end ≤ length old → new ≡ placed old at text → length new ≡ length old → IsBytes new
+    → IsFront d new end channel (ms ++ m ∷ [])
+fronted d old new text at end channel ms m some front spelt full most ends within is same fits =
+    let w = written d old new text at end channel ms m some front spelt most ends within is same in
+    record {
+      some = omega (arith, front.some);
+      within = w.within;
+      bytes = IsBytes-take end new fits;
+      read = w.read;
+      full = all_push (IsFull d.chunk) ms m front.full full;
+    }
+
+pub full_at_most : (chunk : ℕ) (m : Message) → IsFull chunk m → AtMostFull chunk m
+full_at_most chunk (Handshake source options) h = tt
+full_at_most chunk (Data number sent_at bytes) h = omega arith
+full_at_most chunk (Ack span delay) h = tt
+full_at_most chunk (Have span) h = tt
+full_at_most chunk (Integrity span digest) h = tt
+full_at_most chunk (Pex4 address port) h = tt
+full_at_most chunk PexReq h = tt
+full_at_most chunk (Request span) h = tt
+full_at_most chunk (Cancel span) h = tt
+full_at_most chunk Choke h = tt
+full_at_most chunk Unchoke h = tt
+full_at_most chunk (Pex6 address port) h = tt
+
+pub chunk_some : (chunk : ℕ) → IsChunkSize chunk → 0 < chunk
+chunk_some chunk is = omega (arith, chunk_size_range chunk is)
+
+drop_all_at : (xs : List ℕ) → length xs ≡ 4 → drop 4 xs ≡ []
+drop_all_at xs e = drop_all 4 xs (omega arith)
+
+take_all_at : (xs : List ℕ) → length xs ≡ 4 → take 4 xs ≡ xs
+take_all_at xs e = ap (λ (n : ℕ). take n xs) (sym e) ∙ take-length xs
+
+-- where there is room and the chunks have a name, a message is put
+pub is_put : (named : Type 0) (text old new : List ℕ) (at : ℕ) (r : Result ℕ PutFault) → named → at + length text ≤ length old → IsPut named text old at r new
+    → (end : ℕ) × (r ≡ Ok end) × (end ≡ at + length text) × (new ≡ placed old at text)
+is_put named text old new at (Ok end) name room put = (end, refl, put.1, put.3)
+is_put named text old new at (Err faults.NoRoom) name room put = absurd (omega (arith, put.1))
+is_put named text old new at (Err faults.NotABin) name room put = absurd (put.0 name)
+
+number_alone : (d : Descriptor) (front : List ℕ) (channel : ℕ) → channel < 2 ^ 32 → front ≡ to_be_bytes w32 channel → length front ≡ 4 → IsDatagram d front channel []
+unfolding datagram messages_from
+number_alone d front channel low is four =
+    let not_less : ltb (length front) 4 ≡ false = le-ltb (length front) 4 (omega arith) in
+    let none : drop 4 front ≡ [] = drop_all_at front four in
+    let whole : take 4 front ≡ front = take_all_at front four in
+    rw (not_less, none, whole) (ap (λ (n : ℕ). record { channel = Some n; messages = record { read = []; fault = None } }) (ap (from_be_bytes w32) is ∙ wide32.again channel low))
+
+-- a channel number alone
+pub begun : (d : Descriptor) (front old : List ℕ) (channel : ℕ) → channel < 2 ^ 32 → front ≡ to_be_bytes w32 channel → 4 ≤ length old → IsBytes (front ++ drop 4 old)
+    → IsFront d (front ++ drop 4 old) 4 channel []
+begun d front old channel low is some fits =
+    let four : length front ≡ 4 = ap length is ∙ wide32.len channel in
+    let taken : take 4 (front ++ drop 4 old) ≡ front = take_at front (drop 4 old) 4 four in
+    record {
+      some = omega arith;
+      within = omega (arith, length-append front (drop 4 old), four);
+      bytes = IsBytes-take 4 (front ++ drop 4 old) fits;
+      read = ap (datagram d.method d.chunk) taken ∙ number_alone d front channel low is four;
+      full = tt;
+    }
+
+-- ---- how long messages are
+
+length_span : (method : Method) (s : Span) → length (spell_span method s) ≤ 16
+length_span Bin32 s = omega (arith, wide32.len (bin_number_of s))
+length_span Range32 s = omega (arith, length-append (to_be_bytes w32 s.first) (to_be_bytes w32 s.last), wide32.len s.first, wide32.len s.last)
+length_span Bin64 s = omega (arith, wide64.len (bin_number_of s))
+length_span Range64 s = omega (arith, length-append (to_be_bytes w64 s.first) (to_be_bytes w64 s.last), wide64.len s.first, wide64.len s.last)
+
+pub length_have : (method : Method) (s : Span) → length (spell method (Have s)) ≤ 17
+unfolding spell
+length_have method s = omega (arith, length_span method s)
+
+pub length_integrity : (method : Method) (s : Span) (digest : List ℕ) → length digest ≡ 32 → length (spell method (Integrity s digest)) ≤ 49
+unfolding spell
+length_integrity method s digest len = omega (arith, length_span method s, length-append (spell_span method s) digest)
+
+pub length_data : (method : Method) (i sent_at : ℕ) (bytes : List ℕ) → length (spell method (Data i sent_at bytes)) ≤ 25 + length bytes
+unfolding spell
+length_data method i sent_at bytes =
+    omega (arith, length_span method (only i), length-append (spell_span method (only i)) (to_be_bytes w64 sent_at ++ bytes), length-append (to_be_bytes w64 sent_at) bytes, wide64.len sent_at)
+
+pub length_handshake : (d : Descriptor) (local : ℕ) → length d.root ≡ 32 → length (spell d.method (Handshake local (own_options d))) ≡ 60
+unfolding spell spelling_of
+length_handshake d local len = simp length-append (omega (arith, len))
+
+pub handshake_room : (d : Descriptor) (local : ℕ) → IsDescriptor d → length (spell d.method (Handshake local (own_options d))) ≡ 60
+handshake_room d local valid = length_handshake d local valid.root_length
+
+-- every method names the first chunk
+pub first_named : (method : Method) → IsNamed method (only 0)
+first_named Bin32 = (record { layer = 0; offset = 0; begins = refl; ends = refl }, omega arith)
+first_named Range32 = (omega arith, omega arith)
+first_named Bin64 = (record { layer = 0; offset = 0; begins = refl; ends = refl }, omega arith)
+first_named Range64 = (omega arith, omega arith)
+
+pub first_span : (method : Method) → IsSpan method (only 0)
+first_span Bin32 = (omega arith, omega arith)
+first_span Range32 = (omega arith, omega arith)
+first_span Bin64 = omega arith
+first_span Range64 = omega arith
+
+-- it can be sent as it is
+pub front_written : {d : Descriptor} {out : List ℕ} {end channel : ℕ} {ms : List Message} → IsFront d out end channel ms → IsWritten d out end channel ms
+front_written f = record { within = f.within; read = f.read }

@@ -1,0 +1,12 @@
+pub mod Readings
+pub mod Greetings
+pub mod Fronts
+pub mod Following
+pub mod Seats
+pub mod Absorbs
+pub mod Openings
+pub mod Losses
+pub mod Turning
+pub mod Sends
+pub mod Relations
+pub mod Unheld

@@ -1,0 +1,134 @@
+-- A datagram read message by message.
+use Rattle.std.proofs.Common.{◌≡◌, ℕ, zero, suc, ◌+◌, ◌-◌, ◌<◌, ◌≤◌, Bool, true, false, cond, Option, Some, None, List, [], ◌∷◌, ◌++◌, length, take, drop, refl, sym, ◌∙◌, ap, subst, arith, zero-add}
+use Rattle.std.proofs.lemmas.List.{length-take, length-drop}
+use Rattle.std.proofs.lemmas.Bool.{cond-true, cond-false}
+use Rattle.pp_terms.specs.Descriptor.{Method, Descriptor, chunks_of}
+use Rattle.pp_terms.specs.Options.{IsBytes}
+use Rattle.pp_terms.specs.Messages.{Message, WireKind, Step, Read, End, Cut, next_message, moved, Messages, messages_at, with_first}
+use Rattle.pp_terms.proofs.MessageLaws.{IsBytes-drop, read_is_spelt, spelt_some}
+use Rattle.pp_terms.proofs.DatagramLaws.{one_by_one}
+use Rattle.pp_core.specs.Counting.{rise}
+use Rattle.pp_core.specs.Hearing.{is_closing, after_message, counted, hear_rest}
+use Rattle.pp_core.specs.Progress.{hear_at}
+use Rattle.pp_core.specs.declared.counts.Counts.{Counts}
+use Rattle.pp_core.specs.declared.channel.Channel.{Channel}
+use Rattle.pp_core.specs.declared.hearing.Heard.{Heard}
+
+record Size (at : ℕ) (s : Step) (m : Message) (next : ℕ) : Type 0 where
+  size : ℕ
+  is : s ≡ Read m size
+  ends : next ≡ at + size
+
+size_of : (at : ℕ) (s : Step) (m : Message) (next : ℕ) → moved at s ≡ Read m next → Size at s m next
+size_of at (Read n size) m next e = record { size = size; is = cc; ends = cc }
+size_of at End m next e = absurd cc
+size_of at (Cut place kind) m next e = absurd cc
+
+pub moved_end : (at : ℕ) (s : Step) → moved at s ≡ End → s ≡ End
+moved_end at (Read n size) e = absurd cc
+moved_end at End e = refl
+moved_end at (Cut place kind) e = absurd cc
+
+pub record Place (at : ℕ) (s : Step) (kind : WireKind) : Type 0 where
+  pub place : ℕ
+  pub is : s ≡ Cut place kind
+
+pub cut_at : (at : ℕ) (s : Step) (place : ℕ) (kind : WireKind) → moved at s ≡ Cut place kind → Place at s kind
+cut_at at (Read n size) place kind e = absurd cc
+cut_at at End place kind e = absurd cc
+cut_at at (Cut there why) place kind e = record { place = there; is = cc }
+
+abbrev no_bytes : List ℕ
+no_bytes = []
+
+drop_twice : (n m : ℕ) (xs : List ℕ) → drop m (drop n xs) ≡ drop (n + m) xs
+drop_twice zero m xs = rw zero-add refl
+drop_twice (suc n) m [] = drop_none m ∙ sym (drop_none (suc n + m))
+  where
+    drop_none : (k : ℕ) → drop k no_bytes ≡ []
+    drop_none zero = refl
+    drop_none (suc k) = refl
+drop_twice (suc n) m (x ∷ xs) = drop_twice n m xs ∙ sym (ap (λ (k : ℕ). drop k (x ∷ xs)) (let e : suc n + m ≡ suc (n + m) = omega arith in e))
+
+-- A message stands at the place, and others behind it.
+pub record IsRead (method : Method) (chunk at next : ℕ) (bytes : List ℕ) (m : Message) : Type 0 where
+  pub later : at < next
+  pub within : next ≤ length bytes
+  pub rest : messages_at method chunk at (drop at bytes) ≡ with_first m (messages_at method chunk next (drop next bytes))
+
+pub is_read : (method : Method) (chunk at next : ℕ) (bytes : List ℕ) (m : Message) → 0 < chunk → IsBytes bytes → at ≤ length bytes
+    → moved at (next_message method chunk (drop at bytes)) ≡ Read m next → IsRead method chunk at next bytes m
+is_read method chunk at next bytes m some fits le e =
+    let s = size_of at (next_message method chunk (drop at bytes)) m next e in
+    let begun = read_is_spelt method chunk (drop at bytes) m s.size some (IsBytes-drop at bytes fits) s.is in
+    let longer : 0 < length (take s.size (drop at bytes)) = spelt_some method m (take s.size (drop at bytes)) begun.spelt in
+    let inside : s.size ≤ length (drop at bytes) = begun.within in
+    let there : at + s.size ≤ length bytes = omega (arith, inside, length-drop at bytes) in
+    let moves : 0 < s.size = omega (arith, longer, length-take s.size (drop at bytes)) in
+    record {
+      later = omega (arith, s.ends, moves);
+      within = omega (arith, s.ends, there);
+      rest = (one_by_one method chunk at (drop at bytes) some (IsBytes-drop at bytes fits)).0 m s.size s.is
+          ∙ ap (λ (xs : List ℕ). with_first m (messages_at method chunk (at + s.size) xs)) (drop_twice at s.size bytes)
+          ∙ ap (λ (n : ℕ). with_first m (messages_at method chunk n (drop n bytes))) (sym s.ends);
+    }
+
+abbrev Rest : Method → ℕ → ℕ → List ℕ → Messages
+Rest method chunk at bytes = messages_at method chunk at (drop at bytes)
+
+-- the step of a message, of one that closes, of the end and of a fault
+pub hears : (method : Method) (chunk chunks at next : ℕ) (bytes : List ℕ) (m : Message) (c : Channel) (k : Counts) → 0 < chunk → IsBytes bytes → at ≤ length bytes
+    → moved at (next_message method chunk (drop at bytes)) ≡ Read m next → is_closing m ≡ false
+    → hear_rest chunks (messages_at method chunk at (drop at bytes)) c k ≡ hear_rest chunks (messages_at method chunk next (drop next bytes)) (after_message m c) (counted chunks m k)
+hears method chunk chunks at next bytes m c k some fits le e open_still =
+    ap (λ (rest : Messages). hear_rest chunks rest c k) (is_read method chunk at next bytes m some fits le e).rest
+    ∙ cond-false (is_closing m) (record { channel = None; counts = k }) (hear_rest chunks (messages_at method chunk next (drop next bytes)) (after_message m c) (counted chunks m k)) open_still
+
+pub hears_close : (method : Method) (chunk chunks at next : ℕ) (bytes : List ℕ) (m : Message) (c : Channel) (k : Counts) → 0 < chunk → IsBytes bytes → at ≤ length bytes
+    → moved at (next_message method chunk (drop at bytes)) ≡ Read m next → is_closing m ≡ true
+    → hear_rest chunks (messages_at method chunk at (drop at bytes)) c k ≡ record { channel = None; counts = k }
+hears_close method chunk chunks at next bytes m c k some fits le e closing =
+    ap (λ (rest : Messages). hear_rest chunks rest c k) (is_read method chunk at next bytes m some fits le e).rest
+    ∙ cond-true (is_closing m) (record { channel = None; counts = k }) (hear_rest chunks (messages_at method chunk next (drop next bytes)) (after_message m c) (counted chunks m k)) closing
+
+pub hears_end : (method : Method) (chunk chunks at : ℕ) (bytes : List ℕ) (c : Channel) (k : Counts) → 0 < chunk → IsBytes bytes
+    → moved at (next_message method chunk (drop at bytes)) ≡ End
+    → hear_rest chunks (messages_at method chunk at (drop at bytes)) c k ≡ record { channel = Some c; counts = k }
+hears_end method chunk chunks at bytes c k some fits e =
+    ap (λ (rest : Messages). hear_rest chunks rest c k) ((one_by_one method chunk at (drop at bytes) some (IsBytes-drop at bytes fits)).1 (moved_end at (next_message method chunk (drop at bytes)) e))
+
+pub hears_cut : (method : Method) (chunk chunks at place : ℕ) (kind : WireKind) (bytes : List ℕ) (c : Channel) (k : Counts) → 0 < chunk → IsBytes bytes
+    → moved at (next_message method chunk (drop at bytes)) ≡ Cut place kind
+    → hear_rest chunks (messages_at method chunk at (drop at bytes)) c k ≡ hear_rest chunks (record { read = []; fault = Some (place, kind) }) c k
+hears_cut method chunk chunks at place kind bytes c k some fits e =
+    let p = cut_at at (next_message method chunk (drop at bytes)) place kind e in
+    ap (λ (rest : Messages). hear_rest chunks rest c k) ((one_by_one method chunk at (drop at bytes) some (IsBytes-drop at bytes fits)).2 p.place kind p.is)
+
+-- The same in the words of the code.
+pub hears_on : (d : Descriptor) (bytes : List ℕ) (at next : ℕ) (m : Message) (c c' : Channel) (k k' : Counts) (chunks : ℕ) → 0 < d.chunk → IsBytes bytes → at ≤ length bytes
+    → Read m next ≡ moved at (next_message d.method d.chunk (drop at bytes)) → is_closing m ≡ false → chunks ≡ chunks_of d
+    → c' ≡ after_message m c → k' ≡ counted chunks m k
+    → (at < next) × (next ≤ length bytes) × (hear_at d bytes at c k ≡ hear_at d bytes next c' k')
+hears_on d bytes at next m c c' k k' chunks some fits le e open_still few channel_is counts_are =
+    let r = is_read d.method d.chunk at next bytes m some fits le (sym e) in
+    (r.later, r.within,
+    hears d.method d.chunk (chunks_of d) at next bytes m c k some fits le (sym e) open_still
+    ∙ ap (λ (x : Channel). hear_at d bytes next x (counted (chunks_of d) m k)) (sym channel_is)
+    ∙ ap (λ (n : ℕ). hear_at d bytes next c' (counted n m k)) (sym few)
+    ∙ ap (λ (x : Counts). hear_at d bytes next c' x) (sym counts_are))
+
+pub hears_last : (d : Descriptor) (bytes : List ℕ) (at next : ℕ) (m : Message) (c : Channel) (k : Counts) → 0 < d.chunk → IsBytes bytes → at ≤ length bytes
+    → Read m next ≡ moved at (next_message d.method d.chunk (drop at bytes)) → is_closing m ≡ true
+    → record { channel = None; counts = k } ≡ hear_at d bytes at c k
+hears_last d bytes at next m c k some fits le e closing = sym (hears_close d.method d.chunk (chunks_of d) at next bytes m c k some fits le (sym e) closing)
+
+pub hears_none : (d : Descriptor) (bytes : List ℕ) (at : ℕ) (c : Channel) (k : Counts) → 0 < d.chunk → IsBytes bytes
+    → End ≡ moved at (next_message d.method d.chunk (drop at bytes)) → record { channel = Some c; counts = k } ≡ hear_at d bytes at c k
+hears_none d bytes at c k some fits e = sym (hears_end d.method d.chunk (chunks_of d) at bytes c k some fits (sym e))
+
+pub hears_fault : (d : Descriptor) (bytes : List ℕ) (at place : ℕ) (kind : WireKind) (c : Channel) (k k' : Counts) → 0 < d.chunk → IsBytes bytes
+    → Cut place kind ≡ moved at (next_message d.method d.chunk (drop at bytes)) → k' ≡ record k { cut = rise k.cut }
+    → record { channel = Some c; counts = k' } ≡ hear_at d bytes at c k
+hears_fault d bytes at place kind c k k' some fits e counts_are =
+    ap (λ (x : Counts). record { channel = Some c; counts = x }) counts_are
+    ∙ sym (hears_cut d.method d.chunk (chunks_of d) at place kind bytes c k some fits (sym e))

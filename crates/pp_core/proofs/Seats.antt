@@ -1,0 +1,131 @@
+-- The one channel of a peer, and one record more.
+use Rattle.std.proofs.Common.{◌≡◌, ◌⊎◌, inl, inr, ⊎_elim, ℕ, zero, suc, ◌+◌, ◌<◌, ◌≤◌, max, ltb, leb, eqb, Bool, true, false, cond, not, ◌&&◌, ◌||◌, Option, Some, None, List, [], ◌∷◌, ◌++◌, length, take, drop, refl, sym, ◌∙◌, ap, subst, arith}
+use Rattle.std.proofs.lemmas.Bool.{and_parts, and_from, or_cases, or_left, or_right, or_parts, or_from, and_left, and_right, cases_Bool, both_ways, cond-true, cond-false, not-true, not-false, not_from_true, not_from_false, le-leb, lt-leb, le-ltb, lt-ltb, eqb-true, eqb-false, eq-eqb, ne_eqb, false_from_ne_true}
+use Rattle.std.specs.Cmp.Lexicographic.{pointwise, same_text, other_text}
+use Rattle.std.specs.Prelude.{MatchOption, nat_eq}
+use Rattle.pp_terms.specs.Traffic.{Address, V4, V6, Record, Received, Quiet, Sent}
+use Rattle.pp_terms.specs.Descriptor.{Descriptor}
+use Rattle.pp_terms.specs.Messages.{Message, Handshake, Messages}
+use Rattle.pp_traffic.specs.Past.{now, read, same_address, comes_from, goes_to, is_event, is_number, some_since, is_at, EachRecord}
+use Rattle.pp_traffic.specs.Life.{Life, IsLife, greets, answers, comes_on, shakes_on, closes_on, is_closed, fits, begins_fitting}
+use Rattle.pp_traffic.specs.Story.{Line, Heard, Said, Taken, hear, heard_in, told, story}
+use Rattle.pp_traffic.specs.Asking.{choked, asked, is_heard}
+use Rattle.pp_traffic.specs.Flight.{in_flight}
+use Rattle.pp_traffic.specs.Plain.{IsPlainNow}
+use Rattle.pp_traffic.proofs.OneMore.{at_within, closed_no, story_step, story_opening}
+use Rattle.pp_traffic.proofs.Plains.{at_later, NoneDialled, plain_before}
+use Rattle.pp_outside.specs.Outside.{address_of}
+use Rattle.pp_core.specs.Standing.{Follows, SeatStands, HasSeat, NonePlain, DialsNone}
+use Rattle.pp_core.specs.declared.channel.Channel.{Channel}
+
+-- ---- addresses
+
+list_same : (xs : List ℕ) → pointwise nat_eq xs xs ≡ true
+list_same [] = refl
+list_same (x ∷ xs) = and_from (eqb x x) (pointwise nat_eq xs xs) (eq-eqb x x refl) (list_same xs)
+
+pub same_self : (a : Address) → same_address a a ≡ true
+same_self (V4 bytes port) = and_from (pointwise nat_eq bytes bytes) (eqb port port) (list_same bytes) (eq-eqb port port refl)
+same_self (V6 bytes port) = and_from (pointwise nat_eq bytes bytes) (eqb port port) (list_same bytes) (eq-eqb port port refl)
+
+pub same_is : (a b : Address) → same_address a b ≡ true → a ≡ b
+same_is (V4 a p) (V4 b q) e =
+    let parts = and_parts (pointwise nat_eq a b) (eqb p q) e in
+    ap (λ (xs : List ℕ). V4 xs p) (same_text a b (sym parts.0)) ∙ ap (λ (n : ℕ). V4 b n) (eqb-true p q parts.1)
+same_is (V4 a p) (V6 b q) e = absurd cc
+same_is (V6 a p) (V4 b q) e = absurd cc
+same_is (V6 a p) (V6 b q) e =
+    let parts = and_parts (pointwise nat_eq a b) (eqb p q) e in
+    ap (λ (xs : List ℕ). V6 xs p) (same_text a b (sym parts.0)) ∙ ap (λ (n : ℕ). V6 b n) (eqb-true p q parts.1)
+
+-- ---- what stays of a seat
+
+pub seat_began : (d : Descriptor) (whole : Type 0) (c : Channel) (life : Life) (past : List Record) → SeatStands d whole c life past → life.opening < length past
+seat_began d whole c life past s = at_within (greets d life) life.opening past s.opened
+
+-- The channel after a record is to the same peer; it is proven or replied only if it was, or by the record.
+pub record GoesOn (d : Descriptor) (c new : Channel) (life : Life) (r : Record) : Type 0 where
+  pub address : new.address ≡ c.address
+  pub local : new.local ≡ c.local
+  pub remote : new.remote ≡ c.remote
+  pub proven : new.proven ≡ true → (c.proven ≡ true) ⊎ (comes_on d life r ≡ true)
+  pub replied : new.replied ≡ true → (c.replied ≡ true) ⊎ (answers d life r ≡ true)
+  pub open_still : closes_on d life r ≡ false
+
+pub seat_on : (d : Descriptor) (whole after : Type 0) (c new : Channel) (life : Life) (r : Record) (past : List Record) → SeatStands d whole c life past → GoesOn d c new life r
+    → Follows after new (story d life (r ∷ past)) → SeatStands d after new life (r ∷ past)
+seat_on d whole after c new life r past s on f =
+    let lt = seat_began d whole c life past s in
+    record {
+      at = s.at ∙ ap address_of (sym on.address);
+      local = s.local ∙ sym on.local;
+      remote = s.remote ∙ sym on.remote;
+      answered = s.answered;
+      local_some = subst (λ (n : ℕ). 0 < n) (sym on.local) s.local_some;
+      remote_some = subst (λ (n : ℕ). 0 < n) (sym on.remote) s.remote_some;
+      opened = at_later (greets d life) life.opening r past s.opened;
+      open_still = closed_no d life r past on.open_still s.open_still;
+      replied = λ e. ⊎_elim
+          (λ before. or_right (leb life.opening (length past) && answers d life r) (some_since (answers d life) life.opening past) (s.replied before))
+          (λ here. or_left (leb life.opening (length past) && answers d life r) (some_since (answers d life) life.opening past)
+            (and_from (leb life.opening (length past)) (answers d life r) (le-leb life.opening (length past) (omega arith)) here))
+          (on.replied e);
+      heard = λ e. ⊎_elim
+          (λ before. or_right (leb life.opening (length past) && comes_on d life r) (some_since (comes_on d life) life.opening past) (s.heard before))
+          (λ here. or_left (leb life.opening (length past) && comes_on d life r) (some_since (comes_on d life) life.opening past)
+            (and_from (leb life.opening (length past)) (comes_on d life r) (le-leb life.opening (length past) (omega arith)) here))
+          (on.proven e);
+      follows = f;
+    }
+
+-- a seat that stands and was replied to is a life
+pub seat_lives : (d : Descriptor) (whole : Type 0) (c : Channel) (life : Life) (past : List Record) → SeatStands d whole c life past → c.replied ≡ true → IsLife d life past
+seat_lives d whole c life past s replied = record {
+  local_some = subst (λ (n : ℕ). 0 < n) (sym s.local) s.local_some;
+  remote_some = subst (λ (n : ℕ). 0 < n) (sym s.remote) s.remote_some;
+  greeted = at_since (greets d life) life.opening past s.opened;
+  answered = s.replied replied;
+  opened = at_more (greets d life) (λ r. greets d life r || answers d life r) (λ r e. or_left (greets d life r) (answers d life r) e) life.opening past s.opened;
+  open_still = s.open_still;
+}
+  where
+    at_since : (test : Record → Bool) (place : ℕ) (xs : List Record) → is_at test place xs ≡ true → some_since test place xs ≡ true
+    at_since test place [] e = absurd cc
+    at_since test place (r ∷ xs) e = ⊎_elim
+        (λ here. let parts = and_parts (eqb place (length xs)) (test r) here in
+          or_left (leb place (length xs) && test r) (some_since test place xs) (and_from (leb place (length xs)) (test r) (le-leb place (length xs) (omega (arith, eqb-true place (length xs) parts.0))) parts.1))
+        (λ before. or_right (leb place (length xs) && test r) (some_since test place xs) (at_since test place xs before))
+        (or_cases (eqb place (length xs) && test r) (is_at test place xs) e)
+    at_more : (test more : Record → Bool) → ((r : Record) → test r ≡ true → more r ≡ true) → (place : ℕ) (xs : List Record) → is_at test place xs ≡ true → is_at more place xs ≡ true
+    at_more test more grows place [] e = absurd cc
+    at_more test more grows place (r ∷ xs) e = ⊎_elim
+        (λ here. let parts = and_parts (eqb place (length xs)) (test r) here in
+          or_left (eqb place (length xs) && more r) (is_at more place xs) (and_from (eqb place (length xs)) (more r) parts.0 (grows r parts.1)))
+        (λ before. or_right (eqb place (length xs) && more r) (is_at more place xs) (at_more test more grows place xs before))
+        (or_cases (eqb place (length xs) && test r) (is_at test place xs) e)
+
+-- ---- lines that say nothing
+
+pub follow_taken : (whole : Type 0) (c : Channel) (now : ℕ) (s : List Line) → Follows whole c s → Follows whole c (Taken now ∷ s)
+follow_taken whole c now s f = record { asked_for = f.asked_for; kept = f.kept; unchoked = f.unchoked; flies = f.flies; first = f.first }
+
+pub follow_weaker : (whole after : Type 0) (c : Channel) (s : List Line) → (after → whole) → Follows whole c s → Follows after c s
+follow_weaker whole after c s less f = record { asked_for = f.asked_for; kept = λ w e. f.kept (less w) e; unchoked = f.unchoked; flies = f.flies; first = f.first }
+
+-- ---- no dials
+
+pub none_dialled : (d : Descriptor) (past : List Record) → EachRecord (DialsNone d) past → NoneDialled d past
+none_dialled d [] each life place dialled e = absurd cc
+none_dialled d (r ∷ past) each life place dialled e = ⊎_elim
+    (λ here. no_dial r each.0 (and_parts (eqb place (length past)) (answers d life r) here).1)
+    (λ before. none_dialled d past each.1 life place dialled before)
+    (or_cases (eqb place (length past) && answers d life r) (is_at (answers d life) place past) e)
+  where
+    no_dial : (r : Record) → DialsNone d past r → answers d life r ≡ true → ⊥
+    no_dial (Received at sender bytes) none a = cc
+    no_dial (Quiet at) none a = cc
+    no_dial (Sent moment receiver bytes) none a =
+        let outer = and_parts (goes_to life.address (Sent moment receiver bytes) && is_number (cond life.is_dialled 0 life.remote) (read d (Sent moment receiver bytes)).channel) _ a in
+        let inner = and_parts (goes_to life.address (Sent moment receiver bytes)) (is_number (cond life.is_dialled 0 life.remote) (read d (Sent moment receiver bytes)).channel) outer.0 in
+        both_ways (is_number 0 (read d (Sent moment receiver bytes)).channel) none
+          (subst (λ (b : Bool). is_number (cond b 0 life.remote) (read d (Sent moment receiver bytes)).channel ≡ true) dialled inner.1)

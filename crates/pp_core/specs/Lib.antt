@@ -1,0 +1,11 @@
+pub mod Counting
+pub mod Hearing
+pub mod Progress
+pub mod Taking
+pub mod Writing
+pub mod Sending
+pub mod Standing
+pub mod Events
+pub mod Peers
+pub mod Sends
+pub mod Serving

@@ -1,0 +1,122 @@
+-- What a peer knows stands for what its link carried.
+use Rattle.std.specs.Prelude.{◌≡◌, ℕ, ◌+◌, ◌-◌, ◌^◌, ◌<◌, ◌≤◌, nat_lt, min, Bool, true, false, cond, Option, Some, None, MatchOption, List, [], ◌∷◌, length, slice_index_or}
+use Rattle.std.specs.List.{AllByRecursion}
+use Rattle.rand_chacha.specs.ChaCha.{ChaCha}
+use Rattle.pp_terms.specs.Descriptor.{Descriptor, chunks_of}
+use Rattle.pp_terms.specs.Book.{LookUp, IsRooted}
+use Rattle.pp_terms.specs.Traffic.{Record, Received, Quiet, Sent}
+use Rattle.pp_traffic.specs.Past.{now, read, is_number, some_since, is_at, EachRecord}
+use Rattle.pp_traffic.specs.Life.{Life, greets, answers, is_closed}
+use Rattle.pp_traffic.specs.Story.{Line, story}
+use Rattle.pp_traffic.specs.Asking.{choked, asked, is_heard}
+use Rattle.pp_traffic.specs.Flight.{in_flight, fewer_than_two}
+use Rattle.pp_traffic.specs.Serving.{ServesAll}
+use Rattle.pp_traffic.specs.Keeping.{EachAnnounced}
+use Rattle.pp_traffic.specs.Plain.{IsPlainNow}
+use Rattle.pp_outside.specs.Outside.{address_of}
+use Rattle.pp_core.specs.declared.counts.Counts.{Counts}
+use Rattle.pp_core.specs.declared.channel.Channel.{Channel}
+
+-- What contracts see of a peer.
+pub record State : Type 0 where
+  pub descriptor : Descriptor
+  -- of each chunk, whether it is committed
+  pub committed : List Bool
+  -- the greatest moment so far
+  pub now : ℕ
+  pub channel : Option Channel
+  -- the generator of channel numbers
+  pub numbers : ChaCha
+  pub counts : Counts
+  pub is_live : Bool
+
+abbrev pub holds_first : State → Bool
+holds_first s = slice_index_or s.committed 0 false
+
+-- Nothing that was asked for was given up.
+pub record IsWhole (k : Counts) : Type 0 where
+  pub unheld : k.unheld ≡ 0
+  pub damaged : k.damaged ≡ 0
+  pub read_faults : k.read_faults ≡ 0
+  pub send_faults : k.send_faults ≡ 0
+
+-- The channel's list and flight are those of a story. Nothing is on the list that isn't asked for, and all of it is
+-- while nothing was given up.
+pub record Follows (whole : Type 0) (c : Channel) (story : List Line) : Type 0 where
+  pub asked_for : c.asked ≡ true → asked 0 story ≡ true
+  pub kept : whole → asked 0 story ≡ true → c.asked ≡ true
+  pub unchoked : choked story ≡ false
+  pub flies : c.flying ≡ length (in_flight story)
+  pub first : AllByRecursion (λ i. i ≡ 0) (in_flight story)
+
+-- The channel is a life of the traffic, as far as its handshake was sent.
+pub record SeatStands (d : Descriptor) (whole : Type 0) (c : Channel) (life : Life) (past : List Record) : Type 0 where
+  pub at : life.address ≡ address_of c.address
+  pub local : life.local ≡ c.local
+  pub remote : life.remote ≡ c.remote
+  pub answered : life.is_dialled ≡ false
+  pub local_some : 0 < c.local
+  pub remote_some : 0 < c.remote
+  pub opened : is_at (greets d life) life.opening past ≡ true
+  pub open_still : is_closed d life past ≡ false
+  pub replied : c.replied ≡ true → some_since (answers d life) life.opening past ≡ true
+  pub heard : c.proven ≡ true → is_heard d life past ≡ true
+  pub follows : Follows whole c (story d life past)
+
+-- It is, and no other life of the traffic is plain.
+pub record HasSeat (d : Descriptor) (whole : Type 0) (c : Channel) (past : List Record) : Type 0 where
+  pub life : Life
+  pub stands : SeatStands d whole c life past
+  pub only : (other : Life) → IsPlainNow d other past → other ≡ life
+
+abbrev pub NonePlain : Descriptor → List Record → Type 0
+NonePlain d past = (other : Life) → IsPlainNow d other past → ⊥
+
+-- no datagram was sent to channel 0
+abbrev pub DialsNone : Descriptor → List Record → Record → Type 0
+DialsNone d before (Received at sender bytes) = Unit {0}
+DialsNone d before (Quiet at) = Unit {0}
+DialsNone d before (Sent moment receiver bytes) = is_number 0 (read d (Sent moment receiver bytes)).channel ≡ false
+
+-- ---- counts
+
+-- how many datagrams came, how many of them had fewer than four bytes, and how many were sent
+abbrev pub came : List Record → ℕ
+came [] = 0
+came (Received at sender bytes ∷ before) = came before + 1
+came (Quiet at ∷ before) = came before
+came (Sent moment receiver bytes ∷ before) = came before
+
+abbrev pub came_short : List Record → ℕ
+came_short [] = 0
+came_short (Received at sender bytes ∷ before) = cond (nat_lt (length bytes) 4) (came_short before + 1) (came_short before)
+came_short (Quiet at ∷ before) = came_short before
+came_short (Sent moment receiver bytes ∷ before) = came_short before
+
+abbrev pub went : List Record → ℕ
+went [] = 0
+went (Received at sender bytes ∷ before) = went before
+went (Quiet at ∷ before) = went before
+went (Sent moment receiver bytes ∷ before) = went before + 1
+
+-- a number, but at most the greatest of 64 bits
+abbrev pub capped : ℕ → ℕ
+capped n = min n (2 ^ 64 - 1)
+
+pub record IsTied (k : Counts) (past : List Record) : Type 0 where
+  pub datagrams : k.datagrams ≡ capped (came past)
+  pub short : k.short ≡ capped (came_short past)
+  pub sent : k.sent ≡ capped (went past)
+
+-- ---- the whole
+
+-- The peer stands for this traffic, with this book; its announced chunks are kept since that moment of the disk.
+pub record StandsFor (book : LookUp) (since : ℕ) (s : State) (past : List Record) : Type 0 where
+  pub one_chunk : chunks_of s.descriptor ≡ 1
+  pub rooted : IsRooted s.descriptor book
+  pub now_is : s.now ≡ now past
+  pub seat : MatchOption s.channel (NonePlain s.descriptor past) (λ c. HasSeat s.descriptor (IsWhole s.counts) c past)
+  pub dials_none : EachRecord (DialsNone s.descriptor) past
+  pub served : ServesAll s.descriptor book fewer_than_two past
+  pub announced : EachAnnounced s.descriptor (λ moment i. (i ≡ 0) × (holds_first s ≡ true) × (since ≤ moment)) past
+  pub tied : IsTied s.counts past

@@ -1,0 +1,23 @@
+//! The channel to one other peer.
+
+use pp_outside::Address;
+
+/// A channel that the other peer opened (RFC 7574, sections 3.1.1 and 8).
+#[derive(Clone, Copy)]
+pub(crate) struct Channel {
+    /// Where the other peer is.
+    pub(crate) address: Address,
+    /// The number to which it sends, and the one to which it is sent.
+    pub(crate) local: u32,
+    pub(crate) remote: u32,
+    /// A datagram came to the number, which only a peer at that address was told.
+    pub(crate) proven: bool,
+    /// The handshake was sent.
+    pub(crate) replied: bool,
+    /// It is to be sent, for the first time or again.
+    pub(crate) reply_due: bool,
+    /// The chunk is asked for.
+    pub(crate) asked: bool,
+    /// So many times the chunk is on its way, not yet acknowledged.
+    pub(crate) flying: u64,
+}

@@ -1,0 +1,14 @@
+//! One peer of a swarm, turn by turn: what comes is absorbed, and what is due is sent.
+#![tactic(auto)]
+
+mod channel;
+mod counts;
+mod hearing;
+mod peer;
+mod sending;
+mod serving;
+mod taking;
+mod writing;
+
+pub use counts::Counts;
+pub use peer::Peer;

@@ -1,0 +1,219 @@
+//! A peer of one swarm.
+
+ghost use Rattle.std.specs.Prelude.{◌≡◌, ◌≤◌, ◌⊎◌, true, max, IsOk};
+ghost use Rattle.pp_terms.specs.Count.{HasRisen};
+ghost use Rattle.pp_terms.specs.Disk.{moment_of};
+ghost use Rattle.pp_outside.specs.Arrivals.{IsEvent};
+ghost use Rattle.pp_core.specs.Events.{turned, reached, after_event, after_refusal};
+ghost use Rattle.pp_core.specs.Counting.{rise};
+ghost use Rattle.pp_core.specs.Sends.{Sends, Causes, OwesNone, LeavesNone};
+ghost use Rattle.pp_core.specs.Serving.{ReadsAlone};
+ghost use Rattle.pp_core.specs.Standing.{holds_first};
+
+use crate::channel::Channel;
+use crate::counts::{Counts, risen};
+use crate::sending::{owes_reply, send_reply};
+use crate::serving::serve;
+use crate::taking::take_datagram;
+use pp_outside::{Disk, DiskFault, Event, Link};
+use pp_tree::{Book, ChunkSet, Descriptor};
+use rand_chacha::ChaCha20Rng;
+use std::marker::Model;
+
+/// A peer that serves a swarm's store to others.
+#[derive(Drop)]
+pub struct Peer {
+    descriptor: Descriptor,
+    committed: ChunkSet,
+    now: u64,
+    channel: Option<Channel>,
+    numbers: ChaCha20Rng,
+    counts: Counts,
+    live: bool,
+    // room for a chunk, and for a datagram
+    chunk: Vec<u8>,
+    datagram: Vec<u8>,
+}
+
+impl Model for Peer {
+    ghost use Rattle.pp_core.specs.Standing.{State};
+
+    ghost Value = { State };
+
+    ghost use Rattle.pp_core.specs.Peers.{state_of, HasRoom};
+
+    ghost view = { state_of };
+
+    ghost invariant = { HasRoom };
+}
+
+fn turned(counts: Counts) -> Counts
+    ensures { result ≡ turned counts }
+{
+    Counts {
+        turns: risen(counts.turns),
+        ..counts
+    }
+}
+
+fn reached(counts: Counts) -> Counts
+    ensures { result ≡ reached counts }
+{
+    Counts {
+        turns: risen(counts.turns),
+        datagrams: risen(counts.datagrams),
+        ..counts
+    }
+}
+
+fn refused(counts: Counts) -> Counts
+    ensures { result ≡ record counts { turns = rise counts.turns; receive_faults = rise counts.receive_faults } }
+{
+    Counts {
+        turns: risen(counts.turns),
+        receive_faults: risen(counts.receive_faults),
+        ..counts
+    }
+}
+
+impl Peer {
+    /// Takes one event: `bytes` are the datagram, empty for a quiet wait. It needs a live peer. It refuses where the disk refuses
+    /// to write; this peer writes nothing yet.
+    pub fn absorb<D: Disk>(
+        &mut self,
+        event: &Event,
+        bytes: &[u8],
+        _disk: &mut D,
+        _book: &mut Book,
+    ) -> Result<(), DiskFault>
+        requires live { self.old.is_live ≡ true }
+        requires event { IsEvent event.now bytes.now }
+        ensures done { IsOk result }
+        ensures exact { self.new ≡ after_event self.old event.now bytes.now }
+    {
+        match *event {
+            Event::Datagram { from, at, .. } => {
+                let counts = reached(self.counts);
+                let heard = take_datagram(
+                    &self.descriptor,
+                    from,
+                    bytes,
+                    self.channel,
+                    counts,
+                    &mut self.numbers,
+                );
+                self.now = at.max(self.now);
+                self.channel = heard.channel;
+                self.counts = heard.counts;
+            }
+            Event::Quiet { at } => {
+                self.now = at.max(self.now);
+                self.counts = turned(self.counts);
+            }
+        }
+        Ok(())
+    }
+
+    /// Counts a wait that the link refused.
+    pub fn refused(&mut self)
+        ensures exact { self.new ≡ after_refusal self.old }
+    {
+        self.counts = refused(self.counts);
+    }
+
+    /// Sends what is due: the reply to a handshake, and the chunk that was asked for. What the link or the disk refuses is
+    /// counted.
+    pub fn flush<D: Disk, L: Link>(&mut self, disk: &mut D, link: &mut L, _book: &Book)
+        ensures sends { Sends (moment_of (D.state disk.old).history) (L.seen link.old) (L.seen link.new) self.old self.new }
+        ensures causes { Causes self.old.descriptor (holds_first self.old) (D.state disk.old) (D.state disk.new) (L.seen link.old) (L.seen link.new) self.old.counts self.new.counts }
+        ensures replied { OwesNone self.new ⊎ HasRisen (L.seen link.old).faults (L.seen link.new).faults }
+        ensures served { LeavesNone self.new }
+        ensures disk { ReadsAlone (D.state disk.old) (D.state disk.new) }
+    {
+        self.reply(disk, link);
+        self.serve(disk, link);
+    }
+
+    // Sends the reply, where it is due.
+    fn reply<D: Disk, L: Link>(&mut self, disk: &D, link: &mut L)
+        ensures sends { Sends (moment_of (D.state disk.now).history) (L.seen link.old) (L.seen link.new) self.old self.new }
+        ensures causes { Causes self.old.descriptor (holds_first self.old) (D.state disk.now) (D.state disk.now) (L.seen link.old) (L.seen link.new) self.old.counts self.new.counts }
+        ensures replied { OwesNone self.new ⊎ HasRisen (L.seen link.old).faults (L.seen link.new).faults }
+    {
+        let Some(channel) = self.channel else {
+            return;
+        };
+        if !owes_reply(channel) {
+            return;
+        }
+        let held = self.committed.contains(0);
+        let heard = send_reply(
+            &self.descriptor,
+            held,
+            channel,
+            self.counts,
+            &mut self.datagram,
+            disk,
+            link,
+        );
+        self.channel = heard.channel;
+        self.counts = heard.counts;
+    }
+
+    // Serves the request, where there is one.
+    fn serve<D: Disk, L: Link>(&mut self, disk: &mut D, link: &mut L)
+        ensures sends { Sends (moment_of (D.state disk.old).history) (L.seen link.old) (L.seen link.new) self.old self.new }
+        ensures causes { Causes self.old.descriptor (holds_first self.old) (D.state disk.old) (D.state disk.new) (L.seen link.old) (L.seen link.new) self.old.counts self.new.counts }
+        ensures owes { OwesNone self.old → OwesNone self.new }
+        ensures served { LeavesNone self.new }
+        ensures disk { ReadsAlone (D.state disk.old) (D.state disk.new) }
+    {
+        let Some(channel) = self.channel else {
+            return;
+        };
+        let held = self.committed.contains(0);
+        let len = self.descriptor.chunk_len(0) as usize;
+        let heard = serve(
+            &self.descriptor,
+            held,
+            self.now,
+            channel,
+            self.counts,
+            len,
+            &mut self.chunk,
+            &mut self.datagram,
+            disk,
+            link,
+        );
+        self.channel = heard.channel;
+        self.counts = heard.counts;
+    }
+
+    /// Closes the channels. Nothing is sent yet.
+    pub fn close<D: Disk, L: Link>(&mut self, _disk: &D, link: &mut L)
+        ensures link { L.seen link.new ≡ L.seen link.old }
+        ensures same { self.new ≡ self.old }
+    {
+    }
+
+    /// What was counted.
+    pub fn counts(&self) -> &Counts
+        ensures { result.now ≡ self.now.counts }
+    {
+        &self.counts
+    }
+
+    /// The chunks that are committed.
+    pub fn committed(&self) -> &ChunkSet
+        ensures { result.now ≡ self.now.committed }
+    {
+        &self.committed
+    }
+
+    /// Whether the peer goes on: not after an error of `absorb`.
+    pub fn is_live(&self) -> bool
+        ensures { result ≡ self.now.is_live }
+    {
+        self.live
+    }
+}
