@@ -1,6 +1,6 @@
 -- What was sent, put together.
 use Rattle.std.proofs.Common.{◌≡◌, ◌⊎◌, inl, inr, ⊎_elim, ℕ, zero, suc, ◌+◌, ◌-◌, ◌^◌, ◌<◌, ◌≤◌, min, ltb, Bool, true, false, ◌&&◌, Option, Some, None, List, [], ◌∷◌, ◌++◌, length, refl, sym, ◌∙◌, ap, subst, arith, append_assoc}
-use Rattle.std.specs.Prelude.{MatchOption}
+use Rattle.std.specs.Prelude.{MatchOption, slice_index_or}
 use Rattle.std.specs.List.{AllByRecursion}
 use Rattle.pp_terms.specs.Book.{LookUp}
 use Rattle.pp_terms.specs.Count.{HasRisen}
@@ -25,7 +25,7 @@ abbrev pub On : State → Heard → State
 On s h = record s { channel = h.channel; counts = h.counts }
 
 same_core : (s : State) (channel : Option Channel) (k : Counts) → SameCore s (record s { channel = channel; counts = k })
-same_core s channel k = record { descriptor = refl; committed = refl; now = refl; numbers = refl; is_live = refl }
+same_core s channel k = record { descriptor = refl; committed = refl; latest = refl; numbers = refl; is_live = refl }
 
 gains_nothing : (old new : Option (List Record)) → new ≡ old → GainsRecords old [] new
 gains_nothing None new e = e
@@ -39,7 +39,7 @@ sends_nothing moment seen s = record {
   all_sent = tt;
   nexts = refl;
   later = omega arith;
-  core = record { descriptor = refl; committed = refl; now = refl; numbers = refl; is_live = refl };
+  core = record { descriptor = refl; committed = refl; latest = refl; numbers = refl; is_live = refl };
   stands = λ book since past le st. st;
 }
 
@@ -116,7 +116,7 @@ sends_twice moment a b c s t u p q = record {
   core = record {
     descriptor = q.core.descriptor ∙ p.core.descriptor;
     committed = q.core.committed ∙ p.core.committed;
-    now = q.core.now ∙ p.core.now;
+    latest = q.core.latest ∙ p.core.latest;
     numbers = q.core.numbers ∙ p.core.numbers;
     is_live = q.core.is_live ∙ p.core.is_live;
   };
@@ -145,7 +145,7 @@ state_is : (s : State) (c : Channel) → s.channel ≡ Some c → On s (leaves_o
 state_is s c here = ap (λ (o : Option Channel). record s { channel = o; counts = s.counts }) (sym here)
 
 pub sends_served : (disk disk' : DiskState) (seen seen' : LinkState) (s : State) (c : Channel) (h : Heard) → s.channel ≡ Some c
-    → Served s.descriptor (holds_first s) s.now c s.counts disk disk' seen seen' h → Sends (moment_of disk.history) seen seen' s (On s h)
+    → Served s.descriptor (holds_first s) s.latest c s.counts disk disk' seen seen' h → Sends (moment_of disk.history) seen seen' s (On s h)
 sends_served disk disk' seen seen' s c h here (waits idle is same) =
     subst (λ (x : Heard). Sends (moment_of disk.history) seen seen' s (On s x)) (sym is)
     (subst (λ (t : State). Sends (moment_of disk.history) seen seen' s t) (sym (state_is s c here))
@@ -161,7 +161,7 @@ sends_served disk disk' seen seen' s c h here (damaged why is same) =
     (keeps_link (moment_of disk.history) seen seen' s c (is_met c) (is_damaged s.counts) here (left_met c) (lost_damaged s.counts) (record { datagrams = refl; short = refl; sent = refl }) same)
 sends_served disk disk' seen seen' s c h here (delivers digest content chunk may sent) =
     let p = may_parts c may in
-    sends_delivery (moment_of disk.history) seen seen' s c s.now digest content h here p.0 p.1 p.2 p.3 chunk sent
+    sends_delivery (moment_of disk.history) seen seen' s c s.latest digest content h here p.0 p.1 p.2 p.3 chunk sent
 
 -- ---- what is left undone
 
@@ -233,3 +233,11 @@ causes_twice d held disk disk' x y z k l m le le' later p q = record {
   unheld = either_twice k.unheld l.unheld m.unheld (held ≡ false) p.unheld q.unheld;
   others = q.others ∙ ap (λ (n : Counts). record n { sent = m.sent; send_faults = m.send_faults; read_faults = m.read_faults; damaged = m.damaged; unheld = m.unheld }) p.others;
 }
+
+pub flush_causes : (s t u : State) (disk disk' : DiskState) (x y z : LinkState) → SameCore s t → x.faults ≤ y.faults → y.faults ≤ z.faults → disk.faults ≤ disk'.faults
+    → Causes s.descriptor (holds_first s) disk disk x y s.counts t.counts → Causes t.descriptor (holds_first t) disk disk' y z t.counts u.counts
+    → Causes s.descriptor (holds_first s) disk disk' x z s.counts u.counts
+flush_causes s t u disk disk' x y z core le le' later p q =
+    causes_twice s.descriptor (holds_first s) disk disk' x y z s.counts t.counts u.counts le le' later p
+    (subst (λ (d : Descriptor). Causes d (holds_first s) disk disk' y z t.counts u.counts) core.descriptor
+      (subst (λ (xs : List Bool). Causes t.descriptor (slice_index_or xs 0 false) disk disk' y z t.counts u.counts) core.committed q))

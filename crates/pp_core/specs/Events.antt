@@ -17,8 +17,8 @@ reached k = record k { turns = rise k.turns; datagrams = rise k.datagrams }
 abbrev pub after_event : State → Event → List ℕ → State
 after_event s (Datagram sender len at) bytes =
     let t = take_datagram s.descriptor sender bytes s.channel (reached s.counts) s.numbers in
-    record s { now = max at s.now; channel = t.heard.channel; counts = t.heard.counts; numbers = t.numbers }
-after_event s (Quiet at) bytes = record s { now = max at s.now; counts = turned s.counts }
+    record s { latest = max at s.latest; channel = t.heard.channel; counts = t.heard.counts; numbers = t.numbers }
+after_event s (Quiet at) bytes = record s { latest = max at s.latest; counts = turned s.counts }
 
 -- a wait that was refused
 abbrev pub after_refusal : State → State

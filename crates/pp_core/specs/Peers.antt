@@ -8,7 +8,7 @@ abbrev pub state_of : Inside → State
 state_of p = record {
   descriptor = p.descriptor;
   committed = p.committed;
-  now = p.now;
+  latest = p.latest;
   channel = p.channel;
   numbers = p.numbers;
   counts = p.counts;

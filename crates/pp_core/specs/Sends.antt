@@ -17,7 +17,7 @@ use Rattle.pp_core.specs.declared.channel.Channel.{Channel}
 pub record SameCore (s new : State) : Type 0 where
   pub descriptor : new.descriptor ≡ s.descriptor
   pub committed : new.committed ≡ s.committed
-  pub now : new.now ≡ s.now
+  pub latest : new.latest ≡ s.latest
   pub numbers : new.numbers ≡ s.numbers
   pub is_live : new.is_live ≡ s.is_live
 

@@ -23,7 +23,7 @@ pub record State : Type 0 where
   -- of each chunk, whether it is committed
   pub committed : List Bool
   -- the greatest moment so far
-  pub now : ℕ
+  pub latest : ℕ
   pub channel : Option Channel
   -- the generator of channel numbers
   pub numbers : ChaCha
@@ -114,7 +114,7 @@ pub record IsTied (k : Counts) (past : List Record) : Type 0 where
 pub record StandsFor (book : LookUp) (since : ℕ) (s : State) (past : List Record) : Type 0 where
   pub one_chunk : chunks_of s.descriptor ≡ 1
   pub rooted : IsRooted s.descriptor book
-  pub now_is : s.now ≡ now past
+  pub now_is : s.latest ≡ now past
   pub seat : MatchOption s.channel (NonePlain s.descriptor past) (λ c. HasSeat s.descriptor (IsWhole s.counts) c past)
   pub dials_none : EachRecord (DialsNone s.descriptor) past
   pub served : ServesAll s.descriptor book fewer_than_two past

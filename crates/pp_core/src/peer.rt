@@ -25,7 +25,7 @@ use std::marker::Model;
 pub struct Peer {
     descriptor: Descriptor,
     committed: ChunkSet,
-    now: u64,
+    latest: u64,
     channel: Option<Channel>,
     numbers: ChaCha20Rng,
     counts: Counts,
@@ -102,12 +102,12 @@ impl Peer {
                     counts,
                     &mut self.numbers,
                 );
-                self.now = at.max(self.now);
+                self.latest = at.max(self.latest);
                 self.channel = heard.channel;
                 self.counts = heard.counts;
             }
             Event::Quiet { at } => {
-                self.now = at.max(self.now);
+                self.latest = at.max(self.latest);
                 self.counts = turned(self.counts);
             }
         }
@@ -176,7 +176,7 @@ impl Peer {
         let heard = serve(
             &self.descriptor,
             held,
-            self.now,
+            self.latest,
             channel,
             self.counts,
             len,

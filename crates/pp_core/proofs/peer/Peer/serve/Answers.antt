@@ -1,22 +1,23 @@
-use Rattle.std.proofs.Common.{rules, ◌≡◌, ◌≤◌, ◌⊎◌, true, max, IsOk, ℕ, ◌+◌, ◌-◌, ◌*◌, ◌<◌, length, ◌/◌, ◌%◌, Bool, false, nat_eq, nat_lt, List, [], ◌∷◌, ◌++◌, slice_index_or, slice_set, bit_and, bit_or, Fits, w8, w32, w64, Bor, MutBor}
-use Rattle.pp_terms.specs.Count.{HasRisen}
+use Rattle.std.proofs.Common.{◌≤◌, subst, arith}
 use Rattle.pp_terms.specs.Disk.{moment_of}
-use Rattle.pp_outside.specs.Arrivals.{IsEvent}
-use Rattle.pp_core.specs.Events.{turned, reached, after_event, after_refusal}
-use Rattle.pp_core.specs.Counting.{rise}
-use Rattle.pp_core.specs.Sends.{Sends, Causes, OwesNone, LeavesNone}
-use Rattle.pp_core.specs.Serving.{ReadsAlone}
-use Rattle.pp_core.specs.Standing.{holds_first}
+use Rattle.pp_tree.proofs.Sizes.{chunk_size_range}
+use Rattle.pp_core.specs.Sends.{Sends, Causes}
+use Rattle.pp_core.specs.Standing.{State, holds_first}
+use Rattle.pp_core.specs.Peers.{state_of}
+use Rattle.pp_core.proofs.Relations.{On, sends_served, causes_served}
 use Rattle.pp_core.proofs.peer.Peer.serve.Goals as goal
 
--- src/peer.rt:176:13
 pub serve-heard-requires-clause-few : goal.serve-heard-requires-clause-few
-serve-heard-requires-clause-few g c = ?
+serve-heard-requires-clause-few g c = (chunk_size_range c.self.inside.descriptor.chunk c.chunk_len-len.ensures.valid.chunk_size).1
 
--- src/peer.rt:164:5
 pub returns-clause-sends : goal.returns-clause-sends
-returns-clause-sends g c = ?
+returns-clause-sends g c =
+    subst (λ (s : State). Sends (moment_of (g.D.Disk.state c.args.disk.now).history) (g.L.Link.seen c.args.link.now) (g.L.Link.seen c.serve-heard.new.link) s (On (state_of c.self.inside) c.serve-heard.result)) c.self.view_is
+    (sends_served (g.D.Disk.state c.args.disk.now) (g.D.Disk.state c.serve-heard.new.disk) (g.L.Link.seen c.args.link.now) (g.L.Link.seen c.serve-heard.new.link) (state_of c.self.inside) c.in-Some.channel c.serve-heard.result c.in-Some.is
+      (rw c.contains-held.ensures at c.serve-heard.ensures.served))
 
--- src/peer.rt:164:5
 pub returns-clause-causes : goal.returns-clause-causes
-returns-clause-causes g c = ?
+returns-clause-causes g c =
+    subst (λ (s : State). Causes s.descriptor (holds_first s) (g.D.Disk.state c.args.disk.now) (g.D.Disk.state c.serve-heard.new.disk) (g.L.Link.seen c.args.link.now) (g.L.Link.seen c.serve-heard.new.link) s.counts c.serve-heard.result.counts) c.self.view_is
+    (causes_served c.self.inside.descriptor (holds_first (state_of c.self.inside)) c.self.inside.latest c.in-Some.channel c.self.inside.counts (g.D.Disk.state c.args.disk.now) (g.D.Disk.state c.serve-heard.new.disk)
+      (g.L.Link.seen c.args.link.now) (g.L.Link.seen c.serve-heard.new.link) c.serve-heard.result (rw c.contains-held.ensures at c.serve-heard.ensures.served))
