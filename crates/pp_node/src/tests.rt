@@ -1,5 +1,7 @@
 use crate::run;
-use pp_outside::{Call, MemoryDisk, MemoryLink, MemorySink, MemorySource, Source};
+use pp_outside::{
+    Call, MemoryDisk, MemoryLink, MemorySink, MemorySource, NullDisk, Source, ZeroSource,
+};
 use pp_tree::Book;
 use std::alloc::{AllocError, Global};
 use std::test::Fail;
@@ -12,6 +14,14 @@ struct Ran {
     sink: MemorySink,
 }
 
+fn words_of(alloc: Global, line: &[&str]) -> Result<Vec<String>, AllocError> {
+    let mut words = Vec::new(alloc);
+    for word in line {
+        words.push(String::from_str(alloc, word)?)?;
+    }
+    Ok(words)
+}
+
 fn import_over(
     alloc: Global,
     line: &[&str],
@@ -19,10 +29,7 @@ fn import_over(
     mut sink: MemorySink,
     source: &mut MemorySource<'_>,
 ) -> Result<Ran, AllocError> {
-    let mut words = Vec::new(alloc);
-    for word in line {
-        words.push(String::from_str(alloc, word)?)?;
-    }
+    let words = words_of(alloc, line)?;
     let mut link = MemoryLink::new(alloc)?;
     let mut book = Book::empty(alloc);
     let status = run(
@@ -68,12 +75,31 @@ fn says_why_a_content_is_none(rt: HostRuntime) -> Result<(), Fail> {
     let ran = import_of(alloc, &[], MemoryDisk::new(alloc, &[])?)?;
     assert_eq!(rt; ran.status, 9);
     assert_eq!(rt; ran.sink.bytes(), b"content size: 0 bytes\n".as_slice());
-
-    let long = vec![in alloc; 7; 2000]?;
-    let ran = import_of(alloc, &long, MemoryDisk::new(alloc, &[])?)?;
-    assert_eq!(rt; ran.status, 9);
-    assert_eq!(rt; ran.sink.bytes(), b"content size: 1025 bytes\n".as_slice());
     assert_eq!(rt; ran.disk.bytes().len(), 0);
+    Ok(())
+}
+
+// 2^20 chunks of 256 bytes are a content, and a byte more is none.
+#[test]
+fn measures_the_greatest_content(rt: HostRuntime) -> Result<(), Fail> {
+    let alloc = rt.alloc();
+    for (size, status) in [(268_435_456, 0), (268_435_457, 9)] {
+        let mut sink = MemorySink::new(alloc);
+        let answer = run(
+            alloc,
+            &words_of(alloc, &["import", "s", "256"])?,
+            [0; 32],
+            &mut NullDisk::new(),
+            &mut MemoryLink::new(alloc)?,
+            &mut ZeroSource::new(size),
+            &mut sink,
+            &mut Book::empty(alloc),
+        );
+        assert_eq!(rt; answer, status);
+        if status == 9 {
+            assert_eq!(rt; sink.bytes(), b"content size: 268435457 bytes\n".as_slice());
+        }
+    }
     Ok(())
 }
 

@@ -103,9 +103,9 @@ module _ (chunk : ℕ) (content : List ℕ) (count : ℕ) (fits : IsContent chun
             (λ from. let e : l ≡ k = omega arith in
             ⊎_elim
             (λ old. piece_kept chunk content fits reads _ _ _ _ (a_pair l j is.0 is.1) here (before.high l j (omega arith) (
-              let up : above (suc k) count ≡ offset / 2 = ap (λ (o : ℕ). o / 2) (sym at.at) in
-              let up' : above (suc l) count ≡ above (suc k) count = ap (λ (m : ℕ). above (suc m) count) e in
-              omega arith
+            let up : above (suc k) count ≡ offset / 2 = ap (λ (o : ℕ). o / 2) (sym at.at) in
+            let up' : above (suc l) count ≡ above (suc k) count = ap (λ (m : ℕ). above (suc m) count) e in
+            omega arith
             )))
             (λ last.
             let up : above (suc k) (count + 1) ≡ (offset + 1) / 2 = ap (λ (o : ℕ). o / 2) at.next in

@@ -174,8 +174,7 @@ module _ (chunk : ℕ) (content : List ℕ) (fits : IsContent chunk content) whe
       let at : j < count / 2 ^ suc k = subst (λ (x : ℕ). j < x) (above_is (suc k) count) lt in
       let up : suc j * 2 ^ suc k ≤ count = grind arith in
       let one : 2 ^ suc k ≤ n = grind arith in
-      let tall = height_is n count_range.0 count_range.1 in
-      (
+      let tall = height_is n count_range.0 count_range.1 in (
         ⊎_elim (λ below. below) (λ above'. absurd (let mono : 2 ^ height n ≤ 2 ^ k = pow_mono above' in omega (arith, tall.covers, doubled k, pow_pos k))) (cases_lt k (height n)),
         omega arith,
       )

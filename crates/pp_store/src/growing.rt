@@ -91,12 +91,7 @@ impl GrowingTree {
     }
 
     // Stores the pairs that the chunk fills which was stored behind those that are counted.
-    fn carry<D: Disk>(
-        &mut self,
-        chunk: u32,
-        digest: &Digest,
-        disk: &mut D,
-    ) -> Result<(), DiskFault>
+    fn carry<D: Disk>(&mut self, chunk: u32, digest: &Digest, disk: &mut D) -> Result<(), DiskFault>
         requires size { chunk ≤ 8192 }
         requires room { self.old.count < 2 ^ 20 }
         ensures does { DoesBehind (D.state disk.old) result (D.state disk.new) }
