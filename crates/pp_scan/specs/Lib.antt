@@ -1,4 +1,4 @@
 pub mod Look
 pub mod Header
 pub mod Layers
-pub mod Scan
+pub mod Holding

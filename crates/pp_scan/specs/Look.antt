@@ -1,15 +1,19 @@
--- Calls that only read a disk, and one that syncs it before.
+-- Calls that only read a disk, and a sync before them.
 use Rattle.std.specs.Prelude.{◌≡◌, ◌⊎◌, ℕ, ◌≤◌, Result}
 use Rattle.pp_terms.specs.Count.{HasCause}
 use Rattle.pp_terms.specs.Disk.{DiskState, History, IsKnown, moment_of, settled}
 
--- Nothing changes but the count of faults, which has its cause.
-pub record OnlyReads {T E : Type 0} (old : DiskState) (result : Result T E) (new : DiskState) : Type 0 where
+-- Nothing changed but the counts of faults.
+pub record KeepsAll (old new : DiskState) : Type 0 where
   pub tells : new.tells ≡ old.tells
   pub honest : new.honest ≡ old.honest
   pub same : new.history ≡ old.history
-  pub cause : HasCause old.faults new.faults result
+  pub faults : old.faults ≤ new.faults
   pub hard : old.hard ≤ new.hard
+
+pub record OnlyReads {T E : Type 0} (old : DiskState) (result : Result T E) (new : DiskState) : Type 0 where
+  pub keeps : KeepsAll old new
+  pub cause : HasCause old.faults new.faults result
 
 -- what was written is on the disk
 abbrev pub synced : History → History

@@ -1,0 +1,5 @@
+pub mod HeaderBytes
+pub mod Reading
+pub mod Children
+pub mod Layering
+pub mod Holds
