@@ -3,3 +3,4 @@ pub mod Reading
 pub mod Children
 pub mod Layering
 pub mod Holds
+pub mod Finding

@@ -1,5 +1,5 @@
 -- Calls that only read, one after the other, and what they read.
-use Rattle.std.proofs.Common.{◌≡◌, ℕ, ◌+◌, ◌-◌, ◌<◌, ◌≤◌, min, List, length, get_or, take, drop, Result, Ok, Err, refl, sym, ◌∙◌, ap, arith}
+use Rattle.std.proofs.Common.{◌≡◌, ℕ, ◌+◌, ◌-◌, ◌<◌, ◌≤◌, min, List, [], ◌∷◌, length, get_or, take, drop, Result, Ok, Err, refl, sym, ◌∙◌, ap, arith}
 use Rattle.std.proofs.lemmas.Grind.{same_number_lists}
 use Rattle.std.proofs.lemmas.List.{places, length-take, length-drop}
 use Rattle.pp_terms.specs.Count.{HasCause}
@@ -47,6 +47,19 @@ read_keeps old new place into result does = record {
 
 pub read_only : {E : Type 0} (old new : DiskState) (place : ℕ) (into : List ℕ) (result : Result (Unit {0}) E) → DoesRead old place into result new → OnlyReads old result new
 read_only old new place into result does = record { keeps = read_keeps old new place into result does; cause = does.call.cause }
+
+pub len_keeps : {E : Type 0} (old new : DiskState) (result : Result ℕ E) → DoesLen old result new → KeepsAll old new
+len_keeps old new result does = record {
+  tells = does.call.tells;
+  honest = does.call.honest;
+  same = does.same;
+  faults = does.call.cause.later;
+  hard = does.hard_cause.later;
+}
+
+pub no_bytes : (bytes : List ℕ) → length bytes ≡ 0 → bytes ≡ []
+no_bytes [] none = refl
+no_bytes (b ∷ bytes) none = absurd (omega arith)
 
 pub known_after : (old new : DiskState) → KeepsAll old new → IsKnown old → IsKnown new
 known_after old new keeps known = known_on old new keeps.tells keeps.honest known

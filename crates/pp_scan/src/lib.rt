@@ -5,5 +5,7 @@
 mod holding;
 mod layers;
 mod layout;
+mod scanning;
 
 pub use layout::{Difference, header_difference, header_of, slot_place};
+pub use scanning::{ScanFault, scan};
