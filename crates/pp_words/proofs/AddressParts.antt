@@ -1,14 +1,14 @@
 -- A text of an address is split at its last colon, and each text is at most one address's.
-use Rattle.std.proofs.Common.{◌≡◌, ◌≢◌, ◌⊎◌, ℕ, zero, suc, ◌+◌, ◌-◌, ◌^◌, ◌<◌, ◌≤◌, Bool, true, false, List, [], ◌∷◌, ◌++◌, length, get_or, slice_index, codes, decimal, Option, Some, None, All, refl, sym, ◌∙◌, ap, subst, inl, inr, arith, append_assoc}
+use Rattle.std.proofs.Common.{◌≡◌, ◌≢◌, ℕ, ◌^◌, ◌<◌, true, false, List, [], ◌∷◌, ◌++◌, get_or, codes, decimal, Option, Some, None, All, refl, sym, ◌∙◌, ap, subst, arith, append_assoc}
 use Rattle.std.specs.Prelude.{option_map, MatchOption}
 use Rattle.std.specs.Net.Addr.{octets_of}
 use Rattle.std.specs.Net.Grammar.{IsDotted}
 use Rattle.std.proofs.lemmas.List.{append_cancel_right}
-use Rattle.std.proofs.lemmas.List.Elements.{All-head, All-tail, All-get_or, All-from_get_or}
+use Rattle.std.proofs.lemmas.List.Elements.{All-head, All-tail, All-from_get_or}
 use Rattle.std.proofs.Math.ListN.{get_or-append}
 use Rattle.pp_terms.specs.DescriptorRead.{is_digit, number_of}
 use Rattle.pp_terms.specs.Traffic.{Address, V4, V6}
-use Rattle.pp_terms.specs.Addresses.{AreEightGroups, IsBracketed, IsHost, port_of, IsAddress}
+use Rattle.pp_terms.specs.Addresses.{AreEightGroups, IsHost, port_of, IsAddress}
 use Rattle.pp_tree.proofs.Readings.{decimal_is_number, number_of_decimal}
 use Rattle.pp_words.proofs.AddressTexts.{dotted_same, groups_same}
 

@@ -1,25 +1,14 @@
 -- Each text is at most one address's.
-use Rattle.std.proofs.Common.{◌≡◌, ◌≢◌, ◌⊎◌, ℕ, zero, suc, ◌+◌, ◌-◌, ◌^◌, ◌<◌, ◌≤◌, Bool, true, false, ◌||◌, ◌==◌, List, [], ◌∷◌, ◌++◌, length, get_or, slice_index, replicate, codes, decimal, Option, Some, None, All, refl, sym, ◌∙◌, ap, subst, inl, inr, arith, append_assoc, append-nil, lit≤}
-use Rattle.std.specs.Prelude.{option_map, MatchOption}
+use Rattle.std.proofs.Common.{◌≡◌, ℕ, ◌<◌, Bool, true, false, ◌||◌, ◌==◌, List, [], ◌∷◌, ◌++◌, codes, decimal, refl, sym, ◌∙◌, ap, subst, inl, inr, arith, append_assoc, lit≤}
 use Rattle.std.specs.List.{list_any}
 use Rattle.std.specs.Char.{digit_value}
 use Rattle.std.specs.Str.Parse.{AllDigits}
-use Rattle.std.specs.Net.Addr.{octets_of}
-use Rattle.std.specs.Net.Grammar.{IsDotted, IsGroup, IsGroupsAfter, IsGroups, IsColonHex}
+use Rattle.std.specs.Net.Grammar.{IsDotted, IsGroupsAfter, IsColonHex}
 use Rattle.std.proofs.NetLemmas.Options.{same_parts}
 use Rattle.std.proofs.NetLemmas.Ipv4.{read_ipv4_complete}
 use Rattle.std.proofs.NetLemmas.Ipv6.{read_ipv6_complete, EndsGroups-nil}
-use Rattle.std.proofs.lemmas.Bool.{cases_eq, ne_eqb, eq-eqb, or_left, or_right, true≢false}
-use Rattle.std.proofs.lemmas.List.{append_cancel_right}
-use Rattle.std.proofs.lemmas.List.Folds.{list_any-append}
-use Rattle.std.proofs.lemmas.List.Elements.{All-head, All-tail, All-get_or, All-from_get_or}
-use Rattle.std.proofs.Math.ListN.{get_or-append}
-use Rattle.std.proofs.Math.Seq.{get_or-append_right}
-use Rattle.pp_terms.specs.DescriptorRead.{is_digit}
-use Rattle.pp_terms.specs.Traffic.{Address, V4, V6}
-use Rattle.pp_terms.specs.Addresses.{IsShortened, AreEightGroups, IsBracketed, IsHost, port_of, IsAddress}
-use Rattle.pp_tree.proofs.Readings.{decimal_is_number, number_of_decimal}
-use Rattle.pp_terms.specs.DescriptorRead.{number_of}
+use Rattle.std.proofs.lemmas.Bool.{cases_eq, ne_eqb, true≢false}
+use Rattle.pp_terms.specs.Addresses.{AreEightGroups}
 
 -- ---- IPv4
 

@@ -1,3 +1,9 @@
 pub mod Numbers
 pub mod AddressTexts
 pub mod AddressParts
+pub mod SizeWords
+pub mod WordSteps
+pub mod Peers
+pub mod FaultLaws
+pub mod OneReading
+pub mod OneCommand

@@ -1,8 +1,8 @@
 -- Numbers in decimal digits, read digit by digit.
-use Rattle.std.proofs.Common.{◌≡◌, ℕ, suc, ◌+◌, ◌-◌, ◌*◌, ◌<◌, ◌≤◌, ◌^◌, true, List, [], ◌∷◌, ◌++◌, length, take, get_or, slice_index, decimal, refl, sym, ◌∙◌, ap, subst, inl, inr, arith}
+use Rattle.std.proofs.Common.{◌≡◌, ℕ, suc, ◌+◌, ◌-◌, ◌*◌, ◌<◌, ◌≤◌, ◌^◌, true, List, [], ◌∷◌, ◌++◌, length, take, slice_index, decimal, sym, ◌∙◌, ap, subst, inl, inr, arith}
 use Rattle.std.proofs.lemmas.Bool.{cases_eq}
 use Rattle.std.proofs.Math.Seq.{take-suc}
-use Rattle.pp_terms.specs.DescriptorRead.{is_digit, IsNumber, number_after, number_of}
+use Rattle.pp_terms.specs.DescriptorRead.{is_digit, IsNumber, number_of}
 use Rattle.pp_tree.proofs.Numerals.{number_more, digit_range}
 use Rattle.pp_tree.proofs.Readings.{decimal_of_number, number_of_decimal, decimal_is_number}
 use Rattle.pp_words.specs.Digits.{AreDigits}

@@ -15,7 +15,10 @@ pub enum Order {
 #[derive(Debug, Drop, PartialEq, Eq)]
 pub enum Command<'a> {
     /// `import STORE CHUNK`
-    Import { store: &'a str, chunk: u32 },
+    Import {
+        store: &'a str,
+        chunk: u32,
+    },
     /// `seed STORE DESCRIPTOR LISTEN TURNS`
     Seed {
         store: &'a str,
@@ -45,7 +48,9 @@ pub enum Command<'a> {
     /// `replay`
     Replay,
     /// `rehearse NUMBER`
-    Rehearse { number: u64 },
+    Rehearse {
+        number: u64,
+    },
 }
 
 /// What is wrong with a word.

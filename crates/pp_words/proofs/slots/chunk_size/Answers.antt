@@ -1,5 +1,5 @@
-use Rattle.pp_node.proofs.SizeWords.{spelled_256, spelled_512, spelled_1024, spelled_2048, spelled_4096, spelled_8192, none_spelled}
-use Rattle.pp_node.proofs.words.chunk_size.Goals as goal
+use Rattle.pp_words.proofs.SizeWords.{spelled_256, spelled_512, spelled_1024, spelled_2048, spelled_4096, spelled_8192, none_spelled}
+use Rattle.pp_words.proofs.slots.chunk_size.Goals as goal
 
 pub returns-in-text : goal.returns-in-text
 returns-in-text c = spelled_256 c.args.word.now c.in-text.is
