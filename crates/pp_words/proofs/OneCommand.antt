@@ -17,7 +17,7 @@ use Rattle.pp_terms.specs.CommandLine.{IsDescriptorText, IsImport, IsSeed, IsFet
 use Rattle.pp_tree.proofs.Readings.{descriptor_same}
 use Rattle.pp_tree.proofs.Sizes.{chunk_size_range}
 use Rattle.pp_words.proofs.AddressParts.{address_same}
-use Rattle.pp_words.proofs.OneReading.{command_not_wrong, first_wrong_once}
+use Rattle.pp_words.proofs.OneReading.{words_of, command_not_wrong, one_of_all, first_wrong_once}
 
 -- ---- what each word writes
 
@@ -61,22 +61,12 @@ head_word (word ∷ words) = word
 cons_same : (a b : List ℕ) (x y : List (List ℕ)) → a ∷ x ≡ b ∷ y → (a ≡ b) × (x ≡ y)
 cons_same a b x y e = (cc, cc)
 
--- a command's name is its first word
-begins : (words : List (List ℕ)) (c : Command) → Spells words c → (rest : List (List ℕ)) × (words ≡ (shape_of c).name ∷ rest)
-begins words (Import store chunk) is = (_, is.spelled)
-begins words (Seed store descriptor listen turns) is = (_, is.spelled)
-begins words (Fetch store descriptor listen turns order peers) is = (_, is.spelled)
-begins words (Check store descriptor) is = (_, is.spelled)
-begins words (Export store descriptor) is = (_, is.spelled)
-begins words Replay is = (_, is)
-begins words (Rehearse number) is = (_, is.spelled)
-
 -- the name of a command that these words spell
 name_is : (words : List (List ℕ)) (name : List ℕ) (rest : List (List ℕ)) (c : Command) → words ≡ name ∷ rest → Spells words c
     → bytes_eq name name ≡ true → bytes_eq name (shape_of c).name ≡ true
 name_is words name rest c e is self =
-    let (more, shown) = begins words c is in
-    let same = (cons_same name (shape_of c).name rest more (sym e ∙ shown)).0 in
+    let of_it = words_of words c is in
+    let same = (cons_same name (shape_of c).name rest of_it.rest (sym e ∙ of_it.named)).0 in
     subst (λ t. bytes_eq name t ≡ true) same self
 
 -- ---- each command
@@ -167,12 +157,12 @@ pub each_command : {A B : Type 0} (view : A → Command) (fault : B → Usage) (
     → IfOk r (λ a. Spells words (view a)) → IfErr r (λ b. IsFirstWrong commands words (fault b))
     → (c : Command) → Spells words c → IsOkAnd r (λ a. view a ≡ c)
 each_command view fault words (Ok a) ok err c is = one_command words (view a) c ok is
-each_command view fault words (Err b) ok err c is = absurd (command_not_wrong words c (fault b) is err)
+each_command view fault words (Err b) ok err c is = absurd (command_not_wrong commands words c (fault b) (one_of_all c) is err)
 
 pub each_wrong : {A B : Type 0} (view : A → Command) (fault : B → Usage) (words : List (List ℕ)) (r : Result A B)
     → IfOk r (λ a. Spells words (view a)) → IfErr r (λ b. IsFirstWrong commands words (fault b))
     → (u : Usage) → IsFirstWrong commands words u → IsErrAnd r (λ b. fault b ≡ u)
-each_wrong view fault words (Ok a) ok err u is = absurd (command_not_wrong words (view a) u ok is)
+each_wrong view fault words (Ok a) ok err u is = absurd (command_not_wrong commands words (view a) u (one_of_all (view a)) ok is)
 each_wrong view fault words (Err b) ok err u is = first_wrong_once commands words (fault b) u err is
 
 -- ---- no command of that name

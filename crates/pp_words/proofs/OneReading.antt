@@ -7,7 +7,7 @@ use Rattle.pp_terms.specs.Addresses.{IsAddress}
 use Rattle.pp_terms.specs.Commands.{order_text, Command, Import, Seed, Fetch, Check, Export, Replay, Rehearse}
 use Rattle.pp_terms.specs.Usage as wrong
 use Rattle.pp_terms.specs.Usage.{Usage, usage}
-use Rattle.pp_terms.specs.CommandLine.{Spells, Slot, AStore, AChunk, ANumber, ADescriptor, AnAddress, AnOrder, IsRight, IsWrong, Shape, import_shape, seed_shape, fetch_shape, check_shape, export_shape, rehearse_shape, commands, named, IsWrongFrom, IsFirstWrong}
+use Rattle.pp_terms.specs.CommandLine.{Spells, Slot, AStore, AChunk, ANumber, ADescriptor, AnAddress, AnOrder, IsRight, IsWrong, Shape, import_shape, seed_shape, fetch_shape, check_shape, export_shape, rehearse_shape, commands, shape_of, named, IsOneOf, IsWrongFrom, IsFirstWrong}
 use Rattle.pp_words.proofs.FaultLaws.{no_fault, fault_same}
 
 -- ---- one first wrong word
@@ -83,23 +83,47 @@ first_peer_right words [] zip some most = absurd (omega arith)
 first_peer_right [] (peer ∷ peers) zip some most = absurd zip
 first_peer_right (word ∷ words) (peer ∷ peers) zip some most = ((peer, zip.0), peers_right words peers 15 zip.1 (omega arith))
 
-at_words : (words shown : List (List ℕ)) (u : Usage) → words ≡ shown → IsFirstWrong commands words u → IsFirstWrong commands shown u
-at_words words shown u e is = subst (λ ws. IsFirstWrong commands ws u) e is
+-- the words of a command are its name and words that fill its slots
+pub record AreWordsOf (words : List (List ℕ)) (shape : Shape) : Type 0 where
+  pub rest : List (List ℕ)
+  pub named : words ≡ shape.name ∷ rest
+  pub right : AreRight shape.slots shape.peers rest
 
-pub command_not_wrong : (words : List (List ℕ)) (c : Command) (u : Usage) → Spells words c → IsFirstWrong commands words u → ⊥
-command_not_wrong words (Import store chunk) u is bad =
-    never_both import_shape.slots 0 1 (store ∷ decimal chunk ∷ []) u (is.named, ((chunk, refl, is.size), tt)) (at_words words _ u is.spelled bad)
-command_not_wrong words (Seed store descriptor listen turns) u is bad =
-    never_both seed_shape.slots 0 1 (store ∷ is.described ∷ is.listening ∷ decimal turns ∷ []) u
-    (is.named, ((descriptor, is.descriptor_is), ((listen, is.listen_is), ((turns, refl, is.few), tt)))) (at_words words _ u is.spelled bad)
-command_not_wrong words (Fetch store descriptor listen turns order peers) u is bad =
-    never_both fetch_shape.slots 15 1 (store ∷ is.described ∷ is.listening ∷ decimal turns ∷ order_text order ∷ is.dialled) u
-    (is.named, ((descriptor, is.descriptor_is), ((listen, is.listen_is), ((turns, refl, is.few), ((order, refl), first_peer_right is.dialled peers is.dialled_are is.some is.most)))))
-    (at_words words _ u is.spelled bad)
-command_not_wrong words (Check store descriptor) u is bad =
-    never_both check_shape.slots 0 1 (store ∷ is.described ∷ []) u (is.named, ((descriptor, is.descriptor_is), tt)) (at_words words _ u is.spelled bad)
-command_not_wrong words (Export store descriptor) u is bad =
-    never_both export_shape.slots 0 1 (store ∷ is.described ∷ []) u (is.named, ((descriptor, is.descriptor_is), tt)) (at_words words _ u is.spelled bad)
-command_not_wrong words Replay u is bad = at_words words (codes "replay" ∷ []) u is bad
-command_not_wrong words (Rehearse number) u is bad =
-    never_both rehearse_shape.slots 0 1 (decimal number ∷ []) u ((number, refl, is.low), tt) (at_words words _ u is.spelled bad)
+pub words_of : (words : List (List ℕ)) (c : Command) → Spells words c → AreWordsOf words (shape_of c)
+words_of words (Import store chunk) is = record { rest = _; named = is.spelled; right = (is.named, ((chunk, refl, is.size), tt)) }
+words_of words (Seed store descriptor listen turns) is = record {
+  rest = _;
+  named = is.spelled;
+  right = (is.named, ((descriptor, is.descriptor_is), ((listen, is.listen_is), ((turns, refl, is.few), tt))));
+}
+words_of words (Fetch store descriptor listen turns order peers) is = record {
+  rest = _;
+  named = is.spelled;
+  right = (
+    is.named,
+    ((descriptor, is.descriptor_is), ((listen, is.listen_is), ((turns, refl, is.few), ((order, refl), first_peer_right is.dialled peers is.dialled_are is.some is.most)))),
+  );
+}
+words_of words (Check store descriptor) is = record { rest = _; named = is.spelled; right = (is.named, ((descriptor, is.descriptor_is), tt)) }
+words_of words (Export store descriptor) is = record { rest = _; named = is.spelled; right = (is.named, ((descriptor, is.descriptor_is), tt)) }
+words_of words Replay is = record { rest = []; named = is; right = tt }
+words_of words (Rehearse number) is = record { rest = _; named = is.spelled; right = ((number, refl, is.low), tt) }
+
+-- words that spell one of the commands have no first wrong word
+pub command_not_wrong : (shapes : List Shape) (words : List (List ℕ)) (c : Command) (u : Usage) → IsOneOf shapes c → Spells words c
+    → IsFirstWrong shapes words u → ⊥
+command_not_wrong shapes words c u one is bad =
+    let of_it = words_of words c is in
+    let shown = subst (λ ws. IsFirstWrong shapes ws u) of_it.named bad in
+    let judged = subst (λ o. MatchOption o (u ≡ usage 0 wrong.Command) (λ shape. IsWrongFrom shape.slots shape.peers 1 of_it.rest u)) one shown in
+    never_both (shape_of c).slots (shape_of c).peers 1 of_it.rest u of_it.right judged
+
+-- each command is one of all
+pub one_of_all : (c : Command) → IsOneOf commands c
+one_of_all (Import store chunk) = refl
+one_of_all (Seed store descriptor listen turns) = refl
+one_of_all (Fetch store descriptor listen turns order peers) = refl
+one_of_all (Check store descriptor) = refl
+one_of_all (Export store descriptor) = refl
+one_of_all Replay = refl
+one_of_all (Rehearse number) = refl
