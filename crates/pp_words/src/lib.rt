@@ -11,3 +11,6 @@ mod types;
 pub use address::read_address;
 pub use reading::read_words;
 pub use types::{Command, Order, Usage, UsageKind};
+
+#[cfg(test)]
+mod tests;
