@@ -7,3 +7,4 @@ pub mod Peers
 pub mod FaultLaws
 pub mod OneReading
 pub mod OneCommand
+pub mod WordExamples

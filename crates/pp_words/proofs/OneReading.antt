@@ -1,13 +1,13 @@
 -- Words spell at most one command, have at most one first wrong word, and never both.
-use Rattle.std.proofs.Common.{◌≡◌, ℕ, zero, suc, ◌+◌, ◌<◌, ◌≤◌, List, [], ◌∷◌, length, codes, decimal, Option, Some, None, refl, sym, ◌∙◌, ap, subst, inl, inr, arith}
+use Rattle.std.proofs.Common.{◌≡◌, ℕ, zero, suc, ◌+◌, ◌<◌, ◌≤◌, List, [], ◌∷◌, length, Option, Some, None, refl, sym, ◌∙◌, ap, subst, inl, inr, arith}
 use Rattle.std.specs.Prelude.{MatchOption}
 use Rattle.std.specs.List.{AllZip}
 use Rattle.pp_terms.specs.Traffic.{Address}
 use Rattle.pp_terms.specs.Addresses.{IsAddress}
-use Rattle.pp_terms.specs.Commands.{order_text, Command, Import, Seed, Fetch, Check, Export, Replay, Rehearse}
+use Rattle.pp_terms.specs.Commands.{Command, Import, Seed, Fetch, Check, Export, Replay, Rehearse}
 use Rattle.pp_terms.specs.Usage as wrong
 use Rattle.pp_terms.specs.Usage.{Usage, usage}
-use Rattle.pp_terms.specs.CommandLine.{Spells, Slot, AStore, AChunk, ANumber, ADescriptor, AnAddress, AnOrder, IsRight, IsWrong, Shape, import_shape, seed_shape, fetch_shape, check_shape, export_shape, rehearse_shape, commands, shape_of, named, IsOneOf, IsWrongFrom, IsFirstWrong}
+use Rattle.pp_terms.specs.CommandLine.{Spells, Slot, AStore, AChunk, ANumber, ADescriptor, AnAddress, AnOrder, IsRight, IsWrong, Shape, commands, shape_of, named, IsOneOf, IsWrongFrom, IsFirstWrong}
 use Rattle.pp_words.proofs.FaultLaws.{no_fault, fault_same}
 
 -- ---- one first wrong word

@@ -3,12 +3,14 @@
 
 mod address;
 mod commands;
+mod laws;
 mod number;
 mod reading;
 mod slots;
 mod types;
 
 pub use address::read_address;
+pub use laws::examples_of_words;
 pub use reading::read_words;
 pub use types::{Command, Order, Usage, UsageKind};
 

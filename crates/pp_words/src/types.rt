@@ -12,7 +12,7 @@ pub enum Order {
 
 /// A command. `store` is the name of the store's file, `chunk` the chunk size in bytes, `listen` the address at which
 /// the peer listens, `turns` how often it waits for a datagram, and `number` the number of a rehearsal.
-#[derive(Debug, Drop, PartialEq, Eq)]
+#[derive(Clone, Debug, Drop, PartialEq, Eq)]
 pub enum Command<'a> {
     /// `import STORE CHUNK`
     Import {
