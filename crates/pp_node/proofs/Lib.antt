@@ -1,5 +1,4 @@
 pub mod Written
-pub mod SizeWords
 pub mod Lines
 pub mod Runs
 pub mod Attached

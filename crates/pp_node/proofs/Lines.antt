@@ -3,6 +3,7 @@ use Rattle.std.proofs.Common.{◌≡◌, inl, inr, ℕ, Option, List, [], ◌∷
 use Rattle.pp_terms.specs.Count.{HasCause}
 use Rattle.pp_terms.specs.Stream.{SinkState, Gains}
 use Rattle.pp_terms.specs.Descriptor.{Descriptor, descriptor_text}
+use Rattle.pp_terms.specs.Usage.{Usage, kind_text, usage_line}
 use Rattle.pp_terms.specs.Report.{descriptor_line, disk_fault_line, source_fault_line, not_empty_line, content_size_line}
 use Rattle.pp_store.specs.declared.importing.ImportFault.{ImportFault}
 use Rattle.pp_node.specs.declared.status.Status.{Status}
@@ -37,6 +38,16 @@ unfolding descriptor_line
 descriptor_said d old mid new text (Ok x) is first second =
     subst (λ (t : List ℕ). Gains old (t ++ 10 ∷ []) new) is (gains_more old mid new text (10 ∷ []) first second)
 descriptor_said d old mid new text (Err e) is first second = tt
+
+-- a usage line in two pieces
+pub usage_said : {T E : Type 0} (u : Usage) (old mid new : Option (List ℕ)) (result : Result T E) → Gains old (codes "usage: word " ++ decimal u.word ++ codes ": ") mid
+    → OnOk result (Gains mid (kind_text u.kind ++ 10 ∷ []) new) → OnOk result (Gains old (usage_line u) new)
+unfolding usage_line
+usage_said u old mid new (Ok x) first second =
+    let front : List ℕ = codes "usage: word " ++ decimal u.word ++ codes ": " in
+    subst (λ (t : List ℕ). Gains old t new) (sym (append_assoc front (kind_text u.kind) (10 ∷ [])))
+    (gains_more old mid new front (kind_text u.kind ++ 10 ∷ []) first second)
+usage_said u old mid new (Err e) first second = tt
 
 pub reports : (fault other : ImportFault) (status : Status) (old new : SinkState) → fault ≡ other → Reports other status old new → Reports fault status old new
 reports fault other status old new is reported = subst (λ (f : ImportFault). Reports f status old new) (sym is) reported

@@ -10,7 +10,8 @@ use Rattle.pp_terms.specs.Disk.{DiskState, History, IsKnown, moment_of}
 use Rattle.pp_terms.specs.Stream.{SourceState, SinkState}
 use Rattle.pp_store.specs.declared.importing.ImportFault.{ImportFault}
 use Rattle.pp_store.specs.declared.importing.ImportFault.TheVariants as fault
-use Rattle.pp_store.specs.Import.{HasAnswer, IsUntouched, KeepsDisk, LeavesWholeStores, TakesAtMost, IsImported}
+use Rattle.pp_store.specs.Keep.{KeepsDisk}
+use Rattle.pp_store.specs.Import.{most_bytes, HasAnswer, IsUntouched, LeavesWholeStores, TakesAtMost, IsImported}
 use Rattle.pp_node.specs.declared.status.Status.{Status}
 use Rattle.pp_node.specs.declared.status.Status.TheVariants.{NotEmpty, DiskFault}
 use Rattle.pp_node.specs.Status.{number_of}
@@ -26,7 +27,7 @@ module _ (status : Status) (chunk : ℕ) (source source' : SourceState) (old new
   pub import_run : (IsKnown old → (content : List ℕ) → source.left ≡ Some content → LeavesWholeStores chunk content old.history new.history)
       → (IsKnown old → old.history.reads ≡ [] → moment_of new.history ≡ moment_of old.history → IsNoStore new.history.reads)
       → (IsKnown old → 0 < length old.history.reads → IsUntouched source source' old new)
-      → TakesAtMost (chunk + 1) source source'
+      → TakesAtMost (most_bytes chunk + 1) source source'
       → (IsKnown old → 0 < length old.history.reads → (status ≡ NotEmpty) ⊎ (status ≡ DiskFault))
       → IsImportRun status chunk source source' old new
   import_run whole no_store untouched takes refused = record {

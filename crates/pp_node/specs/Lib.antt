@@ -1,3 +1,4 @@
 pub mod Text
 pub mod Status
+pub mod Built
 pub mod Run

@@ -2,11 +2,13 @@
 -- The store was attached once; `start` and `found` of the disk's history are its moment then, and what reads gave.
 use Rattle.std.specs.Prelude.{◌≡◌, ◌⊎◌, ℕ, ◌+◌, ◌<◌, ◌≤◌, min, Some, List, [], length}
 use Rattle.pp_terms.specs.Count.{HasRisen}
+use Rattle.pp_terms.specs.Content.{IsContentSize}
 use Rattle.pp_terms.specs.Store.{header, Has, IsStoreOf, IsNoStore}
 use Rattle.pp_terms.specs.Disk.{DiskState, History, IsKnown, Throughout, moment_of}
 use Rattle.pp_terms.specs.Stream.{SourceState, SinkState, Gains}
 use Rattle.pp_terms.specs.Report.{descriptor_line, disk_fault_line, source_fault_line, not_empty_line, content_size_line}
-use Rattle.pp_store.specs.Import.{imported, IsOneChunk, TakesAtMost}
+use Rattle.pp_store.specs.Imported.{imported}
+use Rattle.pp_store.specs.Import.{most_bytes, TakesAtMost}
 use Rattle.pp_store.specs.declared.importing.ImportFault.{ImportFault}
 use Rattle.pp_store.specs.declared.importing.ImportFault.TheVariants as fault
 use Rattle.pp_node.specs.Text.{Says}
@@ -14,9 +16,9 @@ use Rattle.pp_node.specs.Status.{number_of}
 use Rattle.pp_node.specs.declared.status.Status.{Status}
 use Rattle.pp_node.specs.declared.status.Status.TheVariants.{Done, Usage, DiskFault, SourceFault, SinkFault, NotEmpty, ContentSize}
 
--- The bytes that the source gave are one chunk, and each image that a crash may leave is their whole store.
+-- The bytes that the source gave are a content, and each image that a crash may leave is their whole store.
 pub record IsStored (chunk : ℕ) (source : SourceState) (disk disk' : DiskState) : Type 0 where
-  pub fits : (content : List ℕ) → source.left ≡ Some content → IsOneChunk chunk content
+  pub fits : (content : List ℕ) → source.left ≡ Some content → IsContentSize chunk (length content)
   pub stored : IsKnown disk → (content : List ℕ) → source.left ≡ Some content
       → Throughout disk'.history (moment_of disk'.history) (IsStoreOf (imported content chunk) content)
 
@@ -51,12 +53,12 @@ pub record IsNotEmpty (source source' : SourceState) (sink sink' : SinkState) (d
   pub unread : source' ≡ source
   pub said : Says (not_empty_line len) sink sink'
 
--- The source gave nothing or more than one chunk: it is said how many bytes were read, 0 or a chunk and a byte.
+-- The source gave nothing or more than 2 ^ 20 chunks: it is said how many bytes were read, 0 or those and a byte more.
 -- Nothing was written that could be taken for a store.
-pub record IsContentSize (chunk : ℕ) (source : SourceState) (sink sink' : SinkState) (disk disk' : DiskState) : Type 0 where
+pub record IsNoContent (chunk : ℕ) (source : SourceState) (sink sink' : SinkState) (disk disk' : DiskState) : Type 0 where
   pub count : ℕ
-  pub either : (count ≡ 0) ⊎ (count ≡ chunk + 1)
-  pub counted : (content : List ℕ) → source.left ≡ Some content → count ≡ min (length content) (chunk + 1)
+  pub either : (count ≡ 0) ⊎ (count ≡ most_bytes chunk + 1)
+  pub counted : (content : List ℕ) → source.left ≡ Some content → count ≡ min (length content) (most_bytes chunk + 1)
   pub no_store : IsKnown disk → IsNoStore disk'.history.reads
   pub said : Says (content_size_line count) sink sink'
 
@@ -75,7 +77,7 @@ EndsIn DiskFault chunk source source' sink sink' disk disk' = IsDiskFault sink s
 EndsIn SourceFault chunk source source' sink sink' disk disk' = IsSourceFault source source' sink sink' disk disk'
 EndsIn SinkFault chunk source source' sink sink' disk disk' = IsSinkFault chunk source sink sink' disk disk'
 EndsIn NotEmpty chunk source source' sink sink' disk disk' = IsNotEmpty source source' sink sink' disk disk'
-EndsIn ContentSize chunk source source' sink sink' disk disk' = IsContentSize chunk source sink sink' disk disk'
+EndsIn ContentSize chunk source source' sink sink' disk disk' = IsNoContent chunk source sink sink' disk disk'
 
 -- The disk was attached last, and nothing was done on it since.
 pub record IsFreshlyAttached (h : History) : Type 0 where
@@ -94,8 +96,8 @@ pub record IsImportRun (status : Status) (chunk : ℕ) (source source' : SourceS
   pub refused : IsKnown disk → 0 < length disk'.history.found → (status ≡ NotEmpty) ⊎ (status ≡ DiskFault)
   pub unwritten : IsKnown disk → 0 < length disk'.history.found → disk'.history.reads ≡ disk'.history.found
   pub unread : IsKnown disk → 0 < length disk'.history.found → source' ≡ source
-  -- At most a chunk and a byte are read.
-  pub takes : TakesAtMost (chunk + 1) source source'
+  -- At most 2 ^ 20 chunks and a byte are read.
+  pub takes : TakesAtMost (most_bytes chunk + 1) source source'
 
 -- A run of `import STORE CHUNK`, by the number that it answers.
 pub record ImportEnds (result chunk : ℕ) (source source' : SourceState) (sink sink' : SinkState) (disk disk' : DiskState) : Type 0 where

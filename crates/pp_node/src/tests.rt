@@ -1,6 +1,11 @@
+use crate::refusing::refuse;
 use crate::run;
-use pp_outside::{Call, MemoryDisk, MemoryLink, MemorySink, MemorySource, Source};
-use pp_tree::Book;
+use crate::status::Status;
+use pp_outside::{
+    Call, MemoryDisk, MemoryLink, MemorySink, MemorySource, NullDisk, Source, ZeroSource,
+};
+use pp_tree::{Book, DescriptorFault};
+use pp_words::{Usage, UsageKind};
 use std::alloc::{AllocError, Global};
 use std::test::Fail;
 
@@ -12,6 +17,14 @@ struct Ran {
     sink: MemorySink,
 }
 
+fn words_of(alloc: Global, line: &[&str]) -> Result<Vec<String>, AllocError> {
+    let mut words = Vec::new(alloc);
+    for word in line {
+        words.push(String::from_str(alloc, word)?)?;
+    }
+    Ok(words)
+}
+
 fn import_over(
     alloc: Global,
     line: &[&str],
@@ -19,10 +32,7 @@ fn import_over(
     mut sink: MemorySink,
     source: &mut MemorySource<'_>,
 ) -> Result<Ran, AllocError> {
-    let mut words = Vec::new(alloc);
-    for word in line {
-        words.push(String::from_str(alloc, word)?)?;
-    }
+    let words = words_of(alloc, line)?;
     let mut link = MemoryLink::new(alloc)?;
     let mut book = Book::empty(alloc);
     let status = run(
@@ -68,12 +78,31 @@ fn says_why_a_content_is_none(rt: HostRuntime) -> Result<(), Fail> {
     let ran = import_of(alloc, &[], MemoryDisk::new(alloc, &[])?)?;
     assert_eq!(rt; ran.status, 9);
     assert_eq!(rt; ran.sink.bytes(), b"content size: 0 bytes\n".as_slice());
-
-    let long = vec![in alloc; 7; 2000]?;
-    let ran = import_of(alloc, &long, MemoryDisk::new(alloc, &[])?)?;
-    assert_eq!(rt; ran.status, 9);
-    assert_eq!(rt; ran.sink.bytes(), b"content size: 1025 bytes\n".as_slice());
     assert_eq!(rt; ran.disk.bytes().len(), 0);
+    Ok(())
+}
+
+// 2^20 chunks of 256 bytes are a content, and a byte more is none.
+#[test]
+fn measures_the_greatest_content(rt: HostRuntime) -> Result<(), Fail> {
+    let alloc = rt.alloc();
+    for (size, status) in [(268_435_456, 0), (268_435_457, 9)] {
+        let mut sink = MemorySink::new(alloc);
+        let answer = run(
+            alloc,
+            &words_of(alloc, &["import", "s", "256"])?,
+            [0; 32],
+            &mut NullDisk::new(),
+            &mut MemoryLink::new(alloc)?,
+            &mut ZeroSource::new(size),
+            &mut sink,
+            &mut Book::empty(alloc),
+        );
+        assert_eq!(rt; answer, status);
+        if status == 9 {
+            assert_eq!(rt; sink.bytes(), b"content size: 268435457 bytes\n".as_slice());
+        }
+    }
     Ok(())
 }
 
@@ -130,19 +159,21 @@ fn says_which_device_failed(rt: HostRuntime) -> Result<(), Fail> {
 }
 
 #[test]
-fn refuses_other_words(rt: HostRuntime) -> Result<(), Fail> {
+fn names_the_first_wrong_word(rt: HostRuntime) -> Result<(), Fail> {
     let alloc = rt.alloc();
-    let lines: [&[&str]; 8] = [
-        &[],
-        &["import"],
-        &["import", "s"],
-        &["import", "s", "1000"],
-        &["import", "s", "01024"],
-        &["import", "", "1024"],
-        &["import", "s", "1024", "x"],
-        &["check", "s", "1024"],
+    let lines: [(&[&str], &[u8]); 9] = [
+        (&[], b"usage: word 0: missing\n"),
+        (&["import"], b"usage: word 1: missing\n"),
+        (&["import", "", "1024"], b"usage: word 1: store\n"),
+        (&["import", "s"], b"usage: word 2: missing\n"),
+        (&["import", "s", "1000"], b"usage: word 2: chunk\n"),
+        (&["import", "s", "01024"], b"usage: word 2: chunk\n"),
+        (&["import", "s", "1024", "x"], b"usage: word 3: extra\n"),
+        (&["imports", "s", "1024"], b"usage: word 0: command\n"),
+        // It is not built yet.
+        (&["rehearse"], b"usage: word 0: command\n"),
     ];
-    for line in lines {
+    for (line, want) in lines {
         let ran = import_over(
             alloc,
             line,
@@ -151,8 +182,40 @@ fn refuses_other_words(rt: HostRuntime) -> Result<(), Fail> {
             &mut MemorySource::new(b"abc"),
         )?;
         assert_eq!(rt; ran.status, 1, "at {line:?}");
-        assert_eq!(rt; ran.sink.bytes().len(), 0);
+        assert_eq!(rt; ran.sink.bytes(), want, "at {line:?}");
         assert_eq!(rt; ran.disk.bytes().len(), 0);
+    }
+    Ok(())
+}
+
+#[test]
+fn names_the_place_of_a_descriptors_fault(rt: HostRuntime) -> Result<(), Fail> {
+    let faults: [(DescriptorFault, &[u8]); 4] = [
+        (
+            DescriptorFault::Form { at: 11 },
+            b"usage: word 2: descriptor form at 11\n",
+        ),
+        (
+            DescriptorFault::Chunk { at: 72 },
+            b"usage: word 2: descriptor chunk at 72\n",
+        ),
+        (
+            DescriptorFault::Size { at: 76 },
+            b"usage: word 2: descriptor size at 76\n",
+        ),
+        (
+            DescriptorFault::Method { at: 86 },
+            b"usage: word 2: descriptor method at 86\n",
+        ),
+    ];
+    for (fault, want) in faults {
+        let mut sink = MemorySink::new(rt.alloc());
+        let usage = Usage {
+            word: 2,
+            kind: UsageKind::Descriptor(fault),
+        };
+        assert_eq!(rt; refuse(usage, &mut sink), Status::Usage);
+        assert_eq!(rt; sink.bytes(), want, "at {fault:?}");
     }
     Ok(())
 }

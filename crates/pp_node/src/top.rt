@@ -1,15 +1,21 @@
 // The top call.
 ghost use Rattle.std.specs.Prelude.{◌≡◌, ◌↔◌, ℕ, List};
-ghost use Rattle.pp_terms.specs.CommandLine.{IsImport};
+ghost use Rattle.pp_terms.specs.Commands as terms;
+ghost use Rattle.pp_terms.specs.CommandLine.{Spells, IsImport, IsOneOf, IsFirstWrong};
+ghost use Rattle.pp_terms.specs.Usage as wrong;
+ghost use Rattle.pp_terms.specs.Usage.{usage_line};
 ghost use Rattle.pp_tree.specs.Book.{empty_book};
-ghost use Rattle.pp_node.specs.Text.{texts};
+ghost use Rattle.pp_words.specs.Views.{texts};
+ghost use Rattle.pp_node.specs.Built.{built};
+ghost use Rattle.pp_node.specs.Text.{Says};
 ghost use Rattle.pp_node.specs.Run.{ImportEnds};
 
+use crate::built::read_built;
 use crate::importing::import;
-use crate::status::Status;
-use crate::words::import_words;
+use crate::refusing::refuse;
 use pp_outside::{Disk, Link, Sink, Source};
 use pp_tree::Book;
+use pp_words::Command;
 use std::alloc::Global;
 
 /// Does what the words of a command line say, without the program's name, and answers the exit status: 0 done, 1 for
@@ -28,23 +34,31 @@ pub fn run<D: Disk, L: Link, S: Source, K: Sink>(
 ) -> u8
     requires { book.old ≡ empty_book }
 
-    // Status 1 comes exactly where the words are no command.
-    ensures usage { (result ≡ 1) ↔ ((store : List ℕ) (chunk : ℕ) → IsImport (texts words.now) store chunk → ⊥) }
+    // Status 1 comes exactly where the words spell no command that is built.
+    ensures usage { (result ≡ 1) ↔ ((c : terms.Command) → IsOneOf built c → Spells (texts words.now) c → ⊥) }
+
+    // Then the first wrong word is named, and nothing else is touched.
+    ensures line { result ≡ 1 → (u : wrong.Usage) × IsFirstWrong built (texts words.now) u
+        × Says (usage_line u) (K.state sink.old) (K.state sink.new) }
+    ensures disk { result ≡ 1 → D.state disk.new ≡ D.state disk.old }
+    ensures source { result ≡ 1 → S.state source.new ≡ S.state source.old }
 
     ensures import { (store : List ℕ) (chunk : ℕ) → IsImport (texts words.now) store chunk
         → ImportEnds result chunk (S.state source.old) (S.state source.new) (K.state sink.old) (K.state sink.new)
         (D.state disk.old) (D.state disk.new) }
 
-    // With status 1 nothing is touched.
-    ensures disk { result ≡ 1 → D.state disk.new ≡ D.state disk.old }
-    ensures source { result ≡ 1 → S.state source.new ≡ S.state source.old }
-    ensures sink { result ≡ 1 → K.state sink.new ≡ K.state sink.old }
-
     ensures link { L.seen link.new ≡ L.seen link.old }
     ensures book { book.new ≡ book.old }
 {
-    match import_words(words) {
-        Some((store, chunk)) => import(store, chunk, disk, source, sink).number(),
-        None => Status::Usage.number(),
+    match read_built(words) {
+        Ok(Command::Import { store, chunk }) => import(store, chunk, disk, source, sink).number(),
+        // These are not built, so they are never answered.
+        Ok(Command::Seed { .. }) => unreachable!(),
+        Ok(Command::Fetch { .. }) => unreachable!(),
+        Ok(Command::Check { .. }) => unreachable!(),
+        Ok(Command::Export { .. }) => unreachable!(),
+        Ok(Command::Replay) => unreachable!(),
+        Ok(Command::Rehearse { .. }) => unreachable!(),
+        Err(usage) => refuse(usage, sink).number(),
     }
 }

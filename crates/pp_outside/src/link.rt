@@ -12,6 +12,18 @@ pub enum Address {
     V6([u8; 16], u16),
 }
 
+/// The IPv4 address of zeros with port 0, which is no peer's.
+impl Default for Address {
+    ghost use Rattle.std.specs.Prelude.{[], ◌∷◌};
+    ghost use Rattle.pp_outside.specs.declared.link.Address.TheVariants.{V4};
+
+    ghost is_default = { λ address. address ≡ V4 (0 ∷ 0 ∷ 0 ∷ 0 ∷ []) 0 };
+
+    fn default() -> Address {
+        Address::V4([0; 4], 0)
+    }
+}
+
 /// What one wait brought: a datagram of `len` bytes, or none. `at` is the moment, in microseconds.
 #[derive(Clone, Copy, Debug, PartialEq, Eq)]
 pub enum Event {

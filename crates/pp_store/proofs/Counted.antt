@@ -1,12 +1,12 @@
 -- An import, once the disk's length was found to be 0.
 use Rattle.std.proofs.Common.{◌≡◌, ℕ, ◌<◌, List, length, Result, Ok, Err, sym, ◌∙◌, ap, subst, arith}
 use Rattle.pp_terms.specs.Descriptor.{Descriptor}
-use Rattle.pp_terms.specs.Disk.{DiskState, History, IsKnown, DoesLen}
+use Rattle.pp_terms.specs.Disk.{DiskState, History, IsKnown, DoesLen, moment_of}
 use Rattle.pp_terms.specs.Stream.{SourceState}
 use Rattle.pp_terms.proofs.Knowing.{known_on}
 use Rattle.pp_store.specs.declared.importing.ImportFault.{ImportFault}
 use Rattle.pp_store.specs.declared.importing.ImportFault.TheVariants.{NotEmpty, ContentSize, Source, Disk}
-use Rattle.pp_store.specs.Import.{HasAnswer, LeavesWholeStores}
+use Rattle.pp_store.specs.Import.{IsUnsynced, HasAnswer, LeavesWholeStores}
 
 module _ {E : Type 0} (chunk n : ℕ) (source source' : SourceState) (old mid new : DiskState) (counts : DoesLen {E = E} old (Ok n) mid) where
   known_mid : IsKnown old → IsKnown mid
@@ -14,6 +14,12 @@ module _ {E : Type 0} (chunk n : ℕ) (source source' : SourceState) (old mid ne
 
   same_reads : mid.history.reads ≡ old.history.reads
   same_reads = ap (λ (h : History). h.reads) counts.same
+
+  counted_left : IsUnsynced mid new → IsUnsynced old new
+  counted_left left = record {
+    moment = λ known. left.moment (known_mid known) ∙ ap (λ (h : History). moment_of h) counts.same;
+    no_store = λ known. left.no_store (known_mid known);
+  }
 
   pub counted_answer : (result : Result Descriptor ImportFault) → HasAnswer chunk source source' mid new result → HasAnswer chunk source source' old new result
   counted_answer (Ok d) a = record {
@@ -31,12 +37,12 @@ module _ {E : Type 0} (chunk n : ℕ) (source source' : SourceState) (old mid ne
     empty = λ known. sym same_reads ∙ a.empty (known_mid known);
     either = a.either;
     counted = a.counted;
-    unwritten = a.unwritten ∙ counts.same;
+    left = counted_left a.left;
   }
   counted_answer (Err Source) a = record {
     empty = λ known. sym same_reads ∙ a.empty (known_mid known);
     risen = a.risen;
-    unwritten = a.unwritten ∙ counts.same;
+    left = counted_left a.left;
   }
   counted_answer (Err Disk) a = record {
     risen = λ below. let r : mid.faults < new.faults = a.risen below in omega (arith, counts.call.cause.later, r);

@@ -1,7 +1,12 @@
 pub mod Fillings
-pub mod OneChunk
-pub mod Staging
 pub mod HeaderBytes
+pub mod Writings
+pub mod Pieces
+pub mod Carrying
+pub mod Tails
+pub mod Layering
+pub mod Nexts
+pub mod Sealing
 pub mod Steps
-pub mod Stored
+pub mod Ends
 pub mod Counted

@@ -8,7 +8,8 @@ use pp_outside::{Source, SourceFault};
 pub(crate) fn fill<S: Source>(source: &mut S, buffer: &mut [u8]) -> Result<usize, SourceFault>
     ensures within { IfOk result (λ n. n ≤ length buffer.new) }
     ensures filled { (content : List ℕ) → (S.state source.old).left ≡ Some content
-        → IfOk result (λ n. (n ≡ min (length content) (length buffer.new)) × (take n buffer.new ≡ take n content)) }
+        → IfOk result (λ n. (n ≡ min (length content) (length buffer.new)) × (take n buffer.new ≡ take n content)
+        × ((S.state source.new).left ≡ Some (drop n content))) }
     // It takes no more than the buffer holds, refused or not.
     ensures taken { (content : List ℕ) → (S.state source.old).left ≡ Some content
         → ((n : ℕ) × (n ≤ length buffer.new) × ((S.state source.new).left ≡ Some (drop n content))) }

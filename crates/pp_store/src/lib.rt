@@ -3,7 +3,9 @@
 
 mod durable;
 mod filling;
+mod growing;
 mod header;
 mod importing;
+mod leaves;
 
 pub use importing::{ImportFault, import};

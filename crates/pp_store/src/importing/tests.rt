@@ -1,6 +1,7 @@
 // Imports at chunks of 1,024 bytes.
 use super::*;
-use pp_outside::{Call, MemoryDisk, MemorySource};
+use pp_outside::{Call, DiskFault, MemoryDisk, MemorySource};
+use pp_tree::leaf;
 use std::test::Fail;
 
 // The digest of `abc` is that of FIPS 180-4's examples.
@@ -98,28 +99,30 @@ fn abc_becomes_a_store(rt: HostRuntime) -> Result<(), Fail> {
 }
 
 #[test]
-fn a_content_has_one_chunk(rt: HostRuntime) -> Result<(), Fail> {
-    let bytes = [7; 5000];
-    let cases = [
-        (&bytes[..0], Some(ImportFault::ContentSize { count: 0 }), 0),
-        (&bytes[..1024], None, 64 + 1024),
-        (
-            &bytes[..1025],
-            Some(ImportFault::ContentSize { count: 1025 }),
-            0,
-        ),
-        (
-            &bytes[..],
-            Some(ImportFault::ContentSize { count: 1025 }),
-            0,
-        ),
-    ];
-    for (content, fault, left) in cases {
-        let mut disk = MemoryDisk::new(rt.alloc(), &[])?;
-        let answer = import_from(&mut MemorySource::new(content), &mut disk);
-        assert_eq!(rt; answer.err(), fault, "at {} bytes", content.len());
-        assert_eq!(rt; disk.bytes().len(), left, "at {} bytes", content.len());
+fn an_empty_content_is_none(rt: HostRuntime) -> Result<(), Fail> {
+    let mut disk = MemoryDisk::new(rt.alloc(), &[])?;
+    let answer = import_from(&mut MemorySource::new(&[]), &mut disk);
+    assert_eq!(rt; answer, Err(ImportFault::ContentSize { count: 0 }));
+    assert_eq!(rt; disk.bytes().len(), 0);
+    Ok(())
+}
+
+// 7,000 bytes: 5, 12, 19 .., with a step more at each 256th. The store and its digest were made elsewhere.
+#[test]
+fn seven_chunks_become_a_store(rt: HostRuntime) -> Result<(), Fail> {
+    let mut content = [0u8; 7000];
+    for (j, byte) in content.iter_mut().enumerate() {
+        *byte = ((5 + 7 * j + j / 256 + j / 65_536) % 256) as u8;
     }
+    let mut disk = MemoryDisk::new(rt.alloc(), &[])?;
+    let _ = import_from(&mut MemorySource::new(&content), &mut disk)?;
+    assert_eq!(rt; disk.bytes().len(), 7680);
+    let want = Digest::new([
+        0x39, 0x36, 0xda, 0x5c, 0x26, 0xee, 0xfa, 0x83, 0x08, 0xed, 0x59, 0xff, 0x7e, 0x01, 0x23,
+        0x7b, 0xf5, 0x48, 0x18, 0x05, 0xcc, 0x2f, 0x0e, 0x02, 0xc2, 0x3f, 0xb5, 0x0f, 0x20, 0xf8,
+        0x25, 0x68,
+    ]);
+    assert_eq!(rt; leaf(disk.bytes()), want);
     Ok(())
 }
 

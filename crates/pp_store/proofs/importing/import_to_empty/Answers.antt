@@ -1,19 +1,50 @@
-use Rattle.std.proofs.Common.{ℕ, ◌+◌, ◌≤◌, List, arith, rules, subst}
-use Rattle.pp_store.specs.Import.{LeavesWholeStores}
-use Rattle.pp_store.proofs.Stored.{chunk_bound, room_length, all_read, chunk_answer}
+use Rattle.std.proofs.Common.{inl, inr, arith, ap, ◌+◌, ◌<◌, refl, ℕ}
+use Rattle.pp_store.specs.declared.importing.ImportFault.TheVariants.{Source}
+use Rattle.pp_store.proofs.Ends.{import_fault, import_none, import_done, counted_none, counted_over, read_whole, reads_some, partial_none, takes_more}
 use Rattle.pp_store.proofs.importing.import_to_empty.Goals as goal
 
-pub slice_bounds-room-end : goal.slice_bounds-room-end
-slice_bounds-room-end g c = let bound : c.args.chunk + 1 ≤ 8193 = omega (arith, chunk_bound c.args.chunk c.requires.size) in search rules
+pub returns-in-Ok-true : goal.returns-in-Ok-true
+returns-in-Ok-true g c =
+    let old = g.S.Source.state c.args.source.now in
+    let mid = g.S.Source.state c.store_chunks.new.source in
+    let new = g.S.Source.state c.is_over.new.source in
+    let full = c.in-Ok-true.ensures.full c.in-Ok-true.field-0-test in
+    import_none c.args.chunk old new _ _ c.requires.empty c.in-Ok.ensures.disk
+    (takes_more old mid new c.in-Ok.size 1 _ (omega (arith, c.in-Ok.ensures.most)) (reads_some c.args.chunk old mid c.in-Ok.size c.in-Ok.ensures.read) c.in-Ok-true.ensures.takes)
+    (omega (arith, c.in-Ok.ensures.source, c.in-Ok-true.ensures.cause.later))
+    (c.in-Ok.size + 1) (inr (ap (λ (n : ℕ). n + 1) full))
+    (counted_over c.args.chunk old mid c.in-Ok.size c.in-Ok-true.field-0 c.in-Ok-true.field-0-test c.in-Ok.ensures.read c.in-Ok-true.ensures.over)
 
-pub returns-in-Ok-clause-answer : goal.returns-in-Ok-clause-answer
-returns-in-Ok-clause-answer g c =
-    chunk_answer c.args.chunk _ _ _ _ _ c.requires.empty
-    (λ content told. let read = c.in-Ok.ensures.filled content told in all_read c.args.chunk c.in-Ok.count c.fill.new.buffer content c.if-count-gt0.true c.if-count-chunk.true (room_length c.args.chunk _ _ c.requires.size c.fill.auto.buffer c.told-buffer) read.0 read.1)
-    c.store_chunk.result c.store_chunk.ensures.described c.store_chunk.ensures.stored c.store_chunk.ensures.fault
+pub returns-in-Ok-false : goal.returns-in-Ok-false
+returns-in-Ok-false g c =
+    let old = g.S.Source.state c.args.source.now in
+    let mid = g.S.Source.state c.store_chunks.new.source in
+    let new = g.S.Source.state c.is_over.new.source in
+    import_none c.args.chunk old new _ _ c.requires.empty c.in-Ok.ensures.disk
+    (takes_more old mid new c.in-Ok.size 1 _ (omega (arith, c.in-Ok.ensures.most)) (reads_some c.args.chunk old mid c.in-Ok.size c.in-Ok.ensures.read) c.in-Ok-false.ensures.takes)
+    (omega (arith, c.in-Ok.ensures.source, c.in-Ok-false.ensures.cause.later))
+    0 (inl refl)
+    (counted_none c.args.chunk old mid c.in-Ok.size c.requires.size c.if-size-eq0.true c.in-Ok.ensures.read)
 
-pub returns-in-Ok-clause-whole : goal.returns-in-Ok-clause-whole
-returns-in-Ok-clause-whole g c known content told =
-    let read = c.in-Ok.ensures.filled content told in
-    let same = all_read c.args.chunk c.in-Ok.count c.fill.new.buffer content c.if-count-gt0.true c.if-count-chunk.true (room_length c.args.chunk _ _ c.requires.size c.fill.auto.buffer c.told-buffer) read.0 read.1 in
-    subst (λ (b : List ℕ). LeavesWholeStores c.args.chunk b (g.D.Disk.state c.args.disk.now).history (g.D.Disk.state c.store_chunk.new.disk).history) same.0 (c.store_chunk.ensures.whole known)
+pub returns-in-Ok-false-2 : goal.returns-in-Ok-false-2
+returns-in-Ok-false-2 g c =
+    let old = g.S.Source.state c.args.source.now in
+    let mid = g.S.Source.state c.store_chunks.new.source in
+    let new = g.S.Source.state c.is_over.new.source in
+    import_done c.args.chunk old new (g.D.Disk.state c.args.disk.now) (g.D.Disk.state c.store_chunks.new.disk) (g.D.Disk.state c.finish_store.new.disk)
+    c.in-Ok.size c.store_chunks.new.tree.count c.store_chunks.new.tree.peaks c.requires.size c.if-size-eq0.false c.in-Ok.ensures.most c.requires.empty c.in-Ok.ensures.disk
+    (read_whole c.args.chunk old mid c.in-Ok.size c.in-Ok-false.field-0 c.in-Ok-false.field-0-test c.in-Ok.ensures.read c.in-Ok-false.ensures.over)
+    (λ content told fits. c.in-Ok.ensures.put content told (partial_none c.args.chunk content c.new-tree.result.peaks (g.D.Disk.state c.args.disk.now) fits c.requires.empty))
+    c.finish_store.result c.finish_store.ensures.described c.finish_store.ensures.stored c.finish_store.ensures.left c.finish_store.ensures.fault c.finish_store.ensures.disk
+    (takes_more old mid new c.in-Ok.size 1 _ (omega (arith, c.in-Ok.ensures.most)) (reads_some c.args.chunk old mid c.in-Ok.size c.in-Ok.ensures.read) c.in-Ok-false.ensures.takes)
+    (omega (arith, c.in-Ok.ensures.source, c.in-Ok-false.ensures.cause.later))
+
+pub returns-in-Err-is_over : goal.returns-in-Err-is_over
+returns-in-Err-is_over g c =
+    let old = g.S.Source.state c.args.source.now in
+    let mid = g.S.Source.state c.store_chunks.new.source in
+    let new = g.S.Source.state c.is_over.new.source in
+    import_fault c.args.chunk old new _ _ c.requires.empty c.in-Ok.ensures.disk
+    (takes_more old mid new c.in-Ok.size 1 _ (omega (arith, c.in-Ok.ensures.most)) (reads_some c.args.chunk old mid c.in-Ok.size c.in-Ok.ensures.read) c.in-Err-is_over.ensures.takes)
+    (omega (arith, c.in-Ok.ensures.source, c.in-Err-is_over.ensures.cause.later))
+    Source (λ below. let r : mid.faults < new.faults = c.in-Err-is_over.ensures.cause.risen refl below in omega (arith, c.in-Ok.ensures.source))

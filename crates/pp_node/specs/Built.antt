@@ -1,0 +1,8 @@
+-- The commands that are built.
+use Rattle.std.specs.Prelude.{List, [], ◌∷◌}
+use Rattle.pp_terms.specs.CommandLine.{Shape, import_shape}
+
+abbrev pub built : List Shape
+built =
+    import_shape ∷
+    []

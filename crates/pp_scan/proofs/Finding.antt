@@ -1,0 +1,149 @@
+-- What a scan finds, step by step.
+use Rattle.std.proofs.Common.{◌≡◌, ◌⊎◌, inl, inr, ⊎_elim, ℕ, ◌+◌, ◌-◌, ◌*◌, ◌<◌, ◌≤◌, min, Bool, true, false, not, List, [], length, get_or, replicate, Result, Ok, Err, OnOk, refl, sym, ◌∙◌, ap, subst, arith}
+use Rattle.std.specs.Prelude.{is_some}
+use Rattle.std.proofs.lemmas.Bool.{false≢true}
+use Rattle.std.proofs.lemmas.List.{length-replicate}
+use Rattle.pp_terms.specs.Count.{HasRisen}
+use Rattle.pp_terms.specs.Content.{chunk_length}
+use Rattle.pp_terms.specs.Book.{LookUp}
+use Rattle.pp_terms.specs.Descriptor.{Descriptor, chunks_of, IsDescriptor}
+use Rattle.pp_terms.specs.Image.{holds, has_peaks}
+use Rattle.pp_terms.specs.Disk.{DiskState, History, IsKnown, DoesSync}
+use Rattle.pp_terms.proofs.Knowing.{known_on}
+use Rattle.pp_tree.proofs.Sizes.{chunk_size_range, chunk_begins}
+use Rattle.pp_tree.specs.Book.{HasRootAlone}
+use Rattle.pp_scan.specs.declared.scanning.ScanFault.{ScanFault}
+use Rattle.pp_scan.specs.declared.scanning.ScanFault.TheVariants.{NotAStore, Disk, Memory}
+use Rattle.pp_scan.specs.Look.{KeepsAll, OnlyReads, OnlySyncs, synced}
+use Rattle.pp_scan.specs.Header.{HasHeader}
+use Rattle.pp_scan.specs.Layers.{HasKnown, HasOnlyKnown}
+use Rattle.pp_scan.specs.Holding.{is_there}
+use Rattle.pp_scan.specs.Scan.{IsScanned, IsOther, HasFound}
+use Rattle.pp_scan.proofs.Reading.{known_after}
+use Rattle.pp_scan.proofs.Holds.{held_there, none_held, empty_none, empty_known, none_in}
+
+-- a chunk has a byte
+pub some_bytes : (d : Descriptor) (i : ℕ) → IsDescriptor d → i < chunks_of d → 0 < chunk_length d.size d.chunk i
+some_bytes d i valid lt =
+    let range = chunk_size_range d.chunk valid.chunk_size in
+    let begins = chunk_begins d.size d.chunk i (omega arith) lt in
+    omega arith
+
+-- the same, seen from before calls that changed nothing that is read
+module _ (d : Descriptor) (old mid new : DiskState) (book : LookUp) (known_mid : IsKnown old → IsKnown mid)
+    (same : IsKnown old → mid.history.reads ≡ old.history.reads) (later : old.faults ≤ mid.faults) where
+  scanned_from : (set : List Bool) → IsScanned d mid book set → IsScanned d old book set
+  scanned_from set is = record {
+    count = is.count;
+    leaf = is.leaf;
+    peaks = is.peaks;
+    begins = λ known. subst (λ (r : List ℕ). (r ≡ []) ⊎ HasHeader d r) (same known) (is.begins (known_mid known));
+    held = λ known i lt. is.held (known_mid known) i lt ∙ ap (λ (r : List ℕ). holds d r i) (same known);
+    known = λ known. subst (λ (r : List ℕ). HasKnown d r book) (same known) (is.known (known_mid known));
+  }
+
+  pub found_from : (unread : Type 0) (result : Result (List Bool) ScanFault) → HasFound ⊥ d mid new book result → HasFound unread d old new book result
+  found_from unread (Ok set) is = scanned_from set is
+  found_from unread (Err (NotAStore at found want)) is = record {
+    within = is.within;
+    differ = is.differ;
+    some = λ known. subst (λ (r : List ℕ). 0 < length r) (same known) (is.some (known_mid known));
+    first = λ known. let one = is.first (known_mid known) in record {
+      within = one.within;
+      found_is = one.found_is ∙ ap (λ (r : List ℕ). get_or r at 0) (same known);
+      want_is = one.want_is;
+      differ = one.differ;
+      first = λ k lt. ap (λ (r : List ℕ). get_or r k 0) (sym (same known)) ∙ one.first k lt;
+    };
+  }
+  found_from unread (Err Disk) risen = λ below. let r : mid.faults < new.faults = risen below in omega arith
+  found_from unread (Err Memory) none = absurd none
+
+  pub only_from : (IsKnown mid → HasOnlyKnown d mid.history.reads book) → IsKnown old → HasOnlyKnown d old.history.reads book
+  only_from only known = subst (λ (r : List ℕ). HasOnlyKnown d r book) (same known) (only (known_mid known))
+
+pub found_after : (d : Descriptor) (old mid new : DiskState) (book : LookUp) (result : Result (List Bool) ScanFault) → KeepsAll old mid
+    → HasFound ⊥ d mid new book result → HasFound ⊥ d old new book result
+found_after d old mid new book result keeps found =
+    found_from d old mid new book (known_after old mid keeps) (λ known. ap (λ (h : History). h.reads) keeps.same) keeps.faults ⊥ result found
+
+pub only_after : (d : Descriptor) (old mid : DiskState) (book : LookUp) → KeepsAll old mid
+    → (IsKnown mid → HasOnlyKnown d mid.history.reads book) → IsKnown old → HasOnlyKnown d old.history.reads book
+only_after d old mid book keeps only known = subst (λ (h : History). HasOnlyKnown d h.reads book) keeps.same (only (known_after old mid keeps known))
+
+-- a sync, and then what follows
+module _ {E : Type 0} (d : Descriptor) (old mid new : DiskState) (book : LookUp) (u : Unit {0}) (syncs : DoesSync {E = E} old (Ok u) mid) where
+  known_synced : IsKnown old → IsKnown mid
+  known_synced = known_on old mid syncs.call.tells syncs.call.honest
+
+  reads_synced : IsKnown old → mid.history.reads ≡ old.history.reads
+  reads_synced known = ap (λ (h : History). h.reads) (syncs.done known)
+
+  pub found_synced : (unread : Type 0) (result : Result (List Bool) ScanFault) → HasFound ⊥ d mid new book result → HasFound unread d old new book result
+  found_synced unread result found = found_from d old mid new book known_synced reads_synced syncs.call.cause.later unread result found
+
+  pub only_synced : (IsKnown mid → HasOnlyKnown d mid.history.reads book) → IsKnown old → HasOnlyKnown d old.history.reads book
+  only_synced only = only_from d old mid new book known_synced reads_synced syncs.call.cause.later only
+
+  pub history_synced : KeepsAll mid new → IsKnown old → new.history ≡ synced old.history
+  history_synced keeps known = keeps.same ∙ syncs.done known
+
+  pub looks_synced : KeepsAll mid new → OnlySyncs old new
+  looks_synced keeps = record {
+    tells = keeps.tells ∙ syncs.call.tells;
+    honest = keeps.honest ∙ syncs.call.honest;
+    later = let same = ap (λ (h : History). length h.past) keeps.same in omega (arith, syncs.call.later, same);
+    either = λ known. inr (history_synced keeps known);
+    faults = omega (arith, keeps.faults, syncs.call.cause.later);
+    hard = omega (arith, keeps.hard, syncs.hard_cause.later);
+  }
+
+-- an empty file
+pub found_empty : (d : Descriptor) (disk : DiskState) (book : LookUp) (set : List Bool) → IsDescriptor d → HasRootAlone d book → set ≡ replicate (chunks_of d) false
+    → (IsKnown disk → disk.history.reads ≡ []) → IsScanned d disk book set
+found_empty d disk book set valid alone none empty =
+    let out : (i : ℕ) → get_or set i false ≡ false = λ i. ap (λ (s : List Bool). get_or s i false) none ∙ none_in (chunks_of d) i in
+    record {
+      count = ap (λ (s : List Bool). length s) none ∙ length-replicate (chunks_of d) false;
+      leaf = λ i is. absurd (false≢true (sym (out i) ∙ is));
+      peaks = λ i is. absurd (false≢true (sym (out i) ∙ is));
+      begins = λ known. inl (empty known);
+      held = λ known i lt. out i ∙ sym (ap (λ (r : List ℕ). holds d r i) (empty known) ∙ empty_none d i (some_bytes d i valid lt));
+      known = λ known. subst (λ (r : List ℕ). HasKnown d r book) (sym (empty known)) (empty_known d book alone);
+    }
+
+-- a file in which some peak isn't known
+pub found_none : (d : Descriptor) (disk : DiskState) (book : LookUp) (set : List Bool) → set ≡ replicate (chunks_of d) false
+    → has_peaks book (chunks_of d) 21 ≡ false → (IsKnown disk → HasHeader d disk.history.reads) → (IsKnown disk → HasKnown d disk.history.reads book)
+    → IsScanned d disk book set
+found_none d disk book set none lacks begins known_is =
+    let out : (i : ℕ) → get_or set i false ≡ false = λ i. ap (λ (s : List Bool). get_or s i false) none ∙ none_in (chunks_of d) i in
+    record {
+      count = ap (λ (s : List Bool). length s) none ∙ length-replicate (chunks_of d) false;
+      leaf = λ i is. absurd (false≢true (sym (out i) ∙ is));
+      peaks = λ i is. absurd (false≢true (sym (out i) ∙ is));
+      begins = λ known. inr (begins known);
+      held = λ known i lt. out i ∙ sym (none_held d disk.history.reads book i (known_is known) lacks);
+      known = known_is;
+    }
+
+-- and one in which all peaks are
+pub found_held : (d : Descriptor) (disk : DiskState) (book : LookUp) (set set' : List Bool) → set ≡ replicate (chunks_of d) false → length set' ≡ length set
+    → has_peaks book (chunks_of d) 21 ≡ true → (IsKnown disk → HasHeader d disk.history.reads) → (IsKnown disk → HasKnown d disk.history.reads book)
+    → ((i : ℕ) → get_or set' i false ≡ true → is_some (book 0 i) ≡ true)
+    → (IsKnown disk → (i : ℕ) → i < chunks_of d → get_or set' i false ≡ is_there d disk.history.reads book i)
+    → IsScanned d disk book set'
+found_held d disk book set set' none count all begins known_is leaf held = record {
+  count = count ∙ ap (λ (s : List Bool). length s) none ∙ length-replicate (chunks_of d) false;
+  leaf = leaf;
+  peaks = λ i is. all;
+  begins = λ known. inr (begins known);
+  held = λ known i lt. held known i lt ∙ held_there d disk.history.reads book i (known_is known) all;
+  known = known_is;
+}
+
+pub not_false : (b : Bool) → not b ≡ true → b ≡ false
+not_false b e = elim b as (λ v. not v ≡ true → v ≡ false) [ true ↦ λ h. absurd cc | false ↦ λ h. refl ] e
+
+pub not_true : (b : Bool) → not b ≡ false → b ≡ true
+not_true b e = elim b as (λ v. not v ≡ false → v ≡ true) [ true ↦ λ h. refl | false ↦ λ h. absurd cc ] e

@@ -1,0 +1,106 @@
+-- The chunks that a file holds, by its book.
+use Rattle.std.proofs.Common.{◌≡◌, ◌⊎◌, inl, inr, ⊎_elim, ℕ, zero, suc, ◌+◌, ◌-◌, ◌*◌, ◌/◌, ◌%◌, ◌<◌, ◌≤◌, ◌==◌, ◌||◌, nat_eq, nat_le, Bool, true, false, cond, Option, Some, None, List, [], length, get_or, take, drop, replicate, refl, sym, ◌∙◌, ap, subst, arith}
+use Rattle.std.specs.Prelude.{◌&&◌, is_some}
+use Rattle.std.specs.Cmp.Lexicographic.{pointwise}
+use Rattle.std.proofs.lemmas.Bool.{cases_lt}
+use Rattle.std.proofs.lemmas.Bool.Decides.{nat_tests}
+use Rattle.std.proofs.lemmas.List.{length-take, length-drop, get_or-replicate, get_or_past, length-replicate}
+use Rattle.sha2.specs.Sha256.{sha256}
+use Rattle.pp_terms.specs.Content.{chunk_length}
+use Rattle.pp_terms.specs.Book.{LookUp}
+use Rattle.pp_terms.specs.Descriptor.{Descriptor, chunks_of, height_of}
+use Rattle.pp_terms.specs.Image.{slice, child, known, known_below, matches, has_peaks, holds}
+use Rattle.pp_terms.specs.Store.{chunk_place, pair_place}
+use Rattle.pp_tree.specs.Book.{HasRootAlone}
+use Rattle.pp_scan.specs.Layers.{HasKnown, HasOnlyKnown}
+use Rattle.pp_scan.specs.Holding.{is_there}
+use Rattle.pp_scan.proofs.Reading.{read_slice}
+use Rattle.pp_scan.proofs.Children.{child_short}
+
+-- the bytes that were read have the digest that the book has
+pub there_read : (d : Descriptor) (reads : List ℕ) (book : LookUp) (i place size : ℕ) (bytes digest : List ℕ) (b : Bool)
+    → place ≡ chunk_place d.chunk i → size ≡ chunk_length d.size d.chunk i → bytes ≡ slice reads place size → length bytes ≡ size
+    → book 0 i ≡ Some digest → b ≡ pointwise nat_eq digest (sha256 bytes) → b ≡ is_there d reads book i
+there_read d reads book i place size bytes digest b place_is size_is bytes_is long entry test =
+    let want = chunk_length d.size d.chunk i in
+    let at : bytes ≡ slice reads (chunk_place d.chunk i) want = bytes_is ∙ (λ j. slice reads (place_is j) (size_is j)) in
+    let long' : length (slice reads (chunk_place d.chunk i) want) ≡ want = ap (λ (x : List ℕ). length x) (sym at) ∙ long ∙ size_is in
+    let whole : (length (slice reads (chunk_place d.chunk i) want) == want) ≡ true = grind (arith, nat_tests) in
+    let same : matches (book 0 i) (sha256 (slice reads (chunk_place d.chunk i) want)) ≡ pointwise nat_eq digest (sha256 bytes) =
+    ap (λ (o : Option (List ℕ)). matches o (sha256 (slice reads (chunk_place d.chunk i) want))) entry ∙ ap (λ (x : List ℕ). pointwise nat_eq digest (sha256 x)) (sym at) in
+    test ∙ sym same ∙ sym (ap (λ (t : Bool). t && matches (book 0 i) (sha256 (slice reads (chunk_place d.chunk i) want))) whole)
+
+-- where all nodes are known, a chunk that is there is held if all peaks are known
+pub held_there : (d : Descriptor) (reads : List ℕ) (book : LookUp) (i : ℕ) → HasKnown d reads book → has_peaks book (chunks_of d) 21 ≡ true
+    → is_there d reads book i ≡ holds d reads i
+held_there d reads book i known_is peaks =
+    let same : book ≡ known d reads = λ t k j. known_is k j t in
+    let peaks' : has_peaks (known d reads) (chunks_of d) 21 ≡ true = ap (λ (b : LookUp). has_peaks b (chunks_of d) 21) (sym same) ∙ peaks in
+    let bytes = slice reads (chunk_place d.chunk i) (chunk_length d.size d.chunk i) in
+    ap (λ (b : LookUp). is_there d reads b i) same
+    ∙ sym (ap (λ (t : Bool). t && (length bytes == chunk_length d.size d.chunk i) && matches (known d reads 0 i) (sha256 bytes)) peaks')
+
+pub none_held : (d : Descriptor) (reads : List ℕ) (book : LookUp) (i : ℕ) → HasKnown d reads book → has_peaks book (chunks_of d) 21 ≡ false
+    → holds d reads i ≡ false
+none_held d reads book i known_is peaks =
+    let same : book ≡ known d reads = λ t k j. known_is k j t in
+    let peaks' : has_peaks (known d reads) (chunks_of d) 21 ≡ false = ap (λ (b : LookUp). has_peaks b (chunks_of d) 21) (sym same) ∙ peaks in
+    let bytes = slice reads (chunk_place d.chunk i) (chunk_length d.size d.chunk i) in
+    ap (λ (t : Bool). t && (length bytes == chunk_length d.size d.chunk i) && matches (known d reads 0 i) (sha256 bytes)) peaks'
+
+-- an empty file
+pub empty_none : (d : Descriptor) (i : ℕ) → 0 < chunk_length d.size d.chunk i → holds d [] i ≡ false
+empty_none d i some =
+    let bytes = slice [] (chunk_place d.chunk i) (chunk_length d.size d.chunk i) in
+    let none : length bytes ≡ 0 = omega (arith, length-take {A = ℕ} (chunk_length d.size d.chunk i) (drop (chunk_place d.chunk i) []), length-drop {A = ℕ} (chunk_place d.chunk i) []) in
+    let test : (length bytes == chunk_length d.size d.chunk i) ≡ false = grind (arith, nat_tests) in
+    ap (λ (t : Bool). has_peaks (known d []) (chunks_of d) 21 && t && matches (known d [] 0 i) (sha256 bytes)) test
+    ∙ (elim (has_peaks (known d []) (chunks_of d) 21) as (λ p. (p && false && matches (known d [] 0 i) (sha256 bytes)) ≡ false) [ true ↦ refl | false ↦ refl ])
+
+empty_below : (d : Descriptor) (m j : ℕ) → known_below d [] (suc m) j ≡ None
+empty_below d m j = child_short [] (pair_place d.chunk (height_of d - suc m) (j / 2)) j (known_below d [] m (j / 2)) (omega arith)
+
+pub empty_known : (d : Descriptor) (book : LookUp) → HasRootAlone d book → HasKnown d [] book
+empty_known d book alone k j = ⊎_elim
+    (λ above. let test : nat_le k (height_of d) ≡ false = grind (arith, nat_tests) in
+    alone.others k j (λ same. omega (arith, same.0)) ∙ sym (ap (λ (b : Bool). cond {A = Option (List ℕ)} b (known_below d [] (height_of d - k) j) None) test))
+    (λ below. let test : nat_le k (height_of d) ≡ true = grind (arith, nat_tests) in
+    ⊎_elim
+    (λ inner. let e : height_of d - k ≡ suc (height_of d - k - 1) = omega arith in
+    alone.others k j (λ same. omega (arith, same.0)) ∙ sym (ap (λ (b : Bool). cond {A = Option (List ℕ)} b (known_below d [] (height_of d - k) j) None) test ∙ ap (λ (m : ℕ). known_below d [] m j) e ∙ empty_below d (height_of d - k - 1) j))
+    (λ top. let e : height_of d - k ≡ 0 = omega arith in let at : k ≡ height_of d = omega arith in
+    ⊎_elim
+    (λ other. let differ : (j == 0) ≡ false = grind (arith, nat_tests) in
+    alone.others k j (λ same. omega (arith, same.1)) ∙ sym (ap (λ (b : Bool). cond {A = Option (List ℕ)} b (known_below d [] (height_of d - k) j) None) test ∙ ap (λ (m : ℕ). known_below d [] m j) e ∙ ap (λ (b : Bool). cond {A = Option (List ℕ)} b (Some d.root) None) differ))
+    (λ first. let zero_is : j ≡ 0 = omega arith in let same : (j == 0) ≡ true = grind (arith, nat_tests) in
+    ap (λ (n : ℕ). book n j) at ∙ ap (λ (n : ℕ). book (height_of d) n) zero_is ∙ alone.root_is
+    ∙ sym (ap (λ (b : Bool). cond {A = Option (List ℕ)} b (known_below d [] (height_of d - k) j) None) test ∙ ap (λ (m : ℕ). known_below d [] m j) e ∙ ap (λ (b : Bool). cond {A = Option (List ℕ)} b (Some d.root) None) same))
+    (cases_lt 0 j))
+    (cases_lt k (height_of d)))
+    (cases_lt (height_of d) k)
+
+-- the root alone is known of any file
+pub root_known : (d : Descriptor) (reads : List ℕ) (book : LookUp) → HasRootAlone d book → HasOnlyKnown d reads book
+root_known d reads book alone k j digest at = ⊎_elim
+    (λ other. absurd (let none = alone.others k j (λ same. omega (arith, same.0)) in cc))
+    (λ top. let e : height_of d - k ≡ 0 = omega arith in
+    ⊎_elim
+    (λ past. ⊎_elim
+    (λ above. absurd (let none = alone.others k j (λ same. omega (arith, same.0)) in cc))
+    (λ here. absurd (let none = alone.others k j (λ same. omega (arith, same.1)) in cc))
+    (cases_lt (height_of d) k))
+    (λ first. ⊎_elim
+    (λ above. absurd (let none = alone.others k j (λ same. omega (arith, same.0)) in cc))
+    (λ below.
+    let at_top : k ≡ height_of d = omega arith in
+    let zero_is : j ≡ 0 = omega arith in
+    let test : nat_le k (height_of d) ≡ true = grind (arith, nat_tests) in
+    let same : (j == 0) ≡ true = grind (arith, nat_tests) in
+    ap (λ (b : Bool). cond {A = Option (List ℕ)} b (known_below d reads (height_of d - k) j) None) test ∙ ap (λ (m : ℕ). known_below d reads m j) e ∙ ap (λ (b : Bool). cond {A = Option (List ℕ)} b (Some d.root) None) same
+    ∙ sym alone.root_is ∙ ap (λ (n : ℕ). book (height_of d) n) (sym zero_is) ∙ ap (λ (n : ℕ). book n j) (sym at_top) ∙ at)
+    (cases_lt (height_of d) k))
+    (cases_lt 0 j))
+    (cases_lt k (height_of d))
+
+pub none_in : (n i : ℕ) → get_or (replicate n false) i false ≡ false
+none_in n i = ⊎_elim (λ lt. get_or-replicate n i false false lt) (λ ge. get_or_past (replicate n false) i false (let size : length (replicate n false) ≡ n = length-replicate n false in omega arith)) (cases_lt i n)

@@ -1,0 +1,6 @@
+pub mod HeaderBytes
+pub mod Reading
+pub mod Children
+pub mod Layering
+pub mod Holds
+pub mod Finding

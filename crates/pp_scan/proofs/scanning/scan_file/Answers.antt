@@ -1,0 +1,12 @@
+use Rattle.pp_tree.specs.Book.{entry}
+use Rattle.pp_scan.proofs.Finding.{found_after}
+use Rattle.pp_scan.proofs.Holds.{root_known}
+use Rattle.pp_scan.proofs.scanning.scan_file.Goals as goal
+
+pub returns-in-Ok-None-clause-found : goal.returns-in-Ok-None-clause-found
+returns-in-Ok-None-clause-found g c =
+    found_after c.args.descriptor.now (g.D.Disk.state c.args.disk.now) (g.D.Disk.state c.header_difference.new.disk) (g.D.Disk.state c.scan_tree.new.disk) (entry c.scan_tree.new.book)
+    c.scan_tree.result c.in-Ok-None.ensures.looks.keeps c.scan_tree.ensures.found
+
+pub returns-in-Ok-Some-clause-only : goal.returns-in-Ok-Some-clause-only
+returns-in-Ok-Some-clause-only g c known = root_known c.args.descriptor.now _ (entry c.args.book.now) c.requires.alone

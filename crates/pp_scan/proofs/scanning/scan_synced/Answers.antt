@@ -1,0 +1,19 @@
+use Rattle.std.proofs.Common.{sym, ◌∙◌}
+use Rattle.pp_tree.specs.Book.{entry}
+use Rattle.pp_scan.proofs.Reading.{len_keeps, no_bytes}
+use Rattle.pp_scan.proofs.Finding.{found_after, found_empty, only_after}
+use Rattle.pp_scan.proofs.scanning.scan_synced.Goals as goal
+
+pub returns-in-Ok-eq0-clause-found : goal.returns-in-Ok-eq0-clause-found
+returns-in-Ok-eq0-clause-found g c =
+    found_empty c.args.descriptor.now (g.D.Disk.state c.args.disk.now) (entry c.args.book.now) c.args.set c.requires.valid c.requires.alone c.requires.none
+    (λ known. no_bytes (g.D.Disk.state c.args.disk.now).history.reads (sym (c.in-Ok-eq0.ensures.counted known) ∙ c.in-Ok-eq0.field-0-test))
+
+pub returns-in-Ok-clause-found : goal.returns-in-Ok-clause-found
+returns-in-Ok-clause-found g c =
+    found_after c.args.descriptor.now (g.D.Disk.state c.args.disk.now) (g.D.Disk.state c.len.new.self) (g.D.Disk.state c.scan_file.new.disk) (entry c.scan_file.new.book)
+    c.scan_file.result (len_keeps _ _ _ c.len.ensures) c.scan_file.ensures.found
+
+pub returns-in-Ok-clause-only : goal.returns-in-Ok-clause-only
+returns-in-Ok-clause-only g c =
+    only_after c.args.descriptor.now (g.D.Disk.state c.args.disk.now) (g.D.Disk.state c.len.new.self) (entry c.scan_file.new.book) (len_keeps _ _ _ c.len.ensures) c.scan_file.ensures.only

@@ -1,0 +1,16 @@
+-- Whether a file begins with a descriptor's header.
+use Rattle.std.specs.Prelude.{◌≡◌, ℕ, ◌<◌, List, slice_index}
+use Rattle.pp_terms.specs.Descriptor.{Descriptor}
+use Rattle.pp_terms.specs.Store.{header}
+
+-- Its first 64 bytes, zeros past its end, are the header.
+abbrev pub HasHeader : Descriptor → List ℕ → Type 0
+HasHeader d reads = (k : ℕ) → k < 64 → slice_index reads k ≡ slice_index (header d) k
+
+-- This is the first of 64 bytes that differs from those that are wanted.
+pub record IsDifference (bytes wanted : List ℕ) (at found want : ℕ) : Type 0 where
+  pub within : at < 64
+  pub found_is : found ≡ slice_index bytes at
+  pub want_is : want ≡ slice_index wanted at
+  pub differ : found ≡ want → ⊥
+  pub first : (k : ℕ) → k < at → slice_index bytes k ≡ slice_index wanted k

@@ -1,0 +1,175 @@
+// A store is read from the root down.
+ghost use Rattle.std.specs.Prelude.{◌≡◌, ℕ, ◌<◌, false, length, replicate};
+ghost use Rattle.pp_terms.specs.Book.{IsRooted};
+ghost use Rattle.pp_terms.specs.Descriptor.{chunks_of, IsDescriptor};
+ghost use Rattle.pp_terms.specs.Disk.{IsKnown};
+ghost use Rattle.pp_tree.specs.Book.{entry, HasRootAlone};
+ghost use Rattle.pp_scan.specs.Look.{KeepsAll, OnlySyncs, synced};
+ghost use Rattle.pp_scan.specs.Header.{HasHeader};
+ghost use Rattle.pp_scan.specs.Layers.{HasKnown, HasOnlyKnown};
+ghost use Rattle.pp_scan.specs.Scan.{HasFound, OnRead};
+
+use crate::holding::hold_chunks;
+use crate::layers::know_nodes;
+use crate::layout::{Difference, header_difference};
+use pp_outside::Disk;
+use pp_tree::{Book, ChunkSet, Descriptor};
+use std::alloc::Global;
+use thiserror::Error;
+
+/// Why a store couldn't be scanned.
+#[derive(Clone, Copy, Debug, PartialEq, Eq, Error)]
+pub enum ScanFault {
+    /// The file isn't empty and is no store of this descriptor's: byte `at`, below 64, is the first that differs from the
+    /// header.
+    #[error("not a store: byte {at} is {found}, wanted {want}")]
+    NotAStore { at: u8, found: u8, want: u8 },
+    /// The disk refused a call.
+    #[error("the disk refused a call")]
+    Disk,
+    /// There was no memory for the set.
+    #[error("no memory")]
+    Memory,
+}
+
+/// Finds out which chunks a store holds, and fills the book with the nodes that it lets be known. The book is prepared and
+/// has the root alone. It takes its memory first, then syncs, so that what it reads is on the disk.
+///
+/// An empty file holds no chunk. The header, each pair that may be known and each chunk are read once.
+pub fn scan<D: Disk>(
+    alloc: Global,
+    descriptor: &Descriptor,
+    disk: &mut D,
+    book: &mut Book,
+) -> Result<ChunkSet, ScanFault>
+    requires alone { HasRootAlone descriptor.now (entry book.old) }
+    requires chunks { book.old.chunks ≡ chunks_of descriptor.now }
+
+    ensures found { HasFound ((D.state disk.new ≡ D.state disk.old) × (book.new ≡ book.old)) descriptor.now
+        (D.state disk.old) (D.state disk.new) (entry book.new) result }
+    // Afterwards what reads give is the one image.
+    ensures settled { IsKnown (D.state disk.old)
+        → OnRead result ((D.state disk.new).history ≡ synced (D.state disk.old).history) }
+    ensures looks { OnlySyncs (D.state disk.old) (D.state disk.new) }
+
+    ensures rooted { IsRooted descriptor.now (entry book.new) }
+    ensures only { IsKnown (D.state disk.old) → HasOnlyKnown descriptor.now (D.state disk.old).history.reads (entry book.new) }
+    ensures kept { book.new.chunks ≡ book.old.chunks }
+{
+    let set = match ChunkSet::none(alloc, descriptor.chunks()) {
+        Ok(set) => set,
+        Err(_) => return Err(ScanFault::Memory),
+    };
+    match disk.sync() {
+        Ok(()) => scan_synced(descriptor, disk, book, set),
+        Err(_) => Err(ScanFault::Disk),
+    }
+}
+
+fn scan_synced<D: Disk>(
+    descriptor: &Descriptor,
+    disk: &mut D,
+    book: &mut Book,
+    set: ChunkSet,
+) -> Result<ChunkSet, ScanFault>
+    requires valid { IsDescriptor descriptor.now }
+    requires alone { HasRootAlone descriptor.now (entry book.old) }
+    requires chunks { book.old.chunks ≡ chunks_of descriptor.now }
+    requires none { set ≡ replicate (chunks_of descriptor.now) false }
+
+    ensures found { HasFound ⊥ descriptor.now (D.state disk.old) (D.state disk.new) (entry book.new) result }
+    ensures looks { KeepsAll (D.state disk.old) (D.state disk.new) }
+    ensures rooted { IsRooted descriptor.now (entry book.new) }
+    ensures only { IsKnown (D.state disk.old) → HasOnlyKnown descriptor.now (D.state disk.old).history.reads (entry book.new) }
+    ensures kept { book.new.chunks ≡ book.old.chunks }
+{
+    match disk.len() {
+        Ok(0) => Ok(set),
+        Ok(len) => scan_file(descriptor, len, disk, book, set),
+        Err(_) => Err(ScanFault::Disk),
+    }
+}
+
+// The file isn't empty.
+fn scan_file<D: Disk>(
+    descriptor: &Descriptor,
+    len: u64,
+    disk: &mut D,
+    book: &mut Book,
+    set: ChunkSet,
+) -> Result<ChunkSet, ScanFault>
+    requires valid { IsDescriptor descriptor.now }
+    requires alone { HasRootAlone descriptor.now (entry book.old) }
+    requires chunks { book.old.chunks ≡ chunks_of descriptor.now }
+    requires none { set ≡ replicate (chunks_of descriptor.now) false }
+    requires counted { IsKnown (D.state disk.old) → len ≡ length (D.state disk.old).history.reads }
+    requires some { 0 < len }
+
+    ensures found { HasFound ⊥ descriptor.now (D.state disk.old) (D.state disk.new) (entry book.new) result }
+    ensures looks { KeepsAll (D.state disk.old) (D.state disk.new) }
+    ensures rooted { IsRooted descriptor.now (entry book.new) }
+    ensures only { IsKnown (D.state disk.old) → HasOnlyKnown descriptor.now (D.state disk.old).history.reads (entry book.new) }
+    ensures kept { book.new.chunks ≡ book.old.chunks }
+{
+    match header_difference(descriptor, disk) {
+        Ok(None) => scan_tree(descriptor, len, disk, book, set),
+        Ok(Some(Difference { at, found, want })) => Err(ScanFault::NotAStore { at, found, want }),
+        Err(_) => Err(ScanFault::Disk),
+    }
+}
+
+// The file begins with the header.
+fn scan_tree<D: Disk>(
+    descriptor: &Descriptor,
+    len: u64,
+    disk: &mut D,
+    book: &mut Book,
+    set: ChunkSet,
+) -> Result<ChunkSet, ScanFault>
+    requires valid { IsDescriptor descriptor.now }
+    requires alone { HasRootAlone descriptor.now (entry book.old) }
+    requires chunks { book.old.chunks ≡ chunks_of descriptor.now }
+    requires none { set ≡ replicate (chunks_of descriptor.now) false }
+    requires counted { IsKnown (D.state disk.old) → len ≡ length (D.state disk.old).history.reads }
+    requires begins { IsKnown (D.state disk.old) → HasHeader descriptor.now (D.state disk.old).history.reads }
+
+    ensures found { HasFound ⊥ descriptor.now (D.state disk.old) (D.state disk.new) (entry book.new) result }
+    ensures looks { KeepsAll (D.state disk.old) (D.state disk.new) }
+    ensures rooted { IsRooted descriptor.now (entry book.new) }
+    ensures only { IsKnown (D.state disk.old) → HasOnlyKnown descriptor.now (D.state disk.old).history.reads (entry book.new) }
+    ensures kept { book.new.chunks ≡ book.old.chunks }
+{
+    match know_nodes(descriptor, len, disk, book) {
+        Ok(()) => scan_chunks(descriptor, len, disk, book, set),
+        Err(_) => Err(ScanFault::Disk),
+    }
+}
+
+// The book has the known nodes.
+fn scan_chunks<D: Disk>(
+    descriptor: &Descriptor,
+    len: u64,
+    disk: &mut D,
+    book: &Book,
+    mut set: ChunkSet,
+) -> Result<ChunkSet, ScanFault>
+    requires chunks { book.now.chunks ≡ chunks_of descriptor.now }
+    requires none { set ≡ replicate (chunks_of descriptor.now) false }
+    requires counted { IsKnown (D.state disk.old) → len ≡ length (D.state disk.old).history.reads }
+    requires begins { IsKnown (D.state disk.old) → HasHeader descriptor.now (D.state disk.old).history.reads }
+    requires known { IsKnown (D.state disk.old) → HasKnown descriptor.now (D.state disk.old).history.reads (entry book.now) }
+
+    ensures found { HasFound ⊥ descriptor.now (D.state disk.old) (D.state disk.new) (entry book.now) result }
+    ensures looks { KeepsAll (D.state disk.old) (D.state disk.new) }
+{
+    if !book.has_peaks() {
+        return Ok(set);
+    }
+    match hold_chunks(descriptor, len, disk, book, &mut set) {
+        Ok(()) => Ok(set),
+        Err(_) => Err(ScanFault::Disk),
+    }
+}
+
+#[cfg(test)]
+mod tests;

@@ -1,0 +1,10 @@
+pub mod Numbers
+pub mod AddressTexts
+pub mod AddressParts
+pub mod SizeWords
+pub mod WordSteps
+pub mod Peers
+pub mod FaultLaws
+pub mod OneReading
+pub mod OneCommand
+pub mod WordExamples

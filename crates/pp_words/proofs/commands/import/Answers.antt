@@ -1,0 +1,18 @@
+use Rattle.std.proofs.Common.{[], ◌∷◌}
+use Rattle.std.proofs.lemmas.Result.{err_from_is_err_and}
+use Rattle.pp_terms.specs.CommandLine.{AStore, AChunk}
+use Rattle.pp_words.specs.Views.{texts, usage_of}
+use Rattle.pp_words.proofs.WordSteps.{step}
+use Rattle.pp_words.proofs.commands.import.Goals as goal
+
+pub returns-in_err-store-clause-err : goal.returns-in_err-store-clause-err
+returns-in_err-store-clause-err c =
+    let p = err_from_is_err_and c.from_residual.result c.from_residual.ensures.1 in
+    rw (p.1, p.2) (c.in_err-store.ensures.err (AChunk ∷ []) 0)
+
+pub returns-in_err-chunk-clause-err : goal.returns-in_err-chunk-clause-err
+returns-in_err-chunk-clause-err c =
+    let p = err_from_is_err_and c.from_residual-in_err-chunk.result c.from_residual-in_err-chunk.ensures.1 in
+    rw (p.1, p.2) (step AStore (AChunk ∷ []) 0 1 (texts c.args.words.now) c.in_ok-store.store.now (usage_of c.in_err-chunk.field-0.0)
+    c.in_ok-store.ensures.ok.0 c.in_ok-store.ensures.ok.1
+    (c.in_err-chunk.ensures.err [] 0))

@@ -1,0 +1,4 @@
+pub mod Views
+pub mod Slots
+pub mod Digits
+pub mod Example

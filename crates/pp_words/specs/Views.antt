@@ -1,0 +1,54 @@
+-- The words, what they spell and what is wrong with them, as plain data.
+use Rattle.std.specs.Prelude.{ℕ, List, map, String, string_bytes}
+use Rattle.std.specs.declared.alloc.Global.{Global}
+use Rattle.pp_terms.specs.Commands as terms
+use Rattle.pp_terms.specs.DescriptorFault as fault
+use Rattle.pp_terms.specs.Usage as wrong
+use Rattle.pp_outside.specs.Outside.{address_of}
+use Rattle.pp_tree.specs.declared.descriptor.DescriptorFault.{DescriptorFault}
+use Rattle.pp_tree.specs.declared.descriptor.DescriptorFault.TheVariants.{Form, Chunk, Size, Method}
+use Rattle.pp_words.specs.declared.types.Order.{Order}
+use Rattle.pp_words.specs.declared.types.Order.TheVariants.{Sequential, Rarest}
+use Rattle.pp_words.specs.declared.types.Command.{Command}
+use Rattle.pp_words.specs.declared.types.Command.TheVariants.{Import, Seed, Fetch, Check, Export, Replay, Rehearse}
+use Rattle.pp_words.specs.declared.types.Usage.{Usage}
+use Rattle.pp_words.specs.declared.types.UsageKind.{UsageKind}
+use Rattle.pp_words.specs.declared.types.UsageKind.TheVariants as kind
+
+-- the bytes of each word
+abbrev pub texts : List (String Global) → List (List ℕ)
+texts words = map (λ word. string_bytes word) words
+
+abbrev pub order_of : Order → terms.Order
+order_of Sequential = terms.Sequential
+order_of Rarest = terms.Rarest
+
+abbrev pub command_of : Command → terms.Command
+command_of (Import store chunk) = terms.Import store.now chunk
+command_of (Seed store descriptor listen turns) = terms.Seed store.now descriptor (address_of listen) turns
+command_of (Fetch store descriptor listen turns order peers) =
+    terms.Fetch store.now descriptor (address_of listen) turns (order_of order) (map address_of peers.items)
+command_of (Check store descriptor) = terms.Check store.now descriptor
+command_of (Export store descriptor) = terms.Export store.now descriptor
+command_of Replay = terms.Replay
+command_of (Rehearse number) = terms.Rehearse number
+
+abbrev pub fault_of : DescriptorFault → fault.DescriptorFault
+fault_of (Form at) = fault.Form at
+fault_of (Chunk at) = fault.Chunk at
+fault_of (Size at) = fault.Size at
+fault_of (Method at) = fault.Method at
+
+abbrev pub kind_of : UsageKind → wrong.UsageKind
+kind_of kind.Missing = wrong.Missing
+kind_of kind.Extra = wrong.Extra
+kind_of kind.Command = wrong.Command
+kind_of kind.Store = wrong.Store
+kind_of kind.Chunk = wrong.Chunk
+kind_of kind.Number = wrong.Number
+kind_of (kind.Descriptor f) = wrong.Descriptor (fault_of f)
+kind_of kind.Address = wrong.Address
+kind_of kind.Order = wrong.Order
+
+abbrev pub usage_of : Usage → wrong.Usage
+usage_of u = wrong.usage u.word (kind_of u.kind)

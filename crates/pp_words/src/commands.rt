@@ -1,0 +1,106 @@
+// The words of each command, behind its name.
+ghost use Rattle.std.specs.Prelude.{codes, drop, IfOk, IfErr};
+ghost use Rattle.pp_terms.specs.CommandLine.{Spells, IsWrongFrom, import_shape, seed_shape, fetch_shape, check_shape, export_shape, replay_shape, rehearse_shape};
+ghost use Rattle.pp_words.specs.Views.{texts, command_of, usage_of};
+ghost use Rattle.pp_words.specs.Slots.{Takes};
+
+use crate::slots;
+use crate::types::{Command, Usage};
+
+pub(crate) fn import(words: &[String]) -> Result<Command<'_>, Usage>
+    requires { Takes words.now 0 (codes "import") }
+    ensures ok { IfOk result (λ c. Spells (texts words.now) (command_of c)) }
+    ensures err { IfErr result (λ u.
+        IsWrongFrom import_shape.slots import_shape.peers 1 (drop 1 (texts words.now)) (usage_of u)) }
+{
+    let store = slots::store(words, 1)?;
+    let chunk = slots::chunk(words, 2)?;
+    slots::end(words, 3)?;
+    Ok(Command::Import { store, chunk })
+}
+
+pub(crate) fn seed(words: &[String]) -> Result<Command<'_>, Usage>
+    requires { Takes words.now 0 (codes "seed") }
+    ensures ok { IfOk result (λ c. Spells (texts words.now) (command_of c)) }
+    ensures err { IfErr result (λ u.
+        IsWrongFrom seed_shape.slots seed_shape.peers 1 (drop 1 (texts words.now)) (usage_of u)) }
+{
+    let store = slots::store(words, 1)?;
+    let descriptor = slots::descriptor(words, 2)?;
+    let listen = slots::address(words, 3)?;
+    let turns = slots::turns(words, 4)?;
+    slots::end(words, 5)?;
+    Ok(Command::Seed {
+        store,
+        descriptor,
+        listen,
+        turns,
+    })
+}
+
+pub(crate) fn fetch(words: &[String]) -> Result<Command<'_>, Usage>
+    requires { Takes words.now 0 (codes "fetch") }
+    ensures ok { IfOk result (λ c. Spells (texts words.now) (command_of c)) }
+    ensures err { IfErr result (λ u.
+        IsWrongFrom fetch_shape.slots fetch_shape.peers 1 (drop 1 (texts words.now)) (usage_of u)) }
+{
+    let store = slots::store(words, 1)?;
+    let descriptor = slots::descriptor(words, 2)?;
+    let listen = slots::address(words, 3)?;
+    let turns = slots::turns(words, 4)?;
+    let order = slots::order(words, 5)?;
+    let peers = slots::peers(words, 6)?;
+    Ok(Command::Fetch {
+        store,
+        descriptor,
+        listen,
+        turns,
+        order,
+        peers,
+    })
+}
+
+pub(crate) fn check(words: &[String]) -> Result<Command<'_>, Usage>
+    requires { Takes words.now 0 (codes "check") }
+    ensures ok { IfOk result (λ c. Spells (texts words.now) (command_of c)) }
+    ensures err { IfErr result (λ u.
+        IsWrongFrom check_shape.slots check_shape.peers 1 (drop 1 (texts words.now)) (usage_of u)) }
+{
+    let store = slots::store(words, 1)?;
+    let descriptor = slots::descriptor(words, 2)?;
+    slots::end(words, 3)?;
+    Ok(Command::Check { store, descriptor })
+}
+
+pub(crate) fn export(words: &[String]) -> Result<Command<'_>, Usage>
+    requires { Takes words.now 0 (codes "export") }
+    ensures ok { IfOk result (λ c. Spells (texts words.now) (command_of c)) }
+    ensures err { IfErr result (λ u.
+        IsWrongFrom export_shape.slots export_shape.peers 1 (drop 1 (texts words.now)) (usage_of u)) }
+{
+    let store = slots::store(words, 1)?;
+    let descriptor = slots::descriptor(words, 2)?;
+    slots::end(words, 3)?;
+    Ok(Command::Export { store, descriptor })
+}
+
+pub(crate) fn replay(words: &[String]) -> Result<Command<'_>, Usage>
+    requires { Takes words.now 0 (codes "replay") }
+    ensures ok { IfOk result (λ c. Spells (texts words.now) (command_of c)) }
+    ensures err { IfErr result (λ u.
+        IsWrongFrom replay_shape.slots replay_shape.peers 1 (drop 1 (texts words.now)) (usage_of u)) }
+{
+    slots::end(words, 1)?;
+    Ok(Command::Replay)
+}
+
+pub(crate) fn rehearse(words: &[String]) -> Result<Command<'_>, Usage>
+    requires { Takes words.now 0 (codes "rehearse") }
+    ensures ok { IfOk result (λ c. Spells (texts words.now) (command_of c)) }
+    ensures err { IfErr result (λ u.
+        IsWrongFrom rehearse_shape.slots rehearse_shape.peers 1 (drop 1 (texts words.now)) (usage_of u)) }
+{
+    let number = slots::rehearsal(words, 1)?;
+    slots::end(words, 2)?;
+    Ok(Command::Rehearse { number })
+}

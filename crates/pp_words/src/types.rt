@@ -1,0 +1,84 @@
+// What words spell, and what is wrong with them.
+use arrayvec::ArrayVec;
+use pp_outside::Address;
+use pp_tree::{Descriptor, DescriptorFault};
+
+/// The order in which missing chunks are asked for: by rising number, or those first that the fewest peers have.
+#[derive(Clone, Copy, Debug, PartialEq, Eq)]
+pub enum Order {
+    Sequential,
+    Rarest,
+}
+
+/// A command. `store` is the name of the store's file, `chunk` the chunk size in bytes, `listen` the address at which
+/// the peer listens, `turns` how often it waits for a datagram, and `number` the number of a rehearsal.
+#[derive(Clone, Debug, Drop, PartialEq, Eq)]
+pub enum Command<'a> {
+    /// `import STORE CHUNK`
+    Import {
+        store: &'a str,
+        chunk: u32,
+    },
+    /// `seed STORE DESCRIPTOR LISTEN TURNS`
+    Seed {
+        store: &'a str,
+        descriptor: Descriptor,
+        listen: Address,
+        turns: u32,
+    },
+    /// `fetch STORE DESCRIPTOR LISTEN TURNS ORDER PEER..`, with 1 to 16 peers
+    Fetch {
+        store: &'a str,
+        descriptor: Descriptor,
+        listen: Address,
+        turns: u32,
+        order: Order,
+        peers: ArrayVec<Address, 16>,
+    },
+    /// `check STORE DESCRIPTOR`
+    Check {
+        store: &'a str,
+        descriptor: Descriptor,
+    },
+    /// `export STORE DESCRIPTOR`
+    Export {
+        store: &'a str,
+        descriptor: Descriptor,
+    },
+    /// `replay`
+    Replay,
+    /// `rehearse NUMBER`
+    Rehearse {
+        number: u64,
+    },
+}
+
+/// What is wrong with a word.
+#[derive(Clone, Copy, Debug, PartialEq, Eq)]
+pub enum UsageKind {
+    /// The words end where a word has to come.
+    Missing,
+    /// The word is one too many.
+    Extra,
+    /// It is no command's name.
+    Command,
+    /// It is no store's name: it is empty.
+    Store,
+    /// It is no chunk size: no power of two from 256 to 8192.
+    Chunk,
+    /// It is no number, or too large.
+    Number,
+    /// It is no descriptor's text; the fault has its place in the word.
+    Descriptor(DescriptorFault),
+    /// It is no address.
+    Address,
+    /// It is no order.
+    Order,
+}
+
+/// The first wrong word, counted from 0, and what is wrong with it. A missing word has the count of words as its number.
+#[derive(Clone, Copy, Debug, PartialEq, Eq)]
+pub struct Usage {
+    pub word: usize,
+    pub kind: UsageKind,
+}
