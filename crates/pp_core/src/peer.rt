@@ -1,6 +1,6 @@
 //! A peer of one swarm.
 
-ghost use Rattle.std.specs.Prelude.{◌≡◌, ◌≤◌, ◌⊎◌, true, max, IsOk};
+ghost use Rattle.std.specs.Prelude.{◌≡◌, ◌≤◌, ◌⊎◌, ◌∷◌, ℕ, List, true, max, IsOk};
 ghost use Rattle.pp_terms.specs.Count.{HasRisen};
 ghost use Rattle.pp_terms.specs.Disk.{moment_of};
 ghost use Rattle.pp_outside.specs.Arrivals.{IsEvent};
@@ -8,7 +8,10 @@ ghost use Rattle.pp_core.specs.Events.{turned, reached, after_event, after_refus
 ghost use Rattle.pp_core.specs.Counting.{rise};
 ghost use Rattle.pp_core.specs.Sends.{Sends, Causes, OwesNone, LeavesNone};
 ghost use Rattle.pp_core.specs.Serving.{ReadsAlone};
-ghost use Rattle.pp_core.specs.Standing.{holds_first};
+ghost use Rattle.pp_core.specs.Standing.{holds_first, StandsFor};
+ghost use Rattle.pp_terms.specs.Book.{LookUp};
+ghost use Rattle.pp_terms.specs.Traffic.{Record};
+ghost use Rattle.pp_outside.specs.Outside.{record_of};
 
 use crate::channel::Channel;
 use crate::counts::{Counts, risen};
@@ -90,6 +93,18 @@ impl Peer {
         requires event { IsEvent event.now bytes.now }
         ensures done { IsOk result }
         ensures exact { self.new ≡ after_event self.old event.now bytes.now }
+        ensures stands { (book : LookUp) (since : ℕ) (past : List Record) → StandsFor book since self.old past
+            → StandsFor book since self.new (record_of event.now bytes.now ∷ past) }
+        ensures disk { D.state _disk.new ≡ D.state _disk.old }
+        ensures book { _book.new ≡ _book.old }
+    {
+        self.take_event(event, bytes);
+        Ok(())
+    }
+
+    fn take_event(&mut self, event: &Event, bytes: &[u8])
+        requires { IsEvent event.now bytes.now }
+        ensures { self.new ≡ after_event self.old event.now bytes.now }
     {
         match *event {
             Event::Datagram { from, at, .. } => {
@@ -111,12 +126,18 @@ impl Peer {
                 self.counts = turned(self.counts);
             }
         }
-        Ok(())
     }
 
     /// Counts a wait that the link refused.
     pub fn refused(&mut self)
         ensures exact { self.new ≡ after_refusal self.old }
+        ensures stands { (book : LookUp) (since : ℕ) (past : List Record) → StandsFor book since self.old past → StandsFor book since self.new past }
+    {
+        self.count_refusal();
+    }
+
+    fn count_refusal(&mut self)
+        ensures { self.new ≡ after_refusal self.old }
     {
         self.counts = refused(self.counts);
     }
