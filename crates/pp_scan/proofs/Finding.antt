@@ -62,6 +62,13 @@ module _ (d : Descriptor) (old mid new : DiskState) (book : LookUp) (known_mid :
   pub only_from : (IsKnown mid → HasOnlyKnown d mid.history.reads book) → IsKnown old → HasOnlyKnown d old.history.reads book
   only_from only known = subst (λ (r : List ℕ). HasOnlyKnown d r book) (same known) (only (known_mid known))
 
+pub found_weaker : (unread : Type 0) (d : Descriptor) (old new : DiskState) (book : LookUp) (result : Result (List Bool) ScanFault)
+    → HasFound ⊥ d old new book result → HasFound unread d old new book result
+found_weaker unread d old new book (Ok set) found = found
+found_weaker unread d old new book (Err (NotAStore at found' want)) found = found
+found_weaker unread d old new book (Err Disk) found = found
+found_weaker unread d old new book (Err Memory) none = absurd none
+
 pub found_after : (d : Descriptor) (old mid new : DiskState) (book : LookUp) (result : Result (List Bool) ScanFault) → KeepsAll old mid
     → HasFound ⊥ d mid new book result → HasFound ⊥ d old new book result
 found_after d old mid new book result keeps found =

@@ -8,4 +8,4 @@ mod layout;
 mod scanning;
 
 pub use layout::{Difference, header_difference, header_of, slot_place};
-pub use scanning::{ScanFault, scan};
+pub use scanning::{ScanFault, scan, scan_into};

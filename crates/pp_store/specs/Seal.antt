@@ -3,12 +3,9 @@ use Rattle.std.specs.Prelude.{◌≡◌, ℕ, ◌≤◌, Result, OnOk}
 use Rattle.pp_terms.specs.Count.{HasCause}
 use Rattle.pp_terms.specs.Descriptor.{Descriptor}
 use Rattle.pp_terms.specs.Store.{header}
-use Rattle.pp_terms.specs.Disk.{DiskState, History, IsKnown, IsRefusedWrite, moment_of, after_write, settled}
+use Rattle.pp_terms.specs.Disk.{DiskState, History, IsKnown, IsRefusedWrite, moment_of, after_write}
+use Rattle.pp_scan.specs.Look.{synced}
 use Rattle.pp_store.specs.Keep.{kept}
-
--- what was written is on the disk
-abbrev pub synced : History → History
-synced h = settled h h.reads
 
 -- What a disk may be left as: the first sync was refused, or the header's write, or the sync after that, or all was done.
 pub data Leaves (d : Descriptor) (old : History) : History → Type 0 where

@@ -3,8 +3,8 @@ ghost use Rattle.std.specs.Prelude.{◌≡◌, ◌+◌, ◌^◌, ◌≤◌, leng
 ghost use Rattle.pp_store.specs.Keep.{DoesKeep};
 ghost use Rattle.pp_store.specs.Seal.{DoesSeal};
 
-use crate::header::header_of;
 use pp_outside::{Disk, DiskFault};
+use pp_scan::header_of;
 use pp_tree::Descriptor;
 
 // Writes the bytes at a place and syncs.

@@ -10,6 +10,7 @@ ghost use Rattle.pp_store.specs.Growing.{IsPartial, IsCarrying, IsTail, IsTailin
 
 use crate::leaves::{LEAVES, leaf_digests};
 use pp_outside::{Disk, DiskFault};
+use pp_scan::slot_place;
 use pp_tree::{Digest, parent};
 
 // A tree of 2^20 chunks has 21 layers.
@@ -182,15 +183,6 @@ impl GrowingTree {
             Ok(*last)
         }
     }
-}
-
-// Where a slot begins.
-fn slot_place(chunk: u32, slot: u32) -> u64
-    requires size { chunk ≤ 8192 }
-    requires few { slot < 2 ^ 21 }
-    ensures { result ≡ chunk_place chunk slot }
-{
-    64 + u64::from(slot) * u64::from(chunk + 64)
 }
 
 // Writes two children's digests behind the chunk of a slot, and answers their parent's.

@@ -3,9 +3,16 @@
 
 mod durable;
 mod filling;
+mod findings;
 mod growing;
-mod header;
 mod importing;
+mod keeping;
 mod leaves;
+mod probing;
+mod reading;
 
 pub use importing::{ImportFault, import};
+pub use keeping::Store;
+pub use findings::{Probe, ProbeFault};
+pub use probing::probe;
+pub use reading::{ReadFault, read_chunk};

@@ -1,0 +1,151 @@
+-- A store is opened, and its chunks are read.
+use Rattle.std.proofs.Common.{◌≡◌, ◌⊎◌, inl, inr, ⊎_elim, ℕ, ◌+◌, ◌-◌, ◌*◌, ◌<◌, ◌≤◌, ◌==◌, nat_eq, min, Bool, true, false, cond, IsTrue, Option, Some, None, List, [], ◌++◌, length, get_or, take, drop, replicate, Result, Ok, Err, IfOk, IfErr, refl, sym, ◌∙◌, ap, subst, arith}
+use Rattle.std.specs.Prelude.{◌&&◌, is_some}
+use Rattle.std.specs.Cmp.Lexicographic.{pointwise, same_text, other_text}
+use Rattle.std.proofs.lemmas.Bool.{cases_lt, false≢true, eqb-true}
+use Rattle.std.proofs.lemmas.List.{length-take, length-drop, get_or_past, take_at}
+use Rattle.sha2.specs.Sha256.{sha256}
+use Rattle.pp_terms.specs.Count.{HasRisen}
+use Rattle.pp_terms.specs.Content.{chunk_length}
+use Rattle.pp_terms.specs.Book.{LookUp}
+use Rattle.pp_terms.specs.Descriptor.{Descriptor, chunks_of, IsDescriptor}
+use Rattle.pp_terms.specs.Store.{header, chunk_place, Has}
+use Rattle.pp_terms.specs.Image.{slice, known, matches, has_peaks, holds, StandsIn}
+use Rattle.pp_terms.specs.Disk.{DiskState, History, IsKnown, IsRead, DoesLen, MayLeaveSince, Throughout, moment_of, written, after_write}
+use Rattle.pp_terms.proofs.Headers.{length-header}
+use Rattle.pp_terms.proofs.Images.{written_inside, sole_image, since_now}
+use Rattle.pp_tree.specs.Book.{HasRootAlone}
+use Rattle.pp_scan.specs.declared.scanning.ScanFault.{ScanFault}
+use Rattle.pp_scan.specs.declared.scanning.ScanFault.TheVariants.{NotAStore, Disk, Memory}
+use Rattle.pp_scan.specs.Look.{synced}
+use Rattle.pp_scan.specs.Header.{HasHeader}
+use Rattle.pp_scan.specs.Holding.{is_there}
+use Rattle.pp_scan.specs.Scan.{IsScanned, HasFound}
+use Rattle.pp_scan.proofs.Reading.{no_bytes, read_slice}
+use Rattle.pp_scan.proofs.Finding.{found_empty, some_bytes}
+use Rattle.pp_scan.proofs.Holds.{empty_none}
+use Rattle.pp_store.specs.Keep.{kept}
+use Rattle.pp_store.specs.Store.{IsOpened, AllStand}
+use Rattle.pp_store.specs.ReadChunk.{IsRightChunk, IsDamaged}
+
+-- an empty file
+pub fresh_found : {E : Type 0} (d : Descriptor) (old mid new : DiskState) (book : LookUp) (n : ℕ) (set : List Bool) (result : Result (List Bool) ScanFault)
+    → DoesLen {E = E} old (Ok n) mid → n ≡ 0 → IsDescriptor d → HasRootAlone d book → set ≡ replicate (chunks_of d) false
+    → IfOk result (λ s. s ≡ set) → IfErr result (λ f. (f ≡ Disk) × HasRisen mid.faults new.faults) → HasFound ⊥ d old new book result
+fresh_found d old mid new book n set (Ok s) counts none valid alone is_none same fault =
+    found_empty d old book s valid alone (same ∙ is_none) (λ known. no_bytes old.history.reads (sym (counts.counted known) ∙ none))
+fresh_found d old mid new book n set (Err f) counts none valid alone is_none same fault =
+    subst (λ (x : ScanFault). HasFound ⊥ d old new book (Err x)) (sym fault.0)
+    (λ below. let r : mid.faults < new.faults = fault.1 below in omega (arith, counts.call.cause.later))
+
+-- of both tests of a pair of them
+and_left : (a b : Bool) → (a && b) ≡ true → a ≡ true
+and_left a b e = elim a as (λ v. (v && b) ≡ true → v ≡ true) [ true ↦ λ h. refl | false ↦ λ h. h ] e
+
+and_right : (a b : Bool) → (a && b) ≡ true → b ≡ true
+and_right a b e = elim a as (λ v. (v && b) ≡ true → b ≡ true) [ true ↦ λ h. h | false ↦ λ h. absurd (false≢true h) ] e
+
+-- a chunk that is held lies inside the file
+inside : (d : Descriptor) (reads : List ℕ) (i : ℕ) → 0 < chunk_length d.size d.chunk i
+    → length (slice reads (chunk_place d.chunk i) (chunk_length d.size d.chunk i)) ≡ chunk_length d.size d.chunk i
+    → chunk_place d.chunk i + chunk_length d.size d.chunk i ≤ length reads
+inside d reads i some long =
+    omega (arith, length-take (chunk_length d.size d.chunk i) (drop (chunk_place d.chunk i) reads), length-drop (chunk_place d.chunk i) reads)
+
+held_inside : (d : Descriptor) (reads : List ℕ) (i : ℕ) → 0 < chunk_length d.size d.chunk i → holds d reads i ≡ true → 64 < length reads
+held_inside d reads i some is =
+    let bytes = slice reads (chunk_place d.chunk i) (chunk_length d.size d.chunk i) in
+    let both : (has_peaks (known d reads) (chunks_of d) 21 && (length bytes == chunk_length d.size d.chunk i)) ≡ true = and_left _ (matches (known d reads 0 i) (sha256 bytes)) is in
+    let test : (length bytes == chunk_length d.size d.chunk i) ≡ true = and_right (has_peaks (known d reads) (chunks_of d) 21) _ both in
+    let le = inside d reads i some (eqb-true _ _ test) in omega arith
+
+in_set : (set : List Bool) (i : ℕ) → get_or set i false ≡ true → i < length set
+in_set set i is = ⊎_elim (λ lt. lt) (λ past. absurd (false≢true (sym (get_or_past set i false past) ∙ is))) (cases_lt i (length set))
+
+has_header : (d : Descriptor) (reads : List ℕ) → IsDescriptor d → HasHeader d reads → 64 ≤ length reads → Has 0 (header d) reads
+has_header d reads valid begins long =
+    let size = length-header d valid.root_length in
+    record {
+      inside = omega (arith, size);
+      same = λ k lt. let at : 0 + k ≡ k = omega arith in ap (λ (n : ℕ). get_or reads n 0) at ∙ begins k (omega (arith, size));
+    }
+
+-- the one image after a sync
+only_image : (h old : History) (image : List ℕ) → h ≡ synced old → MayLeaveSince h (moment_of h) image → image ≡ old.reads
+only_image h old image is since =
+    sole_image old.reads image (since_now (synced old) image (subst (λ (x : History). MayLeaveSince x (moment_of x) image) is since))
+
+module _ (d : Descriptor) (old new : DiskState) (book : LookUp) (set : List Bool) (valid : IsDescriptor d) (scanned : IsScanned d old book set)
+    (known : IsKnown old) (opened : IsOpened d old.history new.history) where
+  pub opened_begins : Throughout new.history (moment_of new.history) (HasHeader d)
+  opened_begins image since = ⊎_elim
+      (λ some. ⊎_elim
+      (λ empty. absurd (let none : length old.history.reads ≡ 0 = ap (λ (r : List ℕ). length r) empty in omega arith))
+      (λ begins. subst (HasHeader d) (sym (only_image new.history old.history image (opened.scanned some) since)) begins)
+      (scanned.begins known))
+      (λ none.
+      let empty : old.history.reads ≡ [] = no_bytes old.history.reads (omega arith) in
+      let image_is : image ≡ written old.history.reads 0 (header d) =
+      sole_image (written old.history.reads 0 (header d)) image (since_now (kept old.history 0 (header d)) image (subst (λ (x : History). MayLeaveSince x (moment_of x) image) (opened.fresh empty) since)) in
+      λ k lt. let at : 0 + k ≡ k = omega arith in let lt' : k < length (header d) = omega (arith, length-header d valid.root_length) in
+      ap (λ (x : List ℕ). get_or x k 0) image_is ∙ ap (λ (n : ℕ). get_or (written old.history.reads 0 (header d)) n 0) (sym at) ∙ written_inside old.history.reads 0 (header d) k lt')
+      (cases_lt 0 (length old.history.reads))
+
+  pub opened_stands : AllStand d set new.history
+  opened_stands i is image since =
+      let within : i < chunks_of d = omega (arith, in_set set i is, scanned.count) in
+      let held : holds d old.history.reads i ≡ true = sym (scanned.held known i within) ∙ is in
+      let bytes = some_bytes d i valid within in
+      let long = held_inside d old.history.reads i bytes held in
+      let some : 0 < length old.history.reads = omega arith in
+      let image_is = only_image new.history old.history image (opened.scanned some) since in
+      ⊎_elim
+      (λ empty. absurd (let none : length old.history.reads ≡ 0 = ap (λ (r : List ℕ). length r) empty in omega arith))
+      (λ begins. subst (λ (x : List ℕ). StandsIn d x i) (sym image_is) (record {
+        begins = has_header d old.history.reads valid begins (omega arith);
+        within = within;
+        held = sym (sym held);
+      }))
+      (scanned.begins known)
+
+-- the buffer's front, as it was read
+front : (into rest : List ℕ) (size : ℕ) → length into ≡ size → take size (into ++ rest) ≡ into
+front into rest size long = take_at into rest size long
+
+pub right_chunk : (d : Descriptor) (i : ℕ) (book : LookUp) (disk : DiskState) (into rest digest : List ℕ) (place size : ℕ) → length into ≡ size
+    → size ≡ chunk_length d.size d.chunk i → place ≡ chunk_place d.chunk i → book 0 i ≡ Some digest
+    → true ≡ pointwise nat_eq digest (sha256 into) → (IsKnown disk → IsRead disk.history.reads place into)
+    → IsRightChunk d i book disk (into ++ rest) size
+right_chunk d i book disk into rest digest place size long size_is place_is entry test read = record {
+  count_is = size_is;
+  leaf_is = entry ∙ ap (λ (x : List ℕ). Some x) (same_text digest (sha256 into) test ∙ ap (λ (x : List ℕ). sha256 x) (sym (front into rest size long)));
+  read = λ known. subst (λ (x : List ℕ). IsRead disk.history.reads (chunk_place d.chunk i) x) (sym (front into rest size long))
+      (subst (λ (p : ℕ). IsRead disk.history.reads p into) place_is (read known));
+}
+
+pub damaged_chunk : (d : Descriptor) (i : ℕ) (book : LookUp) (disk : DiskState) (into rest digest found : List ℕ) (place size : ℕ) → length into ≡ size
+    → size ≡ chunk_length d.size d.chunk i → place ≡ chunk_place d.chunk i → book 0 i ≡ Some digest → found ≡ sha256 into
+    → false ≡ pointwise nat_eq digest (sha256 into) → (IsKnown disk → IsRead disk.history.reads place into)
+    → IsDamaged d i book disk (into ++ rest) found digest
+damaged_chunk d i book disk into rest digest found place size long size_is place_is entry found_is test read =
+    let at : take (chunk_length d.size d.chunk i) (into ++ rest) ≡ into = front into rest (chunk_length d.size d.chunk i) (long ∙ size_is) in
+    record {
+      kept_is = entry;
+      found_is = found_is ∙ ap (λ (x : List ℕ). sha256 x) (sym at);
+      differ = λ e. other_text digest (sha256 into) test (sym e ∙ found_is);
+      read = λ known. subst (λ (x : List ℕ). IsRead disk.history.reads (chunk_place d.chunk i) x) (sym at)
+          (subst (λ (p : ℕ). IsRead disk.history.reads p into) place_is (read known));
+    }
+
+-- a chunk that is there is read with its digest
+pub there_sound : (d : Descriptor) (i : ℕ) (book : LookUp) (reads into digest : List ℕ) (place size : ℕ) → 0 < size → length into ≡ size
+    → size ≡ chunk_length d.size d.chunk i → place ≡ chunk_place d.chunk i → book 0 i ≡ Some digest → IsRead reads place into
+    → is_there d reads book i ≡ true → false ≡ pointwise nat_eq digest (sha256 into) → ⊥
+there_sound d i book reads into digest place size some long size_is place_is entry read there test =
+    let bytes = slice reads (chunk_place d.chunk i) (chunk_length d.size d.chunk i) in
+    let whole : length bytes ≡ chunk_length d.size d.chunk i = eqb-true _ _ (and_left (length bytes == chunk_length d.size d.chunk i) _ there) in
+    let le = inside d reads i (omega arith) whole in
+    let is : into ≡ bytes = read_slice reads place into read (omega arith) ∙ (λ j. slice reads (place_is j) ((long ∙ size_is) j)) in
+    let good : matches (book 0 i) (sha256 bytes) ≡ true = and_right (length bytes == chunk_length d.size d.chunk i) _ there in
+    let good' : pointwise nat_eq digest (sha256 into) ≡ true = ap (λ (x : List ℕ). pointwise nat_eq digest (sha256 x)) is ∙ ap (λ (o : Option (List ℕ)). matches o (sha256 bytes)) (sym entry) ∙ good in
+    false≢true (test ∙ good')

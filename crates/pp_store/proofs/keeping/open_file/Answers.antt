@@ -1,0 +1,24 @@
+use Rattle.std.proofs.Common.{ap}
+use Rattle.pp_terms.specs.Disk.{History}
+use Rattle.pp_tree.specs.Book.{entry}
+use Rattle.pp_tree.proofs.Rootedness.{rooted_alone}
+use Rattle.pp_scan.proofs.Reading.{len_keeps}
+use Rattle.pp_scan.proofs.Finding.{found_after}
+use Rattle.pp_store.proofs.Opening.{fresh_found}
+use Rattle.pp_store.proofs.keeping.open_file.Goals as goal
+
+pub returns-in-Ok-eq0-clause-found : goal.returns-in-Ok-eq0-clause-found
+returns-in-Ok-eq0-clause-found g c =
+    fresh_found c.args.descriptor.now (g.D.Disk.state c.args.disk.now) (g.D.Disk.state c.len.new.self) (g.D.Disk.state c.begin.new.disk) (entry c.args.book.now) c.in-Ok-eq0.field-0 c.args.set c.begin.result
+    c.in-Ok-eq0.ensures c.in-Ok-eq0.field-0-test c.requires.valid c.requires.alone c.requires.none c.begin.ensures.same c.begin.ensures.fault
+
+pub returns-in-Ok-eq0-clause-rooted : goal.returns-in-Ok-eq0-clause-rooted
+returns-in-Ok-eq0-clause-rooted g c = rooted_alone c.args.descriptor.now (entry c.args.book.now) c.requires.valid.root_length c.requires.alone
+
+pub returns-in-Ok-clause-found : goal.returns-in-Ok-clause-found
+returns-in-Ok-clause-found g c =
+    found_after c.args.descriptor.now (g.D.Disk.state c.args.disk.now) (g.D.Disk.state c.len.new.self) (g.D.Disk.state c.scan_into.new.disk) (entry c.scan_into.new.book)
+    c.scan_into.result (len_keeps _ _ _ c.len.ensures) c.scan_into.ensures.found
+
+pub returns-in-Err-clause-rooted : goal.returns-in-Err-clause-rooted
+returns-in-Err-clause-rooted g c = rooted_alone c.args.descriptor.now (entry c.args.book.now) c.requires.valid.root_length c.requires.alone
