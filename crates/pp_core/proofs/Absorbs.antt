@@ -38,7 +38,7 @@ story_apart : (d : Descriptor) (life : Life) (at : ℕ) (sender : traffic.Addres
 story_apart d life at sender bytes past lt e =
     story_step d life (Received at sender bytes) past lt
     ∙ ap (λ (ms : List Message). Taken (max at (now past)) ∷ hear (max at (now past)) ms (story d life past))
-      (cond-false (comes_on d life (Received at sender bytes)) (read d (Received at sender bytes)).messages.read [] e)
+    (cond-false (comes_on d life (Received at sender bytes)) (read d (Received at sender bytes)).messages.read [] e)
 
 -- The channel stays as it is, but that its reply may be due again.
 pub record StaysPut (c new : Channel) : Type 0 where
@@ -69,22 +69,30 @@ pub seat_apart : (d : Descriptor) (whole : Type 0) (c new : Channel) (life : Lif
     → SeatStands d whole c life past → StaysPut c new → comes_on d life (Received at sender bytes) ≡ false → SeatStands d whole new life (Received at sender bytes ∷ past)
 seat_apart d whole c new life at sender bytes past s p e =
     let on : GoesOn d c new life (Received at sender bytes) = record {
-      address = p.address; local = p.local; remote = p.remote;
-      proven = λ x. inl (sym p.proven ∙ x); replied = λ x. inl (sym p.replied ∙ x);
+      address = p.address;
+      local = p.local;
+      remote = p.remote;
+      proven = λ x. inl (sym p.proven ∙ x);
+      replied = λ x. inl (sym p.replied ∙ x);
       open_still = comes_not d life (Received at sender bytes) e;
     } in
     seat_on d whole whole c new life (Received at sender bytes) past s on
     (subst (λ (xs : List Line). Follows whole new xs) (sym (story_apart d life at sender bytes past (seat_began d whole c life past s) e))
-      (follow_taken whole new (max at (now past)) (story d life past) (follow_put whole c new (story d life past) p s.follows)))
+    (follow_taken whole new (max at (now past)) (story d life past) (follow_put whole c new (story d life past) p s.follows)))
 
 pub seat_quiet : (d : Descriptor) (whole : Type 0) (c : Channel) (life : Life) (at : ℕ) (past : List Record) → SeatStands d whole c life past → SeatStands d whole c life (traffic.Quiet at ∷ past)
 seat_quiet d whole c life at past s =
     let on : GoesOn d c c life (traffic.Quiet at) = record {
-      address = refl; local = refl; remote = refl; proven = λ x. inl x; replied = λ x. inl x; open_still = refl;
+      address = refl;
+      local = refl;
+      remote = refl;
+      proven = λ x. inl x;
+      replied = λ x. inl x;
+      open_still = refl;
     } in
     seat_on d whole whole c c life (traffic.Quiet at) past s on
     (subst (λ (xs : List Line). Follows whole c xs) (sym (story_step d life (traffic.Quiet at) past (seat_began d whole c life past s)))
-      (follow_taken whole c (max at (now past)) (story d life past) s.follows))
+    (follow_taken whole c (max at (now past)) (story d life past) s.follows))
 
 -- ---- one that is
 
@@ -96,7 +104,7 @@ story_on : (d : Descriptor) (life : Life) (at : ℕ) (sender : traffic.Address) 
 story_on d life at sender bytes past lt e =
     story_step d life (Received at sender bytes) past lt
     ∙ ap (λ (ms : List Message). Taken (max at (now past)) ∷ hear (max at (now past)) ms (story d life past))
-      (cond-true (comes_on d life (Received at sender bytes)) (read d (Received at sender bytes)).messages.read [] e)
+    (cond-true (comes_on d life (Received at sender bytes)) (read d (Received at sender bytes)).messages.read [] e)
 
 seat_heard : (d : Descriptor) (whole : Type 0) (chunks : ℕ) (c new : Channel) (k : Counts) (life : Life) (at : ℕ) (sender : traffic.Address) (bytes : List ℕ) (past : List Record)
     → SeatStands d whole c life past → comes_on d life (Received at sender bytes) ≡ true
@@ -108,14 +116,16 @@ seat_heard d whole chunks c new k life at sender bytes past s comes left =
     let started : Follows whole (Proven c) (story d life past) = record { asked_for = f.asked_for; kept = f.kept; unchoked = f.unchoked; flies = f.flies; first = f.first } in
     let after = follow_all whole chunks it.fault it.read (Proven c) new k (max at (now past)) (story d life past) started left in
     let on : GoesOn d c new life (Received at sender bytes) = record {
-      address = after.same.address; local = after.same.local; remote = after.same.remote;
+      address = after.same.address;
+      local = after.same.local;
+      remote = after.same.remote;
       proven = λ x. inr comes;
       replied = λ x. inl (sym after.same.replied ∙ x);
       open_still = and_right (comes_on d life (Received at sender bytes)) (closes it.read) (open_by chunks it.fault it.read (Proven c) new k left);
     } in
     seat_on d whole whole c new life (Received at sender bytes) past s on
     (subst (λ (xs : List Line). Follows whole new xs) (sym (story_on d life at sender bytes past (seat_began d whole c life past s) comes))
-      (follow_taken whole new (max at (now past)) (hear (max at (now past)) it.read (story d life past)) after.follows))
+    (follow_taken whole new (max at (now past)) (hear (max at (now past)) it.read (story d life past)) after.follows))
 
 -- ---- whose datagram it is
 
@@ -156,10 +166,10 @@ greets_put : (chunks : ℕ) (sender : Address) (source : ℕ) (rest : Messages) 
 greets_put chunks sender source rest c k numbers P stays = ⊎_elim
     (λ other. subst (λ (t : taking.Taken). P t.heard.channel) (sym (cond-true (not (is_again sender source c)) (leaves (Some c) (is_unseated k) numbers) (cond c.proven (leaves (Some c) (is_refused k) numbers) (leaves (Some (record c { reply_due = true })) k numbers)) other)) (stays c (stays_put c)))
     (λ again. subst (λ (t : taking.Taken). P t.heard.channel) (sym (cond-false (not (is_again sender source c)) (leaves (Some c) (is_unseated k) numbers) (cond c.proven (leaves (Some c) (is_refused k) numbers) (leaves (Some (record c { reply_due = true })) k numbers)) again))
-      (⊎_elim
-        (λ proven. subst (λ (t : taking.Taken). P t.heard.channel) (sym (cond-true c.proven (leaves (Some c) (is_refused k) numbers) (leaves (Some (record c { reply_due = true })) k numbers) proven)) (stays c (stays_put c)))
-        (λ greeted. subst (λ (t : taking.Taken). P t.heard.channel) (sym (cond-false c.proven (leaves (Some c) (is_refused k) numbers) (leaves (Some (record c { reply_due = true })) k numbers) greeted)) (stays (record c { reply_due = true }) (due_again c)))
-        (cases_Bool c.proven)))
+    (⊎_elim
+    (λ proven. subst (λ (t : taking.Taken). P t.heard.channel) (sym (cond-true c.proven (leaves (Some c) (is_refused k) numbers) (leaves (Some (record c { reply_due = true })) k numbers) proven)) (stays c (stays_put c)))
+    (λ greeted. subst (λ (t : taking.Taken). P t.heard.channel) (sym (cond-false c.proven (leaves (Some c) (is_refused k) numbers) (leaves (Some (record c { reply_due = true })) k numbers) greeted)) (stays (record c { reply_due = true }) (due_again c)))
+    (cases_Bool c.proven)))
     (cases_Bool (not (is_again sender source c)))
 
 greeting_put : (d : Descriptor) (sender : Address) (fault : Option (ℕ × WireKind)) (ms : List Message) (c : Channel) (k : Counts) (numbers : ChaCha) (P : Option Channel → Type 0)
@@ -168,7 +178,7 @@ greeting_put d sender fault [] c k numbers P stays = stays c (stays_put c)
 greeting_put d sender fault (Handshake source o ∷ ms) c k numbers P stays = ⊎_elim
     (λ refused. subst (λ (t : taking.Taken). P t.heard.channel) (sym (cond-true (not (fits d false o) || eqb source 0) (leaves (Some c) (is_refused k) numbers) (greet_fitting (chunks_of d) sender source (record { read = ms; fault = fault }) (Some c) k numbers) refused)) (stays c (stays_put c)))
     (λ welcome. subst (λ (t : taking.Taken). P t.heard.channel) (sym (cond-false (not (fits d false o) || eqb source 0) (leaves (Some c) (is_refused k) numbers) (greet_fitting (chunks_of d) sender source (record { read = ms; fault = fault }) (Some c) k numbers) welcome))
-      (greets_put (chunks_of d) sender source (record { read = ms; fault = fault }) c k numbers P stays))
+    (greets_put (chunks_of d) sender source (record { read = ms; fault = fault }) c k numbers P stays))
     (cases_Bool (not (fits d false o) || eqb source 0))
 greeting_put d sender fault (Data chunk sent_at bytes ∷ ms) c k numbers P stays = stays c (stays_put c)
 greeting_put d sender fault (Ack span delay ∷ ms) c k numbers P stays = stays c (stays_put c)
@@ -198,9 +208,9 @@ leaves_own d whole chunks c k life at sender bytes past s comes =
     let it = (datagram d.method d.chunk bytes).messages in
     ⊎_elim
     (λ none. subst (λ (o : Option Channel). LeavesSeat d whole life (Received at sender bytes) past o) (sym none)
-      (and_from (comes_on d life (Received at sender bytes)) (closes it.read) comes (closed_by chunks it.fault it.read (Proven c) k none)))
+    (and_from (comes_on d life (Received at sender bytes)) (closes it.read) comes (closed_by chunks it.fault it.read (Proven c) k none)))
     (λ some. subst (λ (o : Option Channel). LeavesSeat d whole life (Received at sender bytes) past o) (sym some.1)
-      (seat_heard d whole chunks c some.0 k life at sender bytes past s comes some.1))
+    (seat_heard d whole chunks c some.0 k life at sender bytes past s comes some.1))
     (channel? (hear_all chunks it.fault it.read (Proven c) k).channel)
 
 leaves_numbered : (d : Descriptor) (whole : Type 0) (c : Channel) (k : Counts) (life : Life) (at number : ℕ) (is_bare : Bool) (sender : Address) (bytes : List ℕ) (past : List Record)
@@ -211,11 +221,11 @@ leaves_numbered d whole c k life at number is_bare sender bytes past s is =
     let by = comes_by d life c at number sender bytes s.at s.local is in
     ⊎_elim
     (λ own. subst (λ (h : heard.Heard). LeavesSeat d whole life (Received at (address_of sender) bytes) past h.channel)
-      (sym (cond-true (is_own number sender c) (take_own (chunks_of d) is_bare it c k) (record { channel = Some c; counts = is_stranger k }) own))
-      (leaves_own d whole (chunks_of d) c (cond is_bare (is_kept_alive k) k) life at (address_of sender) bytes past s (by ∙ own_comes c number sender own)))
+    (sym (cond-true (is_own number sender c) (take_own (chunks_of d) is_bare it c k) (record { channel = Some c; counts = is_stranger k }) own))
+    (leaves_own d whole (chunks_of d) c (cond is_bare (is_kept_alive k) k) life at (address_of sender) bytes past s (by ∙ own_comes c number sender own)))
     (λ other. subst (λ (h : heard.Heard). LeavesSeat d whole life (Received at (address_of sender) bytes) past h.channel)
-      (sym (cond-false (is_own number sender c) (take_own (chunks_of d) is_bare it c k) (record { channel = Some c; counts = is_stranger k }) other))
-      (seat_apart d whole c c life at (address_of sender) bytes past s (stays_put c) (by ∙ other_apart c number sender other)))
+    (sym (cond-false (is_own number sender c) (take_own (chunks_of d) is_bare it c k) (record { channel = Some c; counts = is_stranger k }) other))
+    (seat_apart d whole c c life at (address_of sender) bytes past s (stays_put c) (by ∙ other_apart c number sender other)))
     (cases_Bool (is_own number sender c))
 
 leaves_for : (d : Descriptor) (whole : Type 0) (c : Channel) (k : Counts) (numbers : ChaCha) (life : Life) (at : ℕ) (sender : Address) (bytes : List ℕ) (past : List Record) (channel : Option ℕ)
@@ -229,12 +239,12 @@ leaves_for d whole c k numbers life at sender bytes past (Some number) s is =
     let by = comes_by d life c at number sender bytes s.at s.local is in
     ⊎_elim
     (λ anew. subst (λ (t : taking.Taken). LeavesSeat d whole life (Received at (address_of sender) bytes) past t.heard.channel)
-      (sym (cond-true (eqb number 0) (take_greeting d sender it.fault it.read (Some c) k numbers) (record { heard = take_numbered (chunks_of d) number (eqb (length bytes) 4) sender it (Some c) k; numbers = numbers }) anew))
-      (greeting_put d sender it.fault it.read c k numbers (LeavesSeat d whole life (Received at (address_of sender) bytes) past)
-        (λ new put. seat_apart d whole c new life at (address_of sender) bytes past s put (by ∙ zero_apart c number sender s.local_some (eqb-true number 0 anew)))))
+    (sym (cond-true (eqb number 0) (take_greeting d sender it.fault it.read (Some c) k numbers) (record { heard = take_numbered (chunks_of d) number (eqb (length bytes) 4) sender it (Some c) k; numbers = numbers }) anew))
+    (greeting_put d sender it.fault it.read c k numbers (LeavesSeat d whole life (Received at (address_of sender) bytes) past)
+    (λ new put. seat_apart d whole c new life at (address_of sender) bytes past s put (by ∙ zero_apart c number sender s.local_some (eqb-true number 0 anew)))))
     (λ numbered. subst (λ (t : taking.Taken). LeavesSeat d whole life (Received at (address_of sender) bytes) past t.heard.channel)
-      (sym (cond-false (eqb number 0) (take_greeting d sender it.fault it.read (Some c) k numbers) (record { heard = take_numbered (chunks_of d) number (eqb (length bytes) 4) sender it (Some c) k; numbers = numbers }) numbered))
-      (leaves_numbered d whole c k life at number (eqb (length bytes) 4) sender bytes past s is))
+    (sym (cond-false (eqb number 0) (take_greeting d sender it.fault it.read (Some c) k numbers) (record { heard = take_numbered (chunks_of d) number (eqb (length bytes) 4) sender it (Some c) k; numbers = numbers }) numbered))
+    (leaves_numbered d whole c k life at number (eqb (length bytes) 4) sender bytes past s is))
     (cases_Bool (eqb number 0))
 
 pub leaves_seat : (d : Descriptor) (whole : Type 0) (c : Channel) (k : Counts) (numbers : ChaCha) (life : Life) (at : ℕ) (sender : Address) (bytes : List ℕ) (past : List Record)

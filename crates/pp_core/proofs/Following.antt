@@ -21,14 +21,14 @@ all_landed : (span : Span) (xs : List ℕ) → AllFirst xs → covers span 0 ≡
 all_landed span [] all yes_covers = refl
 all_landed span (x ∷ xs) all yes_covers =
     cond-false (not (covers span x)) (x ∷ filter (λ i. not (covers span i)) xs) (filter (λ i. not (covers span i)) xs)
-      (not_from_true (covers span x) (subst (λ (n : ℕ). covers span n ≡ true) (sym all.0) yes_covers))
+    (not_from_true (covers span x) (subst (λ (n : ℕ). covers span n ≡ true) (sym all.0) yes_covers))
     ∙ all_landed span xs all.1 yes_covers
 
 none_landed : (span : Span) (xs : List ℕ) → AllFirst xs → covers span 0 ≡ false → filter (λ i. not (covers span i)) xs ≡ xs
 none_landed span [] all not_covers = refl
 none_landed span (x ∷ xs) all not_covers =
     cond-true (not (covers span x)) (x ∷ filter (λ i. not (covers span i)) xs) (filter (λ i. not (covers span i)) xs)
-      (not_from_false (covers span x) (subst (λ (n : ℕ). covers span n ≡ false) (sym all.0) not_covers))
+    (not_from_false (covers span x) (subst (λ (n : ℕ). covers span n ≡ false) (sym all.0) not_covers))
     ∙ ap (λ (ys : List ℕ). x ∷ ys) (none_landed span xs all.1 not_covers)
 
 -- what does nothing to either
@@ -139,9 +139,9 @@ follow_all whole chunks (Some fault) [] c new k now story f e = let is : c ≡ n
 follow_all whole chunks fault (m ∷ ms) c new k now story f e = ⊎_elim
     (λ closing. absurd (let none : None ≡ Some new = sym (ap (λ (h : heard.Heard). h.channel) (cond-true (is_closing m) (record { channel = None; counts = k }) (hear_all chunks fault ms (after_message m c) (counted chunks m k)) closing)) ∙ e in cc))
     (λ stays.
-      let rest = follow_all whole chunks fault ms (after_message m c) new (counted chunks m k) now (Heard now m ∷ story) (follow_heard whole c now m story f)
-          (sym (ap (λ (h : heard.Heard). h.channel) (cond-false (is_closing m) (record { channel = None; counts = k }) (hear_all chunks fault ms (after_message m c) (counted chunks m k)) stays)) ∙ e) in
-      record { same = same_after m c new rest.same; follows = rest.follows })
+    let rest = follow_all whole chunks fault ms (after_message m c) new (counted chunks m k) now (Heard now m ∷ story) (follow_heard whole c now m story f)
+    (sym (ap (λ (h : heard.Heard). h.channel) (cond-false (is_closing m) (record { channel = None; counts = k }) (hear_all chunks fault ms (after_message m c) (counted chunks m k)) stays)) ∙ e) in
+    record { same = same_after m c new rest.same; follows = rest.follows })
     (cases_Bool (is_closing m))
 
 closing_closes : (m : Message) (ms : List Message) → is_closing m ≡ true → closes (m ∷ ms) ≡ true
@@ -179,7 +179,7 @@ closed_by chunks (Some fault) [] c k e = absurd cc
 closed_by chunks fault (m ∷ ms) c k e = ⊎_elim
     (λ closing. closing_closes m ms closing)
     (λ stays. later_closes m ms (closed_by chunks fault ms (after_message m c) (counted chunks m k)
-      (sym (ap (λ (h : heard.Heard). h.channel) (cond-false (is_closing m) (record { channel = None; counts = k }) (hear_all chunks fault ms (after_message m c) (counted chunks m k)) stays)) ∙ e)))
+    (sym (ap (λ (h : heard.Heard). h.channel) (cond-false (is_closing m) (record { channel = None; counts = k }) (hear_all chunks fault ms (after_message m c) (counted chunks m k)) stays)) ∙ e)))
     (cases_Bool (is_closing m))
 
 no_closes : (m : Message) (ms : List Message) → is_closing m ≡ false → closes (m ∷ ms) ≡ closes ms
@@ -202,7 +202,7 @@ open_by chunks (Some fault) [] c new k e = refl
 open_by chunks fault (m ∷ ms) c new k e = ⊎_elim
     (λ closing. absurd (let none : None ≡ Some new = sym (ap (λ (h : heard.Heard). h.channel) (cond-true (is_closing m) (record { channel = None; counts = k }) (hear_all chunks fault ms (after_message m c) (counted chunks m k)) closing)) ∙ e in cc))
     (λ stays. no_closes m ms stays ∙ open_by chunks fault ms (after_message m c) new (counted chunks m k)
-      (sym (ap (λ (h : heard.Heard). h.channel) (cond-false (is_closing m) (record { channel = None; counts = k }) (hear_all chunks fault ms (after_message m c) (counted chunks m k)) stays)) ∙ e))
+    (sym (ap (λ (h : heard.Heard). h.channel) (cond-false (is_closing m) (record { channel = None; counts = k }) (hear_all chunks fault ms (after_message m c) (counted chunks m k)) stays)) ∙ e))
     (cases_Bool (is_closing m))
 
 -- The counts differ in nothing that is counted when a request is given up, or a datagram comes or goes.
@@ -220,8 +220,13 @@ same_loss k = record { unheld = refl; damaged = refl; read_faults = refl; send_f
 
 pub loss_on : (k mid new : Counts) → SameLoss k mid → SameLoss mid new → SameLoss k new
 loss_on k mid new a b = record {
-  unheld = b.unheld ∙ a.unheld; damaged = b.damaged ∙ a.damaged; read_faults = b.read_faults ∙ a.read_faults; send_faults = b.send_faults ∙ a.send_faults;
-  datagrams = b.datagrams ∙ a.datagrams; short = b.short ∙ a.short; sent = b.sent ∙ a.sent;
+  unheld = b.unheld ∙ a.unheld;
+  damaged = b.damaged ∙ a.damaged;
+  read_faults = b.read_faults ∙ a.read_faults;
+  send_faults = b.send_faults ∙ a.send_faults;
+  datagrams = b.datagrams ∙ a.datagrams;
+  short = b.short ∙ a.short;
+  sent = b.sent ∙ a.sent;
 }
 
 counted_loss : (chunks : ℕ) (m : Message) (k : Counts) → SameLoss k (counted chunks m k)
@@ -233,5 +238,5 @@ loss_all chunks (Some fault) [] c k = record { unheld = refl; damaged = refl; re
 loss_all chunks fault (m ∷ ms) c k = ⊎_elim
     (λ closing. subst (λ (h : heard.Heard). SameLoss k h.counts) (sym (cond-true (is_closing m) (record { channel = None; counts = k }) (hear_all chunks fault ms (after_message m c) (counted chunks m k)) closing)) (same_loss k))
     (λ stays. subst (λ (h : heard.Heard). SameLoss k h.counts) (sym (cond-false (is_closing m) (record { channel = None; counts = k }) (hear_all chunks fault ms (after_message m c) (counted chunks m k)) stays))
-      (loss_on k (counted chunks m k) (hear_all chunks fault ms (after_message m c) (counted chunks m k)).counts (counted_loss chunks m k) (loss_all chunks fault ms (after_message m c) (counted chunks m k))))
+    (loss_on k (counted chunks m k) (hear_all chunks fault ms (after_message m c) (counted chunks m k)).counts (counted_loss chunks m k) (loss_all chunks fault ms (after_message m c) (counted chunks m k))))
     (cases_Bool (is_closing m))

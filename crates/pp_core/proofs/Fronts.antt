@@ -36,7 +36,7 @@ written d old new text at end channel ms m some front spelt most ends within is 
     let front_is : take end new ≡ take at old ++ text = ap (λ (n : ℕ). take n new) ends ∙ ap (take (at + length text)) is ∙ placed_front old at text (omega (arith, ends)) in
     let no_fault : (datagram d.method d.chunk (take at old)).messages.fault ≡ None = ap (λ (x : Datagram). x.messages.fault) front.read in
     let are_full : AllByRecursion (IsFull d.chunk) (datagram d.method d.chunk (take at old)).messages.read =
-        subst (λ (x : Datagram). AllByRecursion (IsFull d.chunk) x.messages.read) (sym front.read) front.full in
+    subst (λ (x : Datagram). AllByRecursion (IsFull d.chunk) x.messages.read) (sym front.read) front.full in
     let grown = grows_by_one d.method d.chunk (take at old) m text some front.bytes (omega (arith, length-take at old, front.some, front.within)) no_fault are_full spelt most in
     record {
       within = omega (arith, same);

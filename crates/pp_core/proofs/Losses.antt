@@ -90,13 +90,23 @@ pub record TakesLoss (size : ℕ) (k new : Counts) : Type 0 where
 
 long_loss : (size : ℕ) (k new : Counts) → 4 ≤ size → SameLoss k new → TakesLoss size k new
 long_loss size k new le s = record {
-  unheld = s.unheld; damaged = s.damaged; read_faults = s.read_faults; send_faults = s.send_faults; datagrams = s.datagrams; sent = s.sent;
+  unheld = s.unheld;
+  damaged = s.damaged;
+  read_faults = s.read_faults;
+  send_faults = s.send_faults;
+  datagrams = s.datagrams;
+  sent = s.sent;
   short = s.short ∙ sym (cond-false (ltb size 4) (rise k.short) k.short (le-ltb size 4 le));
 }
 
 short_loss : (size : ℕ) (k : Counts) → size < 4 → TakesLoss size k (is_short k)
 short_loss size k lt = record {
-  unheld = refl; damaged = refl; read_faults = refl; send_faults = refl; datagrams = refl; sent = refl;
+  unheld = refl;
+  damaged = refl;
+  read_faults = refl;
+  send_faults = refl;
+  datagrams = refl;
+  sent = refl;
   short = sym (cond-true (ltb size 4) (rise k.short) k.short (lt-ltb size 4 lt));
 }
 
@@ -122,5 +132,5 @@ takes_loss d sender bytes channel k numbers =
     ⊎_elim
     (λ lt. subst (λ (o : Option ℕ). TakesLoss (length bytes) k (take_for d sender bytes messages o channel k numbers).heard.counts) (sym (short_channel d bytes lt)) (short_loss (length bytes) k lt))
     (λ le. subst (λ (o : Option ℕ). TakesLoss (length bytes) k (take_for d sender bytes messages o channel k numbers).heard.counts) (sym (long_channel d bytes le))
-      (long_loss (length bytes) k _ le (for_loss d sender bytes messages (from_be_bytes w32 (take 4 bytes)) channel k numbers)))
+    (long_loss (length bytes) k _ le (for_loss d sender bytes messages (from_be_bytes w32 (take 4 bytes)) channel k numbers)))
     (cases_lt (length bytes) 4)

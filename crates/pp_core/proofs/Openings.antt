@@ -43,7 +43,7 @@ closed_none d life (r ∷ past) le =
     (ltb life.opening (length past) && closes_on d life r && (not life.is_dialled || shakes_on d life r || some_since (shakes_on d life) life.opening past))
     (is_closed d life past)
     (and_left (ltb life.opening (length past) && closes_on d life r) (not life.is_dialled || shakes_on d life r || some_since (shakes_on d life) life.opening past)
-      (and_left (ltb life.opening (length past)) (closes_on d life r) early))
+    (and_left (ltb life.opening (length past)) (closes_on d life r) early))
     (closed_none d life past (omega arith))
 
 abbrev NewLife : Address → ℕ → ℕ → List Record → Life
@@ -78,7 +78,7 @@ new_seat d whole chunks at sender word source o ms fault bytes past new k is fit
     let after = follow_all whole chunks fault ms (Opened sender word source) new k (max at (now past)) [] blank left in
     let told_is : heard_in d life true r ≡ ms = cond-true (greets d life r) (drop 1 (read d r).messages.read) (cond (comes_on d life r) (read d r).messages.read []) greeting ∙ rw is refl in
     let story_is : story d life (r ∷ past) ≡ Taken (max at (now past)) ∷ hear (max at (now past)) ms [] =
-        story_opening d life r past refl ∙ ap (λ (xs : List Message). Taken (max at (now past)) ∷ hear (max at (now past)) xs []) told_is in
+    story_opening d life r past refl ∙ ap (λ (xs : List Message). Taken (max at (now past)) ∷ hear (max at (now past)) xs []) told_is in
     record {
       life = life;
       stands = record {
@@ -115,17 +115,17 @@ opens_greeting : (d : Descriptor) (whole : Type 0) (k : Counts) (numbers : ChaCh
 opens_greeting d whole k numbers at sender [] fault bytes past is = tt
 opens_greeting d whole k numbers at sender (Handshake source o ∷ ms) fault bytes past is = ⊎_elim
     (λ refused. subst (λ (t : taking.Taken). OpensSeat d whole (Received at (address_of sender) bytes ∷ past) t.heard.channel)
-      (sym (cond-true (not (fits d false o) || eqb source 0) (leaves None (is_refused k) numbers) (greet_fitting (chunks_of d) sender source (record { read = ms; fault = fault }) None k numbers) refused)) tt)
+    (sym (cond-true (not (fits d false o) || eqb source 0) (leaves None (is_refused k) numbers) (greet_fitting (chunks_of d) sender source (record { read = ms; fault = fault }) None k numbers) refused)) tt)
     (λ welcome.
-      let parts = or_parts (not (fits d false o)) (eqb source 0) welcome in
-      let left = (hear_all (chunks_of d) fault ms (Opened sender (next_word 10 numbers).0 source) k).channel in
-      subst (λ (t : taking.Taken). OpensSeat d whole (Received at (address_of sender) bytes ∷ past) t.heard.channel)
-      (sym (cond-false (not (fits d false o) || eqb source 0) (leaves None (is_refused k) numbers) (greet_fitting (chunks_of d) sender source (record { read = ms; fault = fault }) None k numbers) welcome))
-      (⊎_elim
-        (λ none. subst (λ (x : Option Channel). OpensSeat d whole (Received at (address_of sender) bytes ∷ past) x) (sym none) tt)
-        (λ some. subst (λ (x : Option Channel). OpensSeat d whole (Received at (address_of sender) bytes ∷ past) x) (sym some.1)
-          (new_seat d whole (chunks_of d) at sender (next_word 10 numbers).0 source o ms fault bytes past some.0 k is (not-false (fits d false o) parts.0) (eqb-false source 0 parts.1) some.1))
-        (channel? left)))
+    let parts = or_parts (not (fits d false o)) (eqb source 0) welcome in
+    let left = (hear_all (chunks_of d) fault ms (Opened sender (next_word 10 numbers).0 source) k).channel in
+    subst (λ (t : taking.Taken). OpensSeat d whole (Received at (address_of sender) bytes ∷ past) t.heard.channel)
+    (sym (cond-false (not (fits d false o) || eqb source 0) (leaves None (is_refused k) numbers) (greet_fitting (chunks_of d) sender source (record { read = ms; fault = fault }) None k numbers) welcome))
+    (⊎_elim
+    (λ none. subst (λ (x : Option Channel). OpensSeat d whole (Received at (address_of sender) bytes ∷ past) x) (sym none) tt)
+    (λ some. subst (λ (x : Option Channel). OpensSeat d whole (Received at (address_of sender) bytes ∷ past) x) (sym some.1)
+    (new_seat d whole (chunks_of d) at sender (next_word 10 numbers).0 source o ms fault bytes past some.0 k is (not-false (fits d false o) parts.0) (eqb-false source 0 parts.1) some.1))
+    (channel? left)))
     (cases_Bool (not (fits d false o) || eqb source 0))
 opens_greeting d whole k numbers at sender (Data chunk sent_at content ∷ ms) fault bytes past is = tt
 opens_greeting d whole k numbers at sender (Ack span delay ∷ ms) fault bytes past is = tt
@@ -147,10 +147,10 @@ opens_for d whole k numbers at sender bytes past (Some number) is =
     let it = (datagram d.method d.chunk bytes).messages in
     ⊎_elim
     (λ anew. subst (λ (t : taking.Taken). OpensSeat d whole (Received at (address_of sender) bytes ∷ past) t.heard.channel)
-      (sym (cond-true (eqb number 0) (take_greeting d sender it.fault it.read None k numbers) (record { heard = take_numbered (chunks_of d) number (eqb (length bytes) 4) sender it None k; numbers = numbers }) anew))
-      (opens_greeting d whole k numbers at sender it.read it.fault bytes past (ap (λ (o : Option ℕ). record { channel = o; messages = it }) (is ∙ ap (λ (n : ℕ). Some n) (eqb-true number 0 anew)))))
+    (sym (cond-true (eqb number 0) (take_greeting d sender it.fault it.read None k numbers) (record { heard = take_numbered (chunks_of d) number (eqb (length bytes) 4) sender it None k; numbers = numbers }) anew))
+    (opens_greeting d whole k numbers at sender it.read it.fault bytes past (ap (λ (o : Option ℕ). record { channel = o; messages = it }) (is ∙ ap (λ (n : ℕ). Some n) (eqb-true number 0 anew)))))
     (λ numbered. subst (λ (t : taking.Taken). OpensSeat d whole (Received at (address_of sender) bytes ∷ past) t.heard.channel)
-      (sym (cond-false (eqb number 0) (take_greeting d sender it.fault it.read None k numbers) (record { heard = take_numbered (chunks_of d) number (eqb (length bytes) 4) sender it None k; numbers = numbers }) numbered)) tt)
+    (sym (cond-false (eqb number 0) (take_greeting d sender it.fault it.read None k numbers) (record { heard = take_numbered (chunks_of d) number (eqb (length bytes) 4) sender it None k; numbers = numbers }) numbered)) tt)
     (cases_Bool (eqb number 0))
 
 pub opens_seat : (d : Descriptor) (whole : Type 0) (k : Counts) (numbers : ChaCha) (at : ℕ) (sender : Address) (bytes : List ℕ) (past : List Record)

@@ -110,12 +110,14 @@ pub hears_on : (d : Descriptor) (bytes : List ℕ) (at next : ℕ) (m : Message)
     → c' ≡ after_message m c → k' ≡ counted chunks m k
     → (at < next) × (next ≤ length bytes) × (hear_at d bytes at c k ≡ hear_at d bytes next c' k')
 hears_on d bytes at next m c c' k k' chunks some fits le e open_still few channel_is counts_are =
-    let r = is_read d.method d.chunk at next bytes m some fits le (sym e) in
-    (r.later, r.within,
-    hears d.method d.chunk (chunks_of d) at next bytes m c k some fits le (sym e) open_still
-    ∙ ap (λ (x : Channel). hear_at d bytes next x (counted (chunks_of d) m k)) (sym channel_is)
-    ∙ ap (λ (n : ℕ). hear_at d bytes next c' (counted n m k)) (sym few)
-    ∙ ap (λ (x : Counts). hear_at d bytes next c' x) (sym counts_are))
+    let r = is_read d.method d.chunk at next bytes m some fits le (sym e) in (
+      r.later,
+      r.within,
+      hears d.method d.chunk (chunks_of d) at next bytes m c k some fits le (sym e) open_still
+          ∙ ap (λ (x : Channel). hear_at d bytes next x (counted (chunks_of d) m k)) (sym channel_is)
+          ∙ ap (λ (n : ℕ). hear_at d bytes next c' (counted n m k)) (sym few)
+          ∙ ap (λ (x : Counts). hear_at d bytes next c' x) (sym counts_are),
+    )
 
 pub hears_last : (d : Descriptor) (bytes : List ℕ) (at next : ℕ) (m : Message) (c : Channel) (k : Counts) → 0 < d.chunk → IsBytes bytes → at ≤ length bytes
     → Read m next ≡ moved at (next_message d.method d.chunk (drop at bytes)) → is_closing m ≡ true

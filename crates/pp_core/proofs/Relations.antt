@@ -149,7 +149,7 @@ pub sends_served : (disk disk' : DiskState) (seen seen' : LinkState) (s : State)
 sends_served disk disk' seen seen' s c h here (waits idle is same) =
     subst (λ (x : Heard). Sends (moment_of disk.history) seen seen' s (On s x)) (sym is)
     (subst (λ (t : State). Sends (moment_of disk.history) seen seen' s t) (sym (state_is s c here))
-      (subst (λ (l : LinkState). Sends (moment_of disk.history) seen l s s) (sym same) (sends_nothing (moment_of disk.history) seen s)))
+    (subst (λ (l : LinkState). Sends (moment_of disk.history) seen l s s) (sym same) (sends_nothing (moment_of disk.history) seen s)))
 sends_served disk disk' seen seen' s c h here (lacks none is same) =
     subst (λ (x : Heard). Sends (moment_of disk.history) seen seen' s (On s x)) (sym is)
     (keeps_link (moment_of disk.history) seen seen' s c (is_met c) (is_unheld s.counts) here (left_met c) (lost_unheld s.counts) (record { datagrams = refl; short = refl; sent = refl }) same)
@@ -240,4 +240,4 @@ pub flush_causes : (s t u : State) (disk disk' : DiskState) (x y z : LinkState) 
 flush_causes s t u disk disk' x y z core le le' later p q =
     causes_twice s.descriptor (holds_first s) disk disk' x y z s.counts t.counts u.counts le le' later p
     (subst (λ (d : Descriptor). Causes d (holds_first s) disk disk' y z t.counts u.counts) core.descriptor
-      (subst (λ (xs : List Bool). Causes t.descriptor (slice_index_or xs 0 false) disk disk' y z t.counts u.counts) core.committed q))
+    (subst (λ (xs : List Bool). Causes t.descriptor (slice_index_or xs 0 false) disk disk' y z t.counts u.counts) core.committed q))

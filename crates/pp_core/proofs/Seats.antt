@@ -68,12 +68,12 @@ seat_on d whole after c new life r past s on f =
       replied = λ e. ⊎_elim
           (λ before. or_right (leb life.opening (length past) && answers d life r) (some_since (answers d life) life.opening past) (s.replied before))
           (λ here. or_left (leb life.opening (length past) && answers d life r) (some_since (answers d life) life.opening past)
-            (and_from (leb life.opening (length past)) (answers d life r) (le-leb life.opening (length past) (omega arith)) here))
+          (and_from (leb life.opening (length past)) (answers d life r) (le-leb life.opening (length past) (omega arith)) here))
           (on.replied e);
       heard = λ e. ⊎_elim
           (λ before. or_right (leb life.opening (length past) && comes_on d life r) (some_since (comes_on d life) life.opening past) (s.heard before))
           (λ here. or_left (leb life.opening (length past) && comes_on d life r) (some_since (comes_on d life) life.opening past)
-            (and_from (leb life.opening (length past)) (comes_on d life r) (le-leb life.opening (length past) (omega arith)) here))
+          (and_from (leb life.opening (length past)) (comes_on d life r) (le-leb life.opening (length past) (omega arith)) here))
           (on.proven e);
       follows = f;
     }
@@ -93,14 +93,15 @@ seat_lives d whole c life past s replied = record {
     at_since test place [] e = absurd cc
     at_since test place (r ∷ xs) e = ⊎_elim
         (λ here. let parts = and_parts (eqb place (length xs)) (test r) here in
-          or_left (leb place (length xs) && test r) (some_since test place xs) (and_from (leb place (length xs)) (test r) (le-leb place (length xs) (omega (arith, eqb-true place (length xs) parts.0))) parts.1))
+        or_left (leb place (length xs) && test r) (some_since test place xs) (and_from (leb place (length xs)) (test r) (le-leb place (length xs) (omega (arith, eqb-true place (length xs) parts.0))) parts.1))
         (λ before. or_right (leb place (length xs) && test r) (some_since test place xs) (at_since test place xs before))
         (or_cases (eqb place (length xs) && test r) (is_at test place xs) e)
+
     at_more : (test more : Record → Bool) → ((r : Record) → test r ≡ true → more r ≡ true) → (place : ℕ) (xs : List Record) → is_at test place xs ≡ true → is_at more place xs ≡ true
     at_more test more grows place [] e = absurd cc
     at_more test more grows place (r ∷ xs) e = ⊎_elim
         (λ here. let parts = and_parts (eqb place (length xs)) (test r) here in
-          or_left (eqb place (length xs) && more r) (is_at more place xs) (and_from (eqb place (length xs)) (more r) parts.0 (grows r parts.1)))
+        or_left (eqb place (length xs) && more r) (is_at more place xs) (and_from (eqb place (length xs)) (more r) parts.0 (grows r parts.1)))
         (λ before. or_right (eqb place (length xs) && more r) (is_at more place xs) (at_more test more grows place xs before))
         (or_cases (eqb place (length xs) && test r) (is_at test place xs) e)
 
@@ -128,4 +129,4 @@ none_dialled d (r ∷ past) each life place dialled e = ⊎_elim
         let outer = and_parts (goes_to life.address (Sent moment receiver bytes) && is_number (cond life.is_dialled 0 life.remote) (read d (Sent moment receiver bytes)).channel) _ a in
         let inner = and_parts (goes_to life.address (Sent moment receiver bytes)) (is_number (cond life.is_dialled 0 life.remote) (read d (Sent moment receiver bytes)).channel) outer.0 in
         both_ways (is_number 0 (read d (Sent moment receiver bytes)).channel) none
-          (subst (λ (b : Bool). is_number (cond b 0 life.remote) (read d (Sent moment receiver bytes)).channel ≡ true) dialled inner.1)
+        (subst (λ (b : Bool). is_number (cond b 0 life.remote) (read d (Sent moment receiver bytes)).channel ≡ true) dialled inner.1)

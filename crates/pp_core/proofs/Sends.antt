@@ -49,7 +49,7 @@ said_there d whole c life moment bytes ms past s is =
     let it = datagram d.method d.chunk bytes in
     let numbered : is_number life.remote it.channel ≡ true = subst (λ (x : Datagram). is_number life.remote x.channel ≡ true) (sym is) (eq-eqb c.remote life.remote (sym s.remote)) in
     cond-false (not (goes_to life.address (DatagramOf c moment bytes))) [] (cond (is_number life.remote it.channel) it.messages.read (cond (is_number 0 it.channel) (behind life.local it.messages.read) []))
-      (ap not (goes_there d whole c life moment bytes past s))
+    (ap not (goes_there d whole c life moment bytes past s))
     ∙ cond-true (is_number life.remote it.channel) it.messages.read (cond (is_number 0 it.channel) (behind life.local it.messages.read) []) numbered
     ∙ ap (λ (x : Datagram). x.messages.read) is
 
@@ -94,19 +94,24 @@ replied_seat d whole c life moment bytes holds past s is =
     let r = DatagramOf c moment bytes in
     let it = datagram d.method d.chunk bytes in
     let answers_it : answers d life r ≡ true =
-        and_from (goes_to life.address r && is_number (cond life.is_dialled 0 life.remote) it.channel) (begins_as life.local it.messages.read)
-        (and_from (goes_to life.address r) (is_number (cond life.is_dialled 0 life.remote) it.channel) (goes_there d whole c life moment bytes past s)
-          (subst (λ (b : Bool). is_number (cond b 0 life.remote) it.channel ≡ true) (sym s.answered)
-            (subst (λ (x : Datagram). is_number life.remote x.channel ≡ true) (sym is) (eq-eqb c.remote life.remote (sym s.remote)))))
-        (subst (λ (x : Datagram). begins_as life.local x.messages.read ≡ true) (sym is) (eq-eqb c.local life.local (sym s.local))) in
+    and_from (goes_to life.address r && is_number (cond life.is_dialled 0 life.remote) it.channel) (begins_as life.local it.messages.read)
+    (and_from (goes_to life.address r) (is_number (cond life.is_dialled 0 life.remote) it.channel) (goes_there d whole c life moment bytes past s)
+    (subst (λ (b : Bool). is_number (cond b 0 life.remote) it.channel ≡ true) (sym s.answered)
+    (subst (λ (x : Datagram). is_number life.remote x.channel ≡ true) (sym is) (eq-eqb c.remote life.remote (sym s.remote)))))
+    (subst (λ (x : Datagram). begins_as life.local x.messages.read ≡ true) (sym is) (eq-eqb c.local life.local (sym s.local))) in
     let on : GoesOn d c (is_replied c) life r = record {
-      address = refl; local = refl; remote = refl; proven = λ e. inl e; replied = λ e. inr answers_it; open_still = refl;
+      address = refl;
+      local = refl;
+      remote = refl;
+      proven = λ e. inl e;
+      replied = λ e. inr answers_it;
+      open_still = refl;
     } in
     let f = s.follows in
     let same : Follows whole (is_replied c) (story d life past) = record { asked_for = f.asked_for; kept = f.kept; unchoked = f.unchoked; flies = f.flies; first = f.first } in
     seat_on d whole whole c (is_replied c) life r past s on
     (subst (λ (xs : List Line). Follows whole (is_replied c) xs) (sym (story_said d whole c life moment bytes (reply d c.local holds) past s is))
-      (follow_reply d whole (is_replied c) c.local holds (now past) (story d life past) same))
+    (follow_reply d whole (is_replied c) c.local holds (now past) (story d life past) same))
 
 life_by : (a b : Life) → a.address ≡ b.address → a.local ≡ b.local → a.remote ≡ b.remote → a.is_dialled ≡ b.is_dialled → a.opening ≡ b.opening → a ≡ b
 life_by a b address local remote dialled opening =
@@ -132,12 +137,12 @@ only_replied : (d : Descriptor) (whole : Type 0) (c : Channel) (life : Life) (mo
 only_replied d whole c life moment bytes holds past s is none only other plain = ⊎_elim
     (λ before. only other before)
     (λ first.
-      let there : address_of c.address ≡ other.address = same_is (address_of c.address) other.address first.goes in
-      let same : other.address ≡ life.address = sym there ∙ sym s.at in
-      let numbers = answer_number d other c moment bytes (reply d c.local holds) is first.answered first.is_answer in
-      let own : other.local ≡ life.local = sym (eqb-true c.local other.local numbers.1) ∙ sym s.local in
-      life_by other life same own (numbers.0 ∙ sym s.remote) (first.answered ∙ sym s.answered)
-      (one_opening d life other (DatagramOf c moment bytes) past s.answered same s.opened first))
+    let there : address_of c.address ≡ other.address = same_is (address_of c.address) other.address first.goes in
+    let same : other.address ≡ life.address = sym there ∙ sym s.at in
+    let numbers = answer_number d other c moment bytes (reply d c.local holds) is first.answered first.is_answer in
+    let own : other.local ≡ life.local = sym (eqb-true c.local other.local numbers.1) ∙ sym s.local in
+    life_by other life same own (numbers.0 ∙ sym s.remote) (first.answered ∙ sym s.answered)
+    (one_opening d life other (DatagramOf c moment bytes) past s.answered same s.opened first))
     (plain_before_sent d other (DatagramOf c moment bytes) past none plain)
 
 -- what a reply serves, and announces
@@ -279,11 +284,16 @@ delivered_seat : (d : Descriptor) (whole : Type 0) (c : Channel) (life : Life) (
 delivered_seat d whole c life moment now' digest content bytes past s is =
     let r = DatagramOf c moment bytes in
     let on : GoesOn d c (is_delivered c) life r = record {
-      address = refl; local = refl; remote = refl; proven = λ e. inl e; replied = λ e. inl e; open_still = refl;
+      address = refl;
+      local = refl;
+      remote = refl;
+      proven = λ e. inl e;
+      replied = λ e. inl e;
+      open_still = refl;
     } in
     seat_on d whole whole c (is_delivered c) life r past s on
     (subst (λ (xs : List Line). Follows whole (is_delivered c) xs) (sym (story_said d whole c life moment bytes (delivery now' digest content) past s is))
-      (follow_delivery whole c now' (now past) digest content (story d life past) s.follows))
+    (follow_delivery whole c now' (now past) digest content (story d life past) s.follows))
 
 only_delivered : (d : Descriptor) (whole : Type 0) (c : Channel) (life : Life) (moment now' : ℕ) (digest content bytes : List ℕ) (past : List Record) → SeatStands d whole c life past
     → IsDatagram d bytes c.remote (delivery now' digest content) → NoneDialled d (DatagramOf c moment bytes ∷ past) → ((other : Life) → IsPlainNow d other past → other ≡ life)
@@ -291,8 +301,8 @@ only_delivered : (d : Descriptor) (whole : Type 0) (c : Channel) (life : Life) (
 only_delivered d whole c life moment now' digest content bytes past s is none only other plain = ⊎_elim
     (λ before. only other before)
     (λ first. absurd (
-      let numbers = answer_number d other c moment bytes (delivery now' digest content) is first.answered first.is_answer in
-      let never : false ≡ true = numbers.1 in cc))
+    let numbers = answer_number d other c moment bytes (delivery now' digest content) is first.answered first.is_answer in
+    let never : false ≡ true = numbers.1 in cc))
     (plain_before_sent d other (DatagramOf c moment bytes) past none plain)
 
 -- the hash of the one leaf completes the path of the one chunk
@@ -356,8 +366,11 @@ stands_delivered book since s c moment now' digest content bytes past here prove
         only = only_delivered s.descriptor (IsWhole s.counts) c seat.life moment now' digest content bytes past seat.stands is (none_dialled s.descriptor (DatagramOf c moment bytes ∷ past) (dials, st.dials_none)) seat.only;
       };
       dials_none = (dials, st.dials_none);
-      served = (serves_here s.descriptor book c moment bytes (delivery now' digest content) past is
-          (delivery_serves s.descriptor book (IsWhole s.counts) c seat.life now' digest content past st.one_chunk st.rooted seat.stands proven replied asks few chunk), st.served);
+      served = (
+        serves_here s.descriptor book c moment bytes (delivery now' digest content) past is
+            (delivery_serves s.descriptor book (IsWhole s.counts) c seat.life now' digest content past st.one_chunk st.rooted seat.stands proven replied asks few chunk),
+        st.served,
+      );
       announced = (λ i e. absurd (let never : false ≡ true = subst (λ (x : Datagram). announces i x.messages.read ≡ true) is e in cc), st.announced);
       tied = tied_sent s.counts moment (address_of c.address) bytes past st.tied;
     }

@@ -38,9 +38,9 @@ tied_datagram k new at sender bytes past t l = record {
   datagrams = l.datagrams ∙ ap rise t.datagrams ∙ rise_capped (came past);
   short = l.short ∙ ⊎_elim
       (λ lt. cond-true (ltb (length bytes) 4) (rise k.short) k.short lt ∙ ap rise t.short ∙ rise_capped (came_short past)
-        ∙ ap capped (sym (cond-true (ltb (length bytes) 4) (came_short past + 1) (came_short past) lt)))
+      ∙ ap capped (sym (cond-true (ltb (length bytes) 4) (came_short past + 1) (came_short past) lt)))
       (λ le. cond-false (ltb (length bytes) 4) (rise k.short) k.short le ∙ t.short
-        ∙ ap capped (sym (cond-false (ltb (length bytes) 4) (came_short past + 1) (came_short past) le)))
+      ∙ ap capped (sym (cond-false (ltb (length bytes) 4) (came_short past + 1) (came_short past) le)))
       (cases_Bool (ltb (length bytes) 4));
   sent = l.sent ∙ t.sent;
 }
@@ -57,8 +57,16 @@ whole_before size k new l w = record {
 
 pub weaker_seat : (d : Descriptor) (whole after : Type 0) (c : Channel) (life : Life) (past : List Record) → (after → whole) → SeatStands d whole c life past → SeatStands d after c life past
 weaker_seat d whole after c life past less s = record {
-  at = s.at; local = s.local; remote = s.remote; answered = s.answered; local_some = s.local_some; remote_some = s.remote_some;
-  opened = s.opened; open_still = s.open_still; replied = s.replied; heard = s.heard;
+  at = s.at;
+  local = s.local;
+  remote = s.remote;
+  answered = s.answered;
+  local_some = s.local_some;
+  remote_some = s.remote_some;
+  opened = s.opened;
+  open_still = s.open_still;
+  replied = s.replied;
+  heard = s.heard;
   follows = follow_weaker whole after c _ less s.follows;
 }
 
@@ -75,9 +83,9 @@ seat_after : (d : Descriptor) (whole after : Type 0) (c : Channel) (r : Record) 
 seat_after d whole after c r past None less none event s closed = λ other plain.
     let is : other ≡ s.life = only_before d r past s.life none event s.only other plain in
     both_ways (some_since (closes_on d s.life) s.life.opening (r ∷ past))
-      (subst (λ (l : Life). some_since (closes_on d l) l.opening (r ∷ past) ≡ false) is plain.open_still)
-      (or_left (leb s.life.opening (length past) && closes_on d s.life r) (some_since (closes_on d s.life) s.life.opening past)
-        (and_from (leb s.life.opening (length past)) (closes_on d s.life r) (le-leb s.life.opening (length past) (omega (arith, seat_began d whole c s.life past s.stands))) closed))
+    (subst (λ (l : Life). some_since (closes_on d l) l.opening (r ∷ past) ≡ false) is plain.open_still)
+    (or_left (leb s.life.opening (length past) && closes_on d s.life r) (some_since (closes_on d s.life) s.life.opening past)
+    (and_from (leb s.life.opening (length past)) (closes_on d s.life r) (le-leb s.life.opening (length past) (omega (arith, seat_began d whole c s.life past s.stands))) closed))
 seat_after d whole after c r past (Some new) less none event s stands = record {
   life = s.life;
   stands = weaker_seat d whole after new s.life (r ∷ past) less stands;

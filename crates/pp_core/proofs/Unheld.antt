@@ -27,12 +27,12 @@ slice_read : (reads room : List ℕ) (chunk n : ℕ) → IsRead reads 64 room �
 slice_read reads room chunk n is len whole =
     same_number_lists (slice reads (chunk_place chunk 0) n) room (whole ∙ sym len)
     (λ k lt.
-      let within : k < n = subst (λ (m : ℕ). k < m) whole lt in
-      let place : chunk_place chunk 0 ≡ 64 = omega arith in
-      get_or-take n (drop (chunk_place chunk 0) reads) k 0 within
-      ∙ get_or-drop (chunk_place chunk 0) reads k 0
-      ∙ ap (λ (p : ℕ). get_or reads (p + k) 0) place
-      ∙ sym (is k (omega arith)))
+    let within : k < n = subst (λ (m : ℕ). k < m) whole lt in
+    let place : chunk_place chunk 0 ≡ 64 = omega arith in
+    get_or-take n (drop (chunk_place chunk 0) reads) k 0 within
+    ∙ get_or-drop (chunk_place chunk 0) reads k 0
+    ∙ ap (λ (p : ℕ). get_or reads (p + k) 0) place
+    ∙ sym (is k (omega arith)))
 
 pub damaged_is : (d : Descriptor) (reads room : List ℕ) → chunks_of d ≡ 1 → length room ≡ chunk_length d.size d.chunk 0 → IsRead reads 64 room → (sha256 room ≡ d.root → ⊥)
     → holds d reads 0 ≡ false

@@ -8,7 +8,26 @@ rise n = min (n + 1) (2 ^ 64 - 1)
 
 abbrev pub no_counts : Counts
 no_counts = record {
-  turns = 0; datagrams = 0; sent = 0; stored = 0; keepalives = 0; short = 0; stranger = 0; refused_handshakes = 0;
-  no_seat = 0; cut = 0; outside = 0; not_a_node = 0; full = 0; choked = 0; unheld = 0; missing = 0; wrong = 0;
-  repeats = 0; damaged = 0; read_faults = 0; send_faults = 0; receive_faults = 0;
+  turns = 0;
+  datagrams = 0;
+  sent = 0;
+  stored = 0;
+  keepalives = 0;
+  short = 0;
+  stranger = 0;
+  refused_handshakes = 0;
+  no_seat = 0;
+  cut = 0;
+  outside = 0;
+  not_a_node = 0;
+  full = 0;
+  choked = 0;
+  unheld = 0;
+  missing = 0;
+  wrong = 0;
+  repeats = 0;
+  damaged = 0;
+  read_faults = 0;
+  send_faults = 0;
+  receive_faults = 0;
 }

@@ -9,3 +9,4 @@ pub mod Events
 pub mod Peers
 pub mod Sends
 pub mod Serving
+pub mod Opening

@@ -7,7 +7,7 @@ use Rattle.pp_core.specs.declared.peer.Peer.TheInside.{Inside}
 abbrev pub state_of : Inside → State
 state_of p = record {
   descriptor = p.descriptor;
-  committed = p.committed;
+  committed = p.store.committed;
   latest = p.latest;
   channel = p.channel;
   numbers = p.numbers;
@@ -19,4 +19,4 @@ state_of p = record {
 pub record HasRoom (p : Inside) : Type 0 where
   pub chunk : length p.chunk.items ≡ p.descriptor.chunk
   pub datagram : length p.datagram.items ≡ 16384
-  pub set : length p.committed ≡ chunks_of p.descriptor
+  pub set : length p.store.committed ≡ chunks_of p.descriptor

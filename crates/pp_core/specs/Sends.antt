@@ -51,5 +51,9 @@ pub record Causes (d : Descriptor) (held : Bool) (disk disk' : DiskState) (seen 
   pub damaged : (new.damaged ≡ k.damaged) ⊎ (IsKnown disk → chunks_of d ≡ 1 → holds d disk.history.reads 0 ≡ false)
   pub unheld : (new.unheld ≡ k.unheld) ⊎ (held ≡ false)
   pub others : new ≡ record k {
-    sent = new.sent; send_faults = new.send_faults; read_faults = new.read_faults; damaged = new.damaged; unheld = new.unheld;
+    sent = new.sent;
+    send_faults = new.send_faults;
+    read_faults = new.read_faults;
+    damaged = new.damaged;
+    unheld = new.unheld;
   }

@@ -4,6 +4,7 @@
 mod channel;
 mod counts;
 mod hearing;
+mod opening;
 mod peer;
 mod sending;
 mod serving;
@@ -11,4 +12,5 @@ mod taking;
 mod writing;
 
 pub use counts::Counts;
+pub use opening::OpenFault;
 pub use peer::Peer;

@@ -1,6 +1,6 @@
 //! A peer of one swarm.
 
-ghost use Rattle.std.specs.Prelude.{◌≡◌, ◌≤◌, ◌⊎◌, ◌∷◌, ℕ, List, true, max, IsOk};
+ghost use Rattle.std.specs.Prelude.{◌≡◌, ◌≤◌, ◌⊎◌, ◌∷◌, ℕ, List, true, max, length, IsOk};
 ghost use Rattle.pp_terms.specs.Count.{HasRisen};
 ghost use Rattle.pp_terms.specs.Disk.{moment_of};
 ghost use Rattle.pp_outside.specs.Arrivals.{IsEvent};
@@ -8,6 +8,8 @@ ghost use Rattle.pp_core.specs.Events.{turned, reached, after_event, after_refus
 ghost use Rattle.pp_core.specs.Counting.{rise};
 ghost use Rattle.pp_core.specs.Sends.{Sends, Causes, OwesNone, LeavesNone};
 ghost use Rattle.pp_core.specs.Serving.{ReadsAlone};
+ghost use Rattle.pp_terms.specs.Descriptor.{chunks_of};
+ghost use Rattle.pp_core.specs.Opening.{new_state};
 ghost use Rattle.pp_core.specs.Standing.{holds_first, StandsFor};
 ghost use Rattle.pp_terms.specs.Book.{LookUp};
 ghost use Rattle.pp_terms.specs.Traffic.{Record};
@@ -15,19 +17,22 @@ ghost use Rattle.pp_outside.specs.Outside.{record_of};
 
 use crate::channel::Channel;
 use crate::counts::{Counts, risen};
+use crate::opening::Rooms;
 use crate::sending::{owes_reply, send_reply};
 use crate::serving::serve;
 use crate::taking::take_datagram;
 use pp_outside::{Disk, DiskFault, Event, Link};
+use pp_store::Store;
 use pp_tree::{Book, ChunkSet, Descriptor};
 use rand_chacha::ChaCha20Rng;
+use rand_core::SeedableRng;
 use std::marker::Model;
 
 /// A peer that serves a swarm's store to others.
 #[derive(Drop)]
 pub struct Peer {
     descriptor: Descriptor,
-    committed: ChunkSet,
+    store: Store,
     latest: u64,
     channel: Option<Channel>,
     numbers: ChaCha20Rng,
@@ -80,6 +85,26 @@ fn refused(counts: Counts) -> Counts
 }
 
 impl Peer {
+    // A peer of an open store.
+    pub(crate) fn begin(descriptor: &Descriptor, store: Store, seed: [u8; 32], rooms: Rooms) -> Peer
+        requires chunk { length rooms.chunk.items ≡ descriptor.now.chunk }
+        requires datagram { length rooms.datagram.items ≡ 16384 }
+        requires set { length store.committed ≡ chunks_of descriptor.now }
+        ensures { result ≡ new_state descriptor.now store.committed seed }
+    {
+        Peer {
+            descriptor: *descriptor,
+            store,
+            latest: 0,
+            channel: None,
+            numbers: ChaCha20Rng::from_seed(seed),
+            counts: Counts::none(),
+            live: true,
+            chunk: rooms.chunk,
+            datagram: rooms.datagram,
+        }
+    }
+
     /// Takes one event: `bytes` are the datagram, empty for a quiet wait. It needs a live peer. It refuses where the disk refuses
     /// to write; this peer writes nothing yet.
     pub fn absorb<D: Disk>(
@@ -167,7 +192,7 @@ impl Peer {
         if !owes_reply(channel) {
             return;
         }
-        let held = self.committed.contains(0);
+        let held = self.store.committed().contains(0);
         let heard = send_reply(
             &self.descriptor,
             held,
@@ -192,7 +217,7 @@ impl Peer {
         let Some(channel) = self.channel else {
             return;
         };
-        let held = self.committed.contains(0);
+        let held = self.store.committed().contains(0);
         let len = self.descriptor.chunk_len(0) as usize;
         let heard = serve(
             &self.descriptor,
@@ -214,8 +239,7 @@ impl Peer {
     pub fn close<D: Disk, L: Link>(&mut self, _disk: &D, link: &mut L)
         ensures link { L.seen link.new ≡ L.seen link.old }
         ensures same { self.new ≡ self.old }
-    {
-    }
+    {}
 
     /// What was counted.
     pub fn counts(&self) -> &Counts
@@ -228,7 +252,7 @@ impl Peer {
     pub fn committed(&self) -> &ChunkSet
         ensures { result.now ≡ self.now.committed }
     {
-        &self.committed
+        self.store.committed()
     }
 
     /// Whether the peer goes on: not after an error of `absorb`.

@@ -92,9 +92,7 @@ pub(crate) fn serve<D: Disk, L: Link>(
     if !held {
         return given_up(channel, unheld(counts));
     }
-    serve_held(
-        descriptor, now, channel, counts, len, room, out, disk, link,
-    )
+    serve_held(descriptor, now, channel, counts, len, room, out, disk, link)
 }
 
 // The request is given up.

@@ -243,7 +243,9 @@ fn faulty(kind: WireKind, counts: Counts) -> Counts
 {
     match kind {
         WireKind::Options(_) => refused(counts),
-        WireKind::Short | WireKind::UnknownType(_) | WireKind::Range | WireKind::Wide => stranger(counts),
+        WireKind::Short | WireKind::UnknownType(_) | WireKind::Range | WireKind::Wide => stranger(
+            counts,
+        ),
     }
 }
 

@@ -25,12 +25,7 @@ fn begin(channel: u32, out: &mut [u8]) -> usize
 }
 
 /// Puts a message behind the others, for which there is room, and answers the place behind it.
-fn append<'m>(
-    message: &'m Message<'m>,
-    descriptor: &Descriptor,
-    out: &mut [u8],
-    at: usize,
-) -> usize
+fn append<'m>(message: &'m Message<'m>, descriptor: &Descriptor, out: &mut [u8], at: usize) -> usize
     requires can { CanPut descriptor.now.method (message_of message.now) }
     requires named { NamesChunks descriptor.now.method (message_of message.now) }
     requires room { at + length (spell descriptor.now.method (message_of message.now)) ≤ length out.old }

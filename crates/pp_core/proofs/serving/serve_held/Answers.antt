@@ -6,7 +6,7 @@ use Rattle.pp_core.proofs.serving.serve_held.Goals as goal
 pub returns-in-Ok-clause-served : goal.returns-in-Ok-clause-served
 returns-in-Ok-clause-served g c held =
     let front : take c.args.len (c.read_chunk.new.room ++ drop c.args.len c.args.room.now) ≡ c.read_chunk.new.room =
-        take_at c.read_chunk.new.room (drop c.args.len c.args.room.now) c.args.len (c.read_chunk.auto.room ∙ length-take-le c.args.len c.args.room.now c.requires.room) in
+    take_at c.read_chunk.new.room (drop c.args.len c.args.room.now) c.args.len (c.read_chunk.auto.room ∙ length-take-le c.args.len c.args.room.now c.requires.room) in
     delivers c.in-Ok.digest c.read_chunk.new.room c.in-Ok.ensures.chunk c.requires.may (rw (c.read_chunk.ensures.disk.same, front) at c.deliver.ensures)
 
 pub returns-in-Err-Refused-clause-served : goal.returns-in-Err-Refused-clause-served

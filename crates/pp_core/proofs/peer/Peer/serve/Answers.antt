@@ -14,10 +14,10 @@ pub returns-clause-sends : goal.returns-clause-sends
 returns-clause-sends g c =
     subst (λ (s : State). Sends (moment_of (g.D.Disk.state c.args.disk.now).history) (g.L.Link.seen c.args.link.now) (g.L.Link.seen c.serve-heard.new.link) s (On (state_of c.self.inside) c.serve-heard.result)) c.self.view_is
     (sends_served (g.D.Disk.state c.args.disk.now) (g.D.Disk.state c.serve-heard.new.disk) (g.L.Link.seen c.args.link.now) (g.L.Link.seen c.serve-heard.new.link) (state_of c.self.inside) c.in-Some.channel c.serve-heard.result c.in-Some.is
-      (rw c.contains-held.ensures at c.serve-heard.ensures.served))
+    (rw (c.contains-held.ensures, c.committed.ensures) at c.serve-heard.ensures.served))
 
 pub returns-clause-causes : goal.returns-clause-causes
 returns-clause-causes g c =
     subst (λ (s : State). Causes s.descriptor (holds_first s) (g.D.Disk.state c.args.disk.now) (g.D.Disk.state c.serve-heard.new.disk) (g.L.Link.seen c.args.link.now) (g.L.Link.seen c.serve-heard.new.link) s.counts c.serve-heard.result.counts) c.self.view_is
     (causes_served c.self.inside.descriptor (holds_first (state_of c.self.inside)) c.self.inside.latest c.in-Some.channel c.self.inside.counts (g.D.Disk.state c.args.disk.now) (g.D.Disk.state c.serve-heard.new.disk)
-      (g.L.Link.seen c.args.link.now) (g.L.Link.seen c.serve-heard.new.link) c.serve-heard.result (rw c.contains-held.ensures at c.serve-heard.ensures.served))
+    (g.L.Link.seen c.args.link.now) (g.L.Link.seen c.serve-heard.new.link) c.serve-heard.result (rw (c.contains-held.ensures, c.committed.ensures) at c.serve-heard.ensures.served))

@@ -1,0 +1,114 @@
+//! A peer is opened.
+
+ghost use Rattle.std.specs.Prelude.{◌≡◌, ◌≤◌, ◌⊎◌, ℕ, [], length, replicate, IfOk, OnOk, OnErr, false};
+ghost use Rattle.std.specs.Result.{result_map_both};
+ghost use Rattle.rand_chacha.specs.ChaCha.{of_seed};
+ghost use Rattle.pp_terms.specs.Book.{IsRooted};
+ghost use Rattle.pp_terms.specs.Descriptor.{chunks_of};
+ghost use Rattle.pp_terms.specs.Disk.{IsKnown, moment_of};
+ghost use Rattle.pp_tree.specs.Book.{entry, empty_book, HasRootAlone};
+ghost use Rattle.pp_scan.specs.Scan.{HasFound};
+ghost use Rattle.pp_store.specs.Keep.{KeepsDisk};
+ghost use Rattle.pp_store.specs.Store.{IsOpened, AllStand};
+ghost use Rattle.pp_core.specs.Opening.{HasBegun, HasOpened};
+ghost use Rattle.pp_core.specs.Standing.{StandsFor};
+
+use crate::counts::Counts;
+use crate::peer::Peer;
+use crate::writing::DATAGRAM;
+use pp_outside::Disk;
+use pp_scan::ScanFault;
+use pp_store::Store;
+use pp_tree::{Book, Descriptor};
+use rand_chacha::ChaCha20Rng;
+use rand_core::SeedableRng;
+use std::alloc::{AllocError, Global};
+
+/// Why a peer couldn't be opened.
+#[derive(Clone, Copy, Debug, PartialEq, Eq)]
+pub enum OpenFault {
+    /// The file isn't empty and is no store of the descriptor's: its byte `at`, below 64, is the first that differs from the
+    /// header.
+    NotAStore { at: u8, found: u8, want: u8 },
+    /// The disk refused a call.
+    Disk,
+    /// There was no memory.
+    Memory,
+}
+
+impl OpenFault {
+    ghost use Rattle.pp_core.specs.Opening.{fault_from};
+
+    fn of_scan(fault: ScanFault) -> OpenFault
+        ensures { result ≡ fault_from fault }
+    {
+        match fault {
+            ScanFault::NotAStore { at, found, want } => OpenFault::NotAStore { at, found, want },
+            ScanFault::Disk => OpenFault::Disk,
+            ScanFault::Memory => OpenFault::Memory,
+        }
+    }
+}
+
+fn room(alloc: Global, size: usize) -> Result<Vec<u8>, AllocError>
+    ensures { IfOk result (λ bytes. length bytes.items ≡ size) }
+{
+    vec![in alloc; 0; size]
+}
+
+// What a peer needs beside its store.
+#[derive(Drop)]
+pub(crate) struct Rooms {
+    pub(crate) chunk: Vec<u8>,
+    pub(crate) datagram: Vec<u8>,
+}
+
+// All memory but the store's, and the book is prepared.
+fn make_rooms(alloc: Global, descriptor: &Descriptor, book: &mut Book) -> Result<Rooms, AllocError>
+    requires { book.old ≡ empty_book }
+    ensures chunk { IfOk result (λ r. length r.chunk.items ≡ descriptor.now.chunk) }
+    ensures datagram { IfOk result (λ r. length r.datagram.items ≡ 16384) }
+    ensures alone { OnOk result (HasRootAlone descriptor.now (entry book.new)) }
+    ensures chunks { OnOk result (book.new.chunks ≡ chunks_of descriptor.now) }
+    ensures err { OnErr result (book.new ≡ book.old) }
+{
+    let chunk = room(alloc, descriptor.chunk() as usize)?;
+    let datagram = room(alloc, DATAGRAM)?;
+    book.prepare(alloc, descriptor)?;
+    Ok(Rooms { chunk, datagram })
+}
+
+impl Peer {
+    /// Opens the descriptor's store and begins as a peer of it. `seed` are 32 bytes that nobody can guess, from which channel
+    /// numbers are drawn. The book is empty, and has afterwards the nodes that the store lets be known. All memory is taken
+    /// first; an empty file gets the header and is synced, any other is synced and scanned.
+    pub fn open<D: Disk>(
+        alloc: Global,
+        descriptor: &Descriptor,
+        seed: [u8; 32],
+        disk: &mut D,
+        book: &mut Book,
+    ) -> Result<Peer, OpenFault>
+        requires empty { book.old ≡ empty_book }
+        requires one { chunks_of descriptor.now ≡ 1 }
+
+        // It stands for no traffic yet.
+        ensures stands { IfOk result (λ p. StandsFor (entry book.new) (moment_of (D.state disk.new).history) p []) }
+        ensures begun { IfOk result (λ p. HasBegun descriptor.now seed p) }
+        ensures found { HasOpened descriptor.now (D.state disk.old) (D.state disk.new) result }
+        ensures opened { IsKnown (D.state disk.old)
+            → OnOk result (IsOpened descriptor.now (D.state disk.old).history (D.state disk.new).history) }
+        // Each committed chunk stands in every image.
+        ensures kept { IsKnown (D.state disk.old) → IfOk result (λ p. AllStand descriptor.now p.committed (D.state disk.new).history) }
+        ensures disk { KeepsDisk (D.state disk.old) (D.state disk.new) }
+        ensures book { (book.new ≡ empty_book) ⊎ IsRooted descriptor.now (entry book.new) }
+    {
+        let Ok(rooms) = make_rooms(alloc, descriptor, book) else {
+            return Err(OpenFault::Memory);
+        };
+        match Store::open(alloc, descriptor, disk, book) {
+            Ok(store) => Ok(Peer::begin(descriptor, store, seed, rooms)),
+            Err(fault) => Err(OpenFault::of_scan(fault)),
+        }
+    }
+}
