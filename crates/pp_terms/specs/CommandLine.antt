@@ -37,6 +37,7 @@ pub record IsSeed (words : List (List ℕ)) (store : List ℕ) (descriptor : Des
   pub named : IsStore store
   pub descriptor_is : IsDescriptorText described descriptor
   pub listen_is : IsAddress listening listen
+  pub some_turns : 1 ≤ turns
   pub few : turns < 2 ^ 32
 
 -- `fetch STORE DESCRIPTOR LISTEN TURNS ORDER PEER..`, with 1 to 16 peers
@@ -48,6 +49,7 @@ pub record IsFetch (words : List (List ℕ)) (store : List ℕ) (descriptor : De
   pub named : IsStore store
   pub descriptor_is : IsDescriptorText described descriptor
   pub listen_is : IsAddress listening listen
+  pub some_turns : 1 ≤ turns
   pub few : turns < 2 ^ 32
   pub dialled_are : AllZip IsAddress dialled peers
   pub some : 0 < length peers
@@ -75,11 +77,11 @@ Spells words (Export store descriptor) = IsOnStore (codes "export") words store 
 Spells words Replay = words ≡ codes "replay" ∷ []
 Spells words (Rehearse number) = IsRehearse words number
 
--- What a word may have to be: a store's name, a chunk size, a number below a limit, a descriptor, an address, an order.
+-- What a word may have to be: a store's name, a chunk size, a number from a least one on and below a limit, a descriptor, an address, an order.
 pub data Slot : Type 0 where
   AStore : Slot
   AChunk : Slot
-  ANumber : (limit : ℕ) → Slot
+  ANumber : (least limit : ℕ) → Slot
   ADescriptor : Slot
   AnAddress : Slot
   AnOrder : Slot
@@ -87,7 +89,7 @@ pub data Slot : Type 0 where
 abbrev pub IsRight : Slot → List ℕ → Type 0
 IsRight AStore word = IsStore word
 IsRight AChunk word = (chunk : ℕ) × (word ≡ decimal chunk) × IsChunkSize chunk
-IsRight (ANumber limit) word = (n : ℕ) × (word ≡ decimal n) × (n < limit)
+IsRight (ANumber least limit) word = (n : ℕ) × (word ≡ decimal n) × (least ≤ n) × (n < limit)
 IsRight ADescriptor word = (descriptor : Descriptor) × IsDescriptorText word descriptor
 IsRight AnAddress word = (address : Address) × IsAddress word address
 IsRight AnOrder word = (order : Order) × (word ≡ order_text order)
@@ -96,7 +98,7 @@ IsRight AnOrder word = (order : Order) × (word ≡ order_text order)
 abbrev pub IsWrong : Slot → ℕ → List ℕ → Usage → Type 0
 IsWrong AStore n word u = ¬ IsRight AStore word × (u ≡ usage n wrong.Store)
 IsWrong AChunk n word u = ¬ IsRight AChunk word × (u ≡ usage n wrong.Chunk)
-IsWrong (ANumber limit) n word u = ¬ IsRight (ANumber limit) word × (u ≡ usage n wrong.Number)
+IsWrong (ANumber least limit) n word u = ¬ IsRight (ANumber least limit) word × (u ≡ usage n wrong.Number)
 IsWrong ADescriptor n word u = (fault : DescriptorFault) × HasFault word fault × (u ≡ usage n (wrong.Descriptor fault))
 IsWrong AnAddress n word u = ¬ IsRight AnAddress word × (u ≡ usage n wrong.Address)
 IsWrong AnOrder n word u = ¬ IsRight AnOrder word × (u ≡ usage n wrong.Order)
@@ -111,12 +113,12 @@ abbrev pub import_shape : Shape
 import_shape = record { name = codes "import"; slots = AStore ∷ AChunk ∷ []; peers = 0 }
 
 abbrev pub seed_shape : Shape
-seed_shape = record { name = codes "seed"; slots = AStore ∷ ADescriptor ∷ AnAddress ∷ ANumber (2 ^ 32) ∷ []; peers = 0 }
+seed_shape = record { name = codes "seed"; slots = AStore ∷ ADescriptor ∷ AnAddress ∷ ANumber 1 (2 ^ 32) ∷ []; peers = 0 }
 
 abbrev pub fetch_shape : Shape
 fetch_shape = record {
   name = codes "fetch";
-  slots = AStore ∷ ADescriptor ∷ AnAddress ∷ ANumber (2 ^ 32) ∷ AnOrder ∷ AnAddress ∷ [];
+  slots = AStore ∷ ADescriptor ∷ AnAddress ∷ ANumber 1 (2 ^ 32) ∷ AnOrder ∷ AnAddress ∷ [];
   peers = 15;
 }
 
@@ -130,7 +132,7 @@ abbrev pub replay_shape : Shape
 replay_shape = record { name = codes "replay"; slots = []; peers = 0 }
 
 abbrev pub rehearse_shape : Shape
-rehearse_shape = record { name = codes "rehearse"; slots = ANumber (2 ^ 64) ∷ []; peers = 0 }
+rehearse_shape = record { name = codes "rehearse"; slots = ANumber 0 (2 ^ 64) ∷ []; peers = 0 }
 
 -- all commands
 abbrev pub commands : List Shape

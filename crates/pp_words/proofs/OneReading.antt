@@ -15,7 +15,7 @@ use Rattle.pp_words.proofs.FaultLaws.{no_fault, fault_same}
 right_not_wrong : (slot : Slot) (n : ℕ) (word : List ℕ) (u : Usage) → IsRight slot word → IsWrong slot n word u → ⊥
 right_not_wrong AStore n word u right is = is.0 right
 right_not_wrong AChunk n word u right is = is.0 right
-right_not_wrong (ANumber limit) n word u right is = is.0 right
+right_not_wrong (ANumber least limit) n word u right is = is.0 right
 right_not_wrong ADescriptor n word u right is = no_fault word is.0 right.0 is.1 right.1
 right_not_wrong AnAddress n word u right is = is.0 right
 right_not_wrong AnOrder n word u right is = is.0 right
@@ -23,7 +23,7 @@ right_not_wrong AnOrder n word u right is = is.0 right
 wrong_once : (slot : Slot) (n : ℕ) (word : List ℕ) (u v : Usage) → IsWrong slot n word u → IsWrong slot n word v → u ≡ v
 wrong_once AStore n word u v one two = one.1 ∙ sym two.1
 wrong_once AChunk n word u v one two = one.1 ∙ sym two.1
-wrong_once (ANumber limit) n word u v one two = one.1 ∙ sym two.1
+wrong_once (ANumber least limit) n word u v one two = one.1 ∙ sym two.1
 wrong_once ADescriptor n word u v one two =
     one.2 ∙ ap (λ f. usage n (wrong.Descriptor f)) (fault_same word one.0 two.0 one.1 two.1) ∙ sym two.2
 wrong_once AnAddress n word u v one two = one.1 ∙ sym two.1
@@ -94,20 +94,20 @@ words_of words (Import store chunk) is = record { rest = _; named = is.spelled; 
 words_of words (Seed store descriptor listen turns) is = record {
   rest = _;
   named = is.spelled;
-  right = (is.named, ((descriptor, is.descriptor_is), ((listen, is.listen_is), ((turns, refl, is.few), tt))));
+  right = (is.named, ((descriptor, is.descriptor_is), ((listen, is.listen_is), ((turns, refl, is.some_turns, is.few), tt))));
 }
 words_of words (Fetch store descriptor listen turns order peers) is = record {
   rest = _;
   named = is.spelled;
   right = (
     is.named,
-    ((descriptor, is.descriptor_is), ((listen, is.listen_is), ((turns, refl, is.few), ((order, refl), first_peer_right is.dialled peers is.dialled_are is.some is.most)))),
+    ((descriptor, is.descriptor_is), ((listen, is.listen_is), ((turns, refl, is.some_turns, is.few), ((order, refl), first_peer_right is.dialled peers is.dialled_are is.some is.most)))),
   );
 }
 words_of words (Check store descriptor) is = record { rest = _; named = is.spelled; right = (is.named, ((descriptor, is.descriptor_is), tt)) }
 words_of words (Export store descriptor) is = record { rest = _; named = is.spelled; right = (is.named, ((descriptor, is.descriptor_is), tt)) }
 words_of words Replay is = record { rest = []; named = is; right = tt }
-words_of words (Rehearse number) is = record { rest = _; named = is.spelled; right = ((number, refl, is.low), tt) }
+words_of words (Rehearse number) is = record { rest = _; named = is.spelled; right = ((number, refl, omega arith, is.low), tt) }
 
 -- words that spell one of the commands have no first wrong word
 pub command_not_wrong : (shapes : List Shape) (words : List (List ℕ)) (c : Command) (u : Usage) → IsOneOf shapes c → Spells words c

@@ -1,5 +1,5 @@
 // One word of a command line after the other, each for its place. `at` counts the words from 0.
-ghost use Rattle.std.specs.Prelude.{◌≡◌, ℕ, ◌+◌, ◌^◌, ◌<◌, List, [], ◌∷◌, length, map, drop, decimal, MatchOption, IfOk, IfErr, OnOk};
+ghost use Rattle.std.specs.Prelude.{◌≡◌, ℕ, ◌+◌, ◌^◌, ◌<◌, ◌≤◌, List, [], ◌∷◌, length, map, drop, decimal, MatchOption, IfOk, IfErr, OnOk};
 ghost use Rattle.std.specs.List.{AllZip};
 ghost use Rattle.pp_terms.specs.Addresses.{IsAddress};
 ghost use Rattle.pp_terms.specs.Commands.{order_text};
@@ -74,11 +74,12 @@ fn chunk_size(word: &str) -> Option<u32>
 }
 
 pub(crate) fn turns(words: &[String], at: usize) -> Result<u32, Usage>
-    ensures ok { IfOk result (λ turns. Takes words.now at (decimal turns) × (turns < 2 ^ 32)) }
-    ensures err { IfErr result (Stops (ANumber (2 ^ 32)) words.now at) }
+    ensures ok { IfOk result (λ turns. Takes words.now at (decimal turns) × (1 ≤ turns) × (turns < 2 ^ 32)) }
+    ensures err { IfErr result (Stops (ANumber 1 (2 ^ 32)) words.now at) }
 {
     let word = word(words, at)?;
     match number(word.as_bytes(), u64::from(u32::MAX)) {
+        Some(0) => Err(wrong(at, UsageKind::Number)),
         Some(turns) => Ok(turns as u32),
         None => Err(wrong(at, UsageKind::Number)),
     }
@@ -86,7 +87,7 @@ pub(crate) fn turns(words: &[String], at: usize) -> Result<u32, Usage>
 
 pub(crate) fn rehearsal(words: &[String], at: usize) -> Result<u64, Usage>
     ensures ok { IfOk result (λ n. Takes words.now at (decimal n) × (n < 2 ^ 64)) }
-    ensures err { IfErr result (Stops (ANumber (2 ^ 64)) words.now at) }
+    ensures err { IfErr result (Stops (ANumber 0 (2 ^ 64)) words.now at) }
 {
     let word = word(words, at)?;
     match number(word.as_bytes(), u64::MAX) {

@@ -90,7 +90,7 @@ fn refuses_other_addresses(rt: HostRuntime) {
 
 #[test]
 fn names_the_first_wrong_word(rt: HostRuntime) -> Result<(), Fail> {
-    let lines: [(&[&str], usize, UsageKind); 19] = [
+    let lines: [(&[&str], usize, UsageKind); 20] = [
         (&[], 0, UsageKind::Missing),
         (&["serve"], 0, UsageKind::Command),
         (&["import"], 1, UsageKind::Missing),
@@ -111,6 +111,7 @@ fn names_the_first_wrong_word(rt: HostRuntime) -> Result<(), Fail> {
         ),
         (&["seed", "s", D, "127.0.0.1:0", "x"], 3, UsageKind::Address),
         (&["seed", "s", D, "127.0.0.1:1", "x"], 4, UsageKind::Number),
+        (&["seed", "s", D, "127.0.0.1:1", "0"], 4, UsageKind::Number),
         (
             &["seed", "s", D, "127.0.0.1:1", "4294967296"],
             4,
@@ -183,7 +184,7 @@ fn reads_up_to_sixteen_peers(rt: HostRuntime) -> Result<(), Fail> {
     let listen = Address::V4([127, 0, 0, 1], 7000);
     let mut words = strings(
         rt.alloc(),
-        &["fetch", "s", D, "127.0.0.1:7000", "0", "sequential"],
+        &["fetch", "s", D, "127.0.0.1:7000", "1", "sequential"],
     )?;
     for _ in 0..16 {
         words.push(String::from_str(rt.alloc(), "127.0.0.1:7000")?)?;
@@ -192,7 +193,7 @@ fn reads_up_to_sixteen_peers(rt: HostRuntime) -> Result<(), Fail> {
         store: "s",
         descriptor: Descriptor::read(D).ok().ok_or("no descriptor")?,
         listen,
-        turns: 0,
+        turns: 1,
         order: Order::Sequential,
         peers: ArrayVec::from([listen; 16]),
     };
