@@ -25,3 +25,4 @@ pub mod DescriptorRead
 pub mod Range
 pub mod ReadExample
 pub mod RangeExample
+pub mod Proves

@@ -1,0 +1,8 @@
+//! The digests that peers claim, and whether they lead from a chunk to the root of its swarm (RFC 7574, sections 5.3 to
+//! 5.6). A chunk is judged by the book before the claims; what fits is adopted by the book.
+#![tactic(auto)]
+
+mod claims;
+mod climbing;
+
+pub use claims::Claims;
