@@ -1,2 +1,4 @@
 pub mod Claiming
 pub mod Climbs
+pub mod Growth
+pub mod Adoptions

@@ -1,8 +1,9 @@
 -- Climbing from a node towards the root of its tree, up to the first node that a book has (RFC 7574, sections 5.3 to 5.6).
-use Rattle.std.specs.Prelude.{ℕ, zero, suc, ◌+◌, ◌*◌, ◌/◌, ◌==◌, ◌&&◌, cond, Option, Some, None, option_and_then, List}
+use Rattle.std.specs.Prelude.{◌≡◌, ℕ, zero, suc, ◌+◌, ◌*◌, ◌/◌, ◌==◌, ◌&&◌, cond, Option, Some, None, option_and_then, List}
 use Rattle.std.specs.Option.{option_or}
 use Rattle.sha2.specs.Sha256.{sha256}
-use Rattle.pp_terms.specs.Book.{LookUp}
+use Rattle.pp_terms.specs.Book.{LookUp, IsRooted}
+use Rattle.pp_terms.specs.Descriptor.{Descriptor, height_of}
 use Rattle.pp_terms.specs.Proves.{sibling, joined}
 use Rattle.pp_tree.specs.declared.node.Node.{Node}
 use Rattle.pp_paths.specs.declared.climbing.Climb.{Climb}
@@ -40,3 +41,18 @@ path others zero k j digest l m = None
 path others (suc n) k j digest l m =
     cond (l == k && m / 2 == j / 2) (cond (m == j) (Some digest) (others k (sibling j)))
     (option_and_then (λ other. path others n (suc k) (j / 2) (sha256 (joined j digest other)) l m) (others k (sibling j)))
+
+-- The climb ended at a node that the book has, with that node's digest.
+abbrev pub IsFit : Climb → Type 0
+IsFit (Reached at found kept) = found ≡ kept
+IsFit (Lacks at) = ⊥
+
+-- The book is rooted, in a tree whose root lies in that layer.
+pub record IsRootedAt (top : ℕ) (book : LookUp) : Type 0 where
+  pub descriptor : Descriptor
+  pub rooted : IsRooted descriptor book
+  pub top_is : height_of descriptor ≡ top
+
+-- The pairs on the path were added, where the book lacked them, and all else stays.
+abbrev pub AddsPath : LookUp → LookUp → LookUp → Type 0
+AddsPath way old new = (k j : ℕ) → new k j ≡ or_else old way k j

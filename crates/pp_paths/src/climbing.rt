@@ -1,10 +1,12 @@
 // Climbing from a node towards the root of its tree, up to the first node that a book has (RFC 7574, sections 5.3 to 5.6).
-ghost use Rattle.std.specs.Prelude.{◌≡◌, ◌+◌, ◌-◌, ◌/◌, ◌<◌, ◌≤◌};
+ghost use Rattle.std.specs.Prelude.{◌≡◌, ◌==◌, if◌then◌else◌, ◌+◌, ◌%◌, ◌-◌, ◌/◌, ◌<◌, ◌≤◌};
 ghost use Rattle.sha2.specs.Sha256.{sha256};
 ghost use Rattle.pp_terms.specs.Proves.{sibling, joined};
 ghost use Rattle.pp_tree.specs.Book.{entry};
 ghost use Rattle.pp_paths.specs.Claims.{claimed};
-ghost use Rattle.pp_paths.specs.Climb.{node_at, or_else, climb};
+ghost use Rattle.pp_paths.specs.Climb.{node_at, or_else, climb, path, IsFit, IsRootedAt, AddsPath};
+ghost use Rattle.pp_terms.specs.Book.{IsRooted};
+ghost use Rattle.pp_terms.specs.Descriptor.{Descriptor};
 
 use crate::claims::Claims;
 use pp_tree::{Book, Digest, Node, parent};
@@ -75,6 +77,45 @@ pub(crate) fn climb_from<O: Others>(
             kept,
         },
         None => Climb::Lacks(node),
+    }
+}
+
+/// Adds the pairs on the way from a node up to the first one that the book has, where the climb fits. The pairs of the
+/// layers above come first, so that each is adopted under a node that the book has.
+pub(crate) fn adopt_from<O: Others>(
+    book: &mut Book,
+    others: &O,
+    node: Node,
+    digest: Digest,
+    top: u8,
+)
+    requires below { node.layer ≤ top }
+    requires rooted { IsRootedAt top (entry book.old) }
+    requires fits { IsFit (climb (entry book.old) (O.look_up others.now) (top - node.layer) node.layer node.offset digest) }
+    ensures added { AddsPath (path (O.look_up others.now) (top - node.layer) node.layer node.offset digest)
+        (entry book.old) (entry book.new) }
+    ensures rooted { (d : Descriptor) → IsRooted d (entry book.old) → IsRooted d (entry book.new) }
+    ensures chunks { book.new.chunks ≡ book.old.chunks }
+{
+    if book.get(node).is_some() {
+        return;
+    }
+    let other = others.digest(beside(node)).unwrap();
+    let parent = above(node);
+    adopt_from(book, others, parent, join(node, &digest, &other), top);
+    let (left, right) = in_order(node, digest, other);
+    book.adopt_pair(parent, left, right);
+}
+
+// a node's digest and its sibling's, left then right
+fn in_order(node: Node, digest: Digest, other: Digest) -> (Digest, Digest)
+    ensures left { result.0 ≡ (if node.offset % 2 == 0 then digest else other) }
+    ensures right { result.1 ≡ (if node.offset % 2 == 0 then other else digest) }
+{
+    if node.offset % 2 == 0 {
+        (digest, other)
+    } else {
+        (other, digest)
     }
 }
 
