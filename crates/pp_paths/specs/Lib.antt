@@ -1,3 +1,5 @@
 pub mod Claims
 pub mod Claim
 pub mod Climb
+pub mod Judge
+pub mod Settle

@@ -30,6 +30,7 @@ impl Others for Claims {
 }
 
 /// Where a climb ends.
+#[derive(Drop)]
 pub(crate) enum Climb {
     /// At a node that the book has, with the climb's digest and the book's.
     Reached {
@@ -119,8 +120,8 @@ fn in_order(node: Node, digest: Digest, other: Digest) -> (Digest, Digest)
     }
 }
 
-// the book's digest of a node, or else the other one
-fn known<O: Others>(book: &Book, others: &O, node: Node) -> Option<Digest>
+/// The book's digest of a node, or else the other one.
+pub(crate) fn known<O: Others>(book: &Book, others: &O, node: Node) -> Option<Digest>
     ensures { result ≡ or_else (entry book.now) (O.look_up others.now) node.layer node.offset }
 {
     match book.get(node) {

@@ -1,8 +1,12 @@
 //! The digests that peers claim, and whether they lead from a chunk to the root of its swarm (RFC 7574, sections 5.3 to
-//! 5.6). A chunk is judged by the book before the claims; what fits is adopted by the book.
+//! 5.6). A chunk is judged by the book before the claims; what fits is adopted by the book. Only `Claims::new` takes memory.
 #![tactic(auto)]
 
 mod claims;
 mod climbing;
+mod judging;
+mod settling;
 
 pub use claims::Claims;
+pub use judging::{Verdict, adopt, judge};
+pub use settling::{Settled, settle_peaks};
