@@ -85,7 +85,7 @@ path_below others (suc n) k j digest l m low =
       | inr (other, is) ↦ rw is (path_below others n (suc k) (j / 2) (sha256 (joined j digest other)) l m (omega arith))
     ])
 
-or_none : (o : Option (List ℕ)) → option_or o None ≡ o
+pub or_none : (o : Option (List ℕ)) → option_or o None ≡ o
 or_none None = refl
 or_none (Some x) = refl
 

@@ -5,3 +5,4 @@ pub mod Adoptions
 pub mod PeakNodes
 pub mod Verdicts
 pub mod SettledPeaks
+pub mod ProvenChunks

@@ -131,6 +131,14 @@ layer_within n k h covers some = elim (cases_lt h k) [
       absurd (omega (arith, above_is k n))
 ]
 
+-- the root's layer has one node
+pub at_most_one : (n l : ℕ) → n ≤ 2 ^ l → above l n ≤ 1
+at_most_one n l covers =
+    let some : 0 < 2 ^ l = pow_pos l in
+    let low : n < 2 * 2 ^ l = omega arith in
+    let one : n / 2 ^ l < 2 = (div-lt_iff_lt-mul some).1 low in
+    omega (arith, above_is l n)
+
 -- in a rooted book that has the last peak: the nodes above it that cover a chunk and aren't full
 spine : (d : Descriptor) (book : LookUp) (k : ℕ) (x : List ℕ) → IsRooted d book → IsLast (chunks_of d) k
     → book k (peak_offset k (chunks_of d)) ≡ Some x → (l : ℕ) → k < l → l ≤ height_of d
@@ -175,13 +183,6 @@ peaks_there d book k x rooted some most last at = peaks_known book (chunks_of d)
         ]
       ]
     ])
-  where
-    at_most_one : (n l : ℕ) → n ≤ 2 ^ l → above l n ≤ 1
-    at_most_one n l covers =
-        let some : 0 < 2 ^ l = pow_pos l in
-        let low : n < 2 * 2 ^ l = omega arith in
-        let one : n / 2 ^ l < 2 = (div-lt_iff_lt-mul some).1 low in
-        omega (arith, above_is l n)
 
 -- the last peak, as the code counts
 pub last_some : (n : ℕ) → 0 < n → n < 2 ^ 32 → 1 ≤ n / 2 ^ last_layer n

@@ -3,3 +3,4 @@ pub mod Claim
 pub mod Climb
 pub mod Judge
 pub mod Settle
+pub mod Law

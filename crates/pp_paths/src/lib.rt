@@ -5,8 +5,10 @@
 mod claims;
 mod climbing;
 mod judging;
+mod laws;
 mod settling;
 
 pub use claims::Claims;
 pub use judging::{Verdict, adopt, judge};
+pub use laws::laws_of_judging;
 pub use settling::{Settled, settle_peaks};
