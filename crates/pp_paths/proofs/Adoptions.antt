@@ -79,7 +79,7 @@ fit_above book others top k j digest other next up going up_is next_is =
     let layer = ap (λ (at : Node). at.layer) up_is in (
       omega arith,
       subst (λ (x : List ℕ). P up x) (sym next_is)
-      (subst (λ (at : Node). P at (sha256 (joined j digest other))) (sym up_is) going.fit),
+          (subst (λ (at : Node). P at (sha256 (joined j digest other))) (sym up_is) going.fit),
     )
 
 -- a pair in order, joined

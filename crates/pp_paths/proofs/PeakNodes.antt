@@ -31,7 +31,7 @@ find_node : (known : LookUp) (nodes : List Node)
 find_node known [] = refl
 find_node known (at ∷ rest) = elim (is_none (known at.layer at.offset))
     as (λ b. option_map node_of (cond b (Some at) (find (λ n. is_none (known n.layer n.offset)) rest))
-        ≡ cond b (Some (node_of at)) (find (lacks known) (map node_of rest))) [
+    ≡ cond b (Some (node_of at)) (find (lacks known) (map node_of rest))) [
       | true ↦ refl
       | false ↦ find_node known rest
     ]

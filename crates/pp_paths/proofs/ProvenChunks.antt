@@ -249,12 +249,12 @@ follows_moves book new known i (suc n) k j top digest end top_is j_is is stays a
     ap (λ o. new k o) j_is ∙ stays k (omega arith) ∙ ap (λ o. book k o) (sym j_is) in (
       subst (λ o. IfSome o (λ x. x ≡ digest)) (sym here) follows.0,
       λ other beside.
-      let (other', beside', rest) = climbed_on known n k j digest end is in
-      let same : other' ≡ other = cc in
-      let rest' : climbed known n (suc k) (j / 2) (sha256 (joined j digest other)) ≡ Some end =
-      subst (λ x. climbed known n (suc k) (j / 2) (sha256 (joined j digest x)) ≡ Some end) same rest in
-      follows_moves book new known i n (suc k) (j / 2) top (sha256 (joined j digest other)) end (omega arith)
-      (ap (λ (m : ℕ). m / 2) j_is) rest' stays at (follows.1 other beside),
+          let (other', beside', rest) = climbed_on known n k j digest end is in
+          let same : other' ≡ other = cc in
+          let rest' : climbed known n (suc k) (j / 2) (sha256 (joined j digest other)) ≡ Some end =
+          subst (λ x. climbed known n (suc k) (j / 2) (sha256 (joined j digest x)) ≡ Some end) same rest in
+          follows_moves book new known i n (suc k) (j / 2) top (sha256 (joined j digest other)) end (omega arith)
+          (ap (λ (m : ℕ). m / 2) j_is) rest' stays at (follows.1 other beside),
     )
 
 -- from the last peak on, halving leads past the full nodes
@@ -294,10 +294,9 @@ lacks_the_last d book k rooted count low odd none =
 module _ (d : Descriptor) (book peaked claims : LookUp) (rooted : IsRooted d book) (count : Counted d)
     (all : first_absent claims (chunks_of d) ≡ None)
     (rise : (x : List ℕ) → claims (last_layer (chunks_of d)) (peak_offset (last_layer (chunks_of d)) (chunks_of d)) ≡ Some x
-        → climbed (filled (chunks_of d) claims) (height_of d - last_layer (chunks_of d)) (last_layer (chunks_of d))
-            (peak_offset (last_layer (chunks_of d)) (chunks_of d)) x ≡ Some d.root)
+    → climbed (filled (chunks_of d) claims) (height_of d - last_layer (chunks_of d)) (last_layer (chunks_of d))
+    (peak_offset (last_layer (chunks_of d)) (chunks_of d)) x ≡ Some d.root)
     (added : AddsPath (path_of_peaks (chunks_of d) book claims) book peaked) where
-
   -- below the root a path from the last peak has its digest
   last_added : (x : List ℕ) → claims (last_layer (chunks_of d)) (peak_offset (last_layer (chunks_of d)) (chunks_of d)) ≡ Some x
       → book (last_layer (chunks_of d)) (peak_offset (last_layer (chunks_of d)) (chunks_of d)) ≡ None
@@ -361,7 +360,7 @@ module _ (d : Descriptor) (book peaked claims : LookUp) (rooted : IsRooted d boo
                 added k (peak_offset k n) ∙ ap (λ o. option_or o (path_of_peaks n book claims k (peak_offset k n))) none
                 ∙ ap (λ z. path (filled n claims) (height_of d - last) last off z k (peak_offset k n)) digest
                 ∙ path_later (filled n claims) (height_of d - k - 1) s (height_of d - last) last off y d.root k (peak_offset k n) left
-                  (rise y last_there') layer half apart
+                (rise y last_there') layer half apart
                 ∙ ap (λ j. filled n claims k j) beside
                 ∙ ap (λ b. cond b (claims k (peak_offset k n)) (Some tree.empty_hash)) covers
                 ∙ there
@@ -394,10 +393,10 @@ proven_fits d book peaked claims i bytes proof is rooted follows added rooted' =
 
     rise : (x : List ℕ) → claims (last_layer (chunks_of d)) (peak_offset (last_layer (chunks_of d)) (chunks_of d)) ≡ Some x
         → climbed (filled (chunks_of d) claims) (height_of d - last_layer (chunks_of d)) (last_layer (chunks_of d))
-            (peak_offset (last_layer (chunks_of d)) (chunks_of d)) x ≡ Some d.root
+        (peak_offset (last_layer (chunks_of d)) (chunks_of d)) x ≡ Some d.root
     rise x there =
         sym (ap (λ o. option_and_then (climbed (filled (chunks_of d) claims) (height_of d - last_layer (chunks_of d)) (last_layer (chunks_of d))
-            (peak_offset (last_layer (chunks_of d)) (chunks_of d))) o) there) ∙ proof.to_root
+        (peak_offset (last_layer (chunks_of d)) (chunks_of d))) o) there) ∙ proof.to_root
 
     keeps : (k j : ℕ) (x : List ℕ) → book k j ≡ Some x → peaked k j ≡ Some x
     keeps k j x at = added k j ∙ ap (λ o. option_or o (path_of_peaks (chunks_of d) book claims k j)) at

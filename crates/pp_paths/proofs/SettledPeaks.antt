@@ -182,7 +182,7 @@ adds_peaks n top book new claims last digest has top_is added k j =
     ∙ ap (λ (t : ℕ). or_else book (path (filled n claims) (t - last.layer) last.layer last.offset digest) k j) top_is
     ∙ ap (λ (at : Node). or_else book (path (filled n claims) (height n - at.layer) at.layer at.offset digest) k j) has.lacks.has.last_is
     ∙ ap (λ x. or_else book (path (filled n claims) (height n - last_layer n) (last_layer n) (peak_offset (last_layer n) n) x) k j)
-      (sym has.digest_is)
+    (sym has.digest_is)
 
 -- and so the book has all peaks
 pub all_added : (n top : ℕ) (book new claims : LookUp) (last : Node) (digest : List ℕ) → ClaimsLast n book claims last digest

@@ -30,18 +30,15 @@ pub enum Verdict {
         kept: Digest,
     },
     /// They have another length, in bytes, than the chunk.
-    Length { found: usize, want: u32 },
+    Length {
+        found: usize,
+        want: u32,
+    },
 }
 
 /// Judges bytes as a chunk of the swarm: by the book first, and by what is claimed where the book knows nothing. It takes
 /// at most 20 digests beside that of the bytes.
-pub fn judge(
-    book: &Book,
-    claims: &Claims,
-    descriptor: &Descriptor,
-    i: u32,
-    chunk: &[u8],
-) -> Verdict
+pub fn judge(book: &Book, claims: &Claims, descriptor: &Descriptor, i: u32, chunk: &[u8]) -> Verdict
     requires { i < chunks_of descriptor.now }
     ensures judged { result ≡ judged descriptor.now (entry book.now) (claimed claims.now) i chunk.now }
     ensures fits { (result ≡ Verdict.Fits) ↔ FitsAs descriptor.now (entry book.now) (claimed claims.now) i chunk.now }
@@ -100,8 +97,5 @@ fn first_absent(book: &Book, chunks: u32) -> Option<Node>
 fn first_without(nodes: &[Node], book: &Book) -> Option<Node>
     ensures { result ≡ find (λ at. is_none (entry book.now at.layer at.offset)) nodes.now }
 {
-    nodes
-        .iter()
-        .copied()
-        .find(|node| book.get(*node).is_none())
+    nodes.iter().copied().find(|node| book.get(*node).is_none())
 }

@@ -7,6 +7,8 @@ mod climbing;
 mod judging;
 mod laws;
 mod settling;
+#[cfg(test)]
+mod tests;
 
 pub use claims::Claims;
 pub use judging::{Verdict, adopt, judge};

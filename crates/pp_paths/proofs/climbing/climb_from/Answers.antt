@@ -14,7 +14,7 @@ loop-node-preserved g c =
     let beside = ap (λ at. or_else book others at.layer at.offset) c.beside-beside.ensures in (
       omega (arith, ap (λ at. at.layer) c.above-node.ensures),
       climb_step book others c.args.top node.layer up.layer node.offset up.offset c.loop-node.digest c.in-Some-known.other
-      c.join-digest.result c.loop-node-test.true (sym c.in_default.ensures.get) (sym beside ∙ sym c.in-Some-known.ensures)
-      (ap (λ at. at.layer) c.above-node.ensures) (ap (λ at. at.offset) c.above-node.ensures) c.join-digest.ensures
-      ∙ c.loop-node.invariant.1,
+          c.join-digest.result c.loop-node-test.true (sym c.in_default.ensures.get) (sym beside ∙ sym c.in-Some-known.ensures)
+          (ap (λ at. at.layer) c.above-node.ensures) (ap (λ at. at.offset) c.above-node.ensures) c.join-digest.ensures
+          ∙ c.loop-node.invariant.1,
     )
