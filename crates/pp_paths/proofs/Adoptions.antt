@@ -1,18 +1,18 @@
 -- Adopting the pairs of a climb that fits, from above: what one more pair adds.
-use Rattle.std.proofs.Common.{◌≡◌, ◌⊎◌, ℕ, zero, suc, ◌+◌, ◌-◌, ◌*◌, ◌/◌, ◌%◌, ◌≤◌, ◌<◌, ◌==◌, Bool, true, false, cond, Option, Some, None, List, ◌++◌, refl, sym, ◌∙◌, ap, subst, inl, inr, arith}
+use Rattle.std.proofs.Common.{◌≡◌, ◌⊎◌, ℕ, suc, ◌+◌, ◌-◌, ◌*◌, ◌/◌, ◌%◌, ◌≤◌, ◌<◌, ◌==◌, true, false, cond, Option, Some, None, List, ◌++◌, refl, sym, ◌∙◌, ap, subst, inl, inr, arith}
 use Rattle.std.specs.Prelude.{IsSome, is_some}
 use Rattle.std.specs.Option.{option_or}
-use Rattle.std.proofs.lemmas.Bool.{cases_eq, cases_Bool}
+use Rattle.std.proofs.lemmas.Bool.{cases_eq}
 use Rattle.std.proofs.lemmas.Bool.Decides.{nat_tests}
 use Rattle.sha2.specs.Sha256.{sha256}
-use Rattle.pp_terms.specs.Book.{LookUp, IsRooted}
-use Rattle.pp_terms.specs.Descriptor.{Descriptor, height_of}
+use Rattle.pp_terms.specs.Book.{LookUp}
+use Rattle.pp_terms.specs.Descriptor.{height_of}
 use Rattle.pp_terms.specs.Proves.{sibling, joined}
 use Rattle.pp_tree.specs.Book.{IsAdopted}
 use Rattle.pp_tree.specs.declared.node.Node.{Node}
 use Rattle.pp_tree.proofs.Rootedness.{same_node, some_same}
-use Rattle.pp_paths.specs.Climb.{node_at, or_else, climb, path, IsFit, IsRootedAt, AddsPath}
-use Rattle.pp_paths.proofs.Growth.{option_cases, even_sibling, odd_sibling, path_first, path_rest, path_below, path_adds_nothing, fit_goes_on, fit_is_there}
+use Rattle.pp_paths.specs.Climb.{node_at, climb, path, IsFit, IsRootedAt, AddsPath}
+use Rattle.pp_paths.proofs.Growth.{even_sibling, odd_sibling, path_first, path_rest, path_below, path_adds_nothing, fit_goes_on, fit_is_there}
 
 -- The climb goes on from a node that the book lacks, by the sibling's digest.
 pub record GoesOn (book others : LookUp) (top k j : ℕ) (digest other : List ℕ) : Type 0 where

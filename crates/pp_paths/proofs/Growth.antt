@@ -1,6 +1,5 @@
 -- What the pairs on a climb add to a rooted book.
-use Rattle.std.proofs.Common.{◌≡◌, ◌⊎◌, ℕ, zero, suc, ◌+◌, ◌-◌, ◌*◌, ◌/◌, ◌%◌, ◌≤◌, ◌<◌, ◌==◌, ◌&&◌, Bool, true, false, cond, Option, Some, None, List, ◌++◌, refl, sym, ◌∙◌, ap, subst, inl, inr, arith}
-use Rattle.std.specs.Prelude.{option_and_then}
+use Rattle.std.proofs.Common.{◌≡◌, ◌⊎◌, ℕ, zero, suc, ◌+◌, ◌-◌, ◌/◌, ◌%◌, ◌<◌, ◌==◌, ◌&&◌, true, false, cond, Option, Some, None, List, ◌++◌, refl, sym, ◌∙◌, ap, subst, inl, inr, arith}
 use Rattle.std.specs.Option.{option_or}
 use Rattle.std.proofs.lemmas.Bool.{cases_eq}
 use Rattle.std.proofs.lemmas.Bool.Decides.{nat_tests}
@@ -8,9 +7,8 @@ use Rattle.sha2.specs.Sha256.{sha256}
 use Rattle.pp_terms.specs.Book.{LookUp, IsJoined, IsRooted}
 use Rattle.pp_terms.specs.Descriptor.{Descriptor, height_of}
 use Rattle.pp_terms.specs.Proves.{sibling, joined}
-use Rattle.pp_tree.specs.Book.{IsAdopted}
-use Rattle.pp_tree.proofs.Rootedness.{same_node, which_child, some_same}
-use Rattle.pp_paths.specs.Climb.{node_at, or_else, climb, IsFit, path}
+use Rattle.pp_tree.proofs.Rootedness.{same_node, which_child}
+use Rattle.pp_paths.specs.Climb.{or_else, climb, IsFit, path}
 use Rattle.pp_paths.proofs.Climbs.{climb_ends, climb_stops, climb_lacks, climb_on}
 
 pub option_cases : {X : Type 0} (o : Option X) → (o ≡ None) ⊎ ((x : X) × (o ≡ Some x))

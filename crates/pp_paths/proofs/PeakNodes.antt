@@ -1,10 +1,10 @@
 -- Peaks layer by layer: which the first absent one is, which the last one, and what a rooted book that has the last has.
-use Rattle.std.proofs.Common.{◌≡◌, ◌⊎◌, ℕ, zero, suc, ◌+◌, ◌-◌, ◌*◌, ◌/◌, ◌%◌, ◌^◌, ◌≤◌, ◌<◌, ◌==◌, Bool, true, false, cond, Option, Some, None, List, [], ◌∷◌, ◌++◌, refl, sym, ◌∙◌, ap, subst, inl, inr, arith}
+use Rattle.std.proofs.Common.{◌≡◌, ℕ, zero, suc, ◌+◌, ◌-◌, ◌*◌, ◌/◌, ◌%◌, ◌^◌, ◌≤◌, ◌<◌, ◌==◌, Bool, true, false, cond, Option, Some, None, List, [], ◌∷◌, ◌++◌, refl, sym, ◌∙◌, ap, inl, inr, arith}
 use Rattle.std.specs.Prelude.{map, is_none, nat_lt, replicate}
 use Rattle.std.specs.Option.{option_map}
 use Rattle.std.specs.List.{find}
 use Rattle.std.specs.Int.{w32, trailing_zeros}
-use Rattle.std.proofs.lemmas.Bool.{cases_eq, cases_lt, cases_Bool}
+use Rattle.std.proofs.lemmas.Bool.{cases_eq, cases_lt}
 use Rattle.std.proofs.lemmas.Bool.Decides.{nat_tests}
 use Rattle.std.proofs.lemmas.Nat.Bits.{bit_at-trailing_zeros}
 use Rattle.std.proofs.lemmas.Nat.{pow_pos}
@@ -13,7 +13,7 @@ use Rattle.std.proofs.Math.Pow.{pow_mono, pow-lt}
 use Rattle.sha2.specs.Sha256.{sha256}
 use Rattle.pp_terms.specs.Tree as tree
 use Rattle.pp_terms.specs.Tree.{above, peaks_below, peaks, empty_hash}
-use Rattle.pp_terms.specs.Book.{LookUp, IsJoined, IsRooted}
+use Rattle.pp_terms.specs.Book.{LookUp, IsRooted}
 use Rattle.pp_terms.specs.Descriptor.{Descriptor, chunks_of, height_of}
 use Rattle.pp_terms.specs.Proves.{first_absent, last_layer, peak_offset, filled}
 use Rattle.pp_terms.proofs.Heights.{height_is}

@@ -1,5 +1,5 @@
 -- Claims that prove a chunk settle the peaks, and then the chunk fits.
-use Rattle.std.proofs.Common.{◌≡◌, ◌⊎◌, ℕ, zero, suc, ◌+◌, ◌-◌, ◌*◌, ◌/◌, ◌%◌, ◌^◌, ◌≤◌, ◌<◌, ◌==◌, ◌&&◌, Bool, true, false, cond, Option, Some, None, List, [], refl, sym, ◌∙◌, ap, subst, inl, inr, arith, nat_lt}
+use Rattle.std.proofs.Common.{◌≡◌, ◌⊎◌, ℕ, zero, suc, ◌+◌, ◌-◌, ◌*◌, ◌/◌, ◌%◌, ◌^◌, ◌≤◌, ◌<◌, ◌==◌, ◌&&◌, true, false, cond, Option, Some, None, List, [], refl, sym, ◌∙◌, ap, subst, inl, inr, arith, nat_lt}
 use Rattle.std.specs.Prelude.{option_and_then, IfSome, unwrap_or}
 use Rattle.std.specs.Option.{option_or}
 use Rattle.std.proofs.lemmas.Bool.{cases_eq, cases_lt}
@@ -11,20 +11,17 @@ use Rattle.pp_terms.specs.Tree as tree
 use Rattle.pp_terms.specs.Tree.{above, height}
 use Rattle.pp_terms.specs.Book.{LookUp, IsRooted}
 use Rattle.pp_terms.specs.Descriptor.{Descriptor, chunks_of, height_of, IsDescriptor}
-use Rattle.pp_terms.specs.Proves.{sibling, joined, climbed, filled, first_absent, last_layer, peak_offset, Proves}
+use Rattle.pp_terms.specs.Proves.{sibling, joined, climbed, filled, first_absent, last_layer, peak_offset}
 use Rattle.pp_terms.proofs.Heights.{height_is}
 use Rattle.pp_tree.specs.declared.node.Node.{Node}
 use Rattle.pp_tree.proofs.Halving.{above_is}
 use Rattle.pp_tree.proofs.Sizes.{chunk_count_range, chunk_size_range}
-use Rattle.pp_tree.proofs.Rootedness.{same_node}
 use Rattle.pp_paths.specs.declared.climbing.Climb.{Climb}
 use Rattle.pp_paths.specs.declared.climbing.Climb.TheVariants.{Reached}
 use Rattle.pp_paths.specs.declared.settling.Settled.TheVariants.{Known, Wrong}
-use Rattle.pp_paths.specs.declared.judging.Verdict.TheVariants.{Fits}
 use Rattle.pp_paths.specs.Climb.{node_at, or_else, climb, path, AddsPath}
-use Rattle.pp_paths.specs.Judge.{judged, same}
-use Rattle.pp_paths.specs.Settle.{last_digest, climb_of_peaks, path_of_peaks, missing_or, settled_of, known_or, settled}
-use Rattle.pp_paths.specs.Law.{Follows, HasNoOther, ProvenIsSettled, ProvenFits}
+use Rattle.pp_paths.specs.Settle.{last_digest, climb_of_peaks, path_of_peaks, missing_or, settled_of, known_or}
+use Rattle.pp_paths.specs.Law.{Follows, ProvenIsSettled, ProvenFits}
 use Rattle.pp_paths.proofs.Climbs.{climb_ends, climb_on}
 use Rattle.pp_paths.proofs.Growth.{option_cases, sibling_absent, odd_sibling, path_first, path_here, path_rest, or_none}
 use Rattle.pp_paths.proofs.PeakNodes.{IsLast, last_is, layer_within, at_most_one, peak_known, peaks_known, peaks_there}

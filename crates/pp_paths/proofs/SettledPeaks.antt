@@ -1,5 +1,5 @@
 -- Settling the peaks: what the code finds is what the definition says.
-use Rattle.std.proofs.Common.{◌≡◌, ◌⊎◌, ℕ, zero, suc, ◌+◌, ◌-◌, ◌*◌, ◌/◌, ◌%◌, ◌^◌, ◌≤◌, ◌<◌, List, [], Bool, true, false, Option, Some, None, refl, sym, ◌∙◌, ap, subst, inl, inr, arith}
+use Rattle.std.proofs.Common.{◌≡◌, ◌⊎◌, ℕ, ◌+◌, ◌-◌, ◌^◌, ◌≤◌, ◌<◌, List, [], true, false, Option, Some, None, refl, sym, ◌∙◌, ap, subst, inl, inr, arith}
 use Rattle.std.specs.Prelude.{IsSome, is_some, unwrap_or}
 use Rattle.std.specs.Option.{option_map, option_or}
 use Rattle.std.proofs.lemmas.Bool.{cases_lt}
@@ -12,13 +12,12 @@ use Rattle.pp_terms.proofs.Heights.{height_is}
 use Rattle.pp_tree.specs.Node.{node_of}
 use Rattle.pp_tree.specs.declared.node.Node.{Node}
 use Rattle.pp_paths.specs.declared.climbing.Climb.{Climb}
-use Rattle.pp_paths.specs.declared.climbing.Climb.TheVariants.{Reached, Lacks}
-use Rattle.pp_paths.specs.declared.settling.Settled.{Settled}
+use Rattle.pp_paths.specs.declared.climbing.Climb.TheVariants.{Reached}
 use Rattle.pp_paths.specs.declared.settling.Settled.TheVariants.{Known, Missing, Wrong}
 use Rattle.pp_paths.specs.Climb.{node_at, or_else, climb, path, IsFit, AddsPath}
 use Rattle.pp_paths.specs.Settle.{IsRootedFor, last_digest, climb_of_peaks, path_of_peaks, missing_or, settled_of, known_or, settled}
 use Rattle.pp_paths.specs.Judge.{same}
-use Rattle.pp_paths.proofs.Growth.{option_cases, path_adds_nothing, fit_is_there}
+use Rattle.pp_paths.proofs.Growth.{path_adds_nothing, fit_is_there}
 use Rattle.pp_paths.proofs.PeakNodes.{IsLast, last_is as last_peak_is, layer_within, peak_known, peaks_there}
 
 -- A rooted book over n chunks, from 1 to 2 ^ 20, and the last peak as the code has it.

@@ -1,5 +1,5 @@
 -- What a verdict says, and what a book has of a chunk that was adopted.
-use Rattle.std.proofs.Common.{◌≡◌, ◌⊎◌, ℕ, zero, suc, ◌+◌, ◌-◌, ◌*◌, ◌/◌, ◌≤◌, ◌<◌, ◌==◌, Bool, true, false, cond, Option, Some, None, List, refl, sym, ◌∙◌, ap, subst, inl, inr, arith, length}
+use Rattle.std.proofs.Common.{◌≡◌, ℕ, ◌-◌, ◌<◌, ◌==◌, Bool, true, false, cond, Option, Some, None, List, refl, sym, ◌∙◌, ap, subst, inl, inr, arith, length}
 use Rattle.std.proofs.lemmas.Bool.{cases_Bool}
 use Rattle.std.proofs.lemmas.Bool.Decides.{nat_tests}
 use Rattle.sha2.specs.Sha256.{sha256}
@@ -7,7 +7,6 @@ use Rattle.pp_terms.specs.Content.{chunk_length}
 use Rattle.pp_terms.specs.Book.{LookUp, IsRooted, IsBacked}
 use Rattle.pp_terms.specs.Descriptor.{Descriptor, chunks_of, height_of}
 use Rattle.pp_terms.specs.Proves.{first_absent}
-use Rattle.pp_paths.specs.declared.judging.Verdict.{Verdict}
 use Rattle.pp_paths.specs.declared.judging.Verdict.TheVariants.{Fits, Wrong, Length}
 use Rattle.pp_paths.specs.declared.climbing.Climb.{Climb}
 use Rattle.pp_paths.specs.declared.climbing.Climb.TheVariants.{Reached, Lacks}

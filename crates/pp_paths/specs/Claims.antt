@@ -1,5 +1,5 @@
 -- The digests that a peer claimed, the newest first.
-use Rattle.std.specs.Prelude.{ℕ, ◌==◌, ◌&&◌, cond, Option, Some, None, List, [], ◌∷◌}
+use Rattle.std.specs.Prelude.{ℕ, ◌==◌, ◌&&◌, cond, Some, None, List, [], ◌∷◌}
 use Rattle.pp_terms.specs.Book.{LookUp}
 
 -- A node and the digest that was claimed of it.

@@ -1,5 +1,5 @@
 -- Climbing from a node towards the root of its tree, up to the first node that a book has (RFC 7574, sections 5.3 to 5.6).
-use Rattle.std.specs.Prelude.{◌≡◌, ℕ, zero, suc, ◌+◌, ◌*◌, ◌/◌, ◌==◌, ◌&&◌, cond, Option, Some, None, option_and_then, List}
+use Rattle.std.specs.Prelude.{◌≡◌, ℕ, zero, suc, ◌/◌, ◌==◌, ◌&&◌, cond, Option, Some, None, option_and_then, List}
 use Rattle.std.specs.Option.{option_or}
 use Rattle.sha2.specs.Sha256.{sha256}
 use Rattle.pp_terms.specs.Book.{LookUp, IsRooted}

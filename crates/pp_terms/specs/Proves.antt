@@ -53,4 +53,4 @@ pub record Proves (d : Descriptor) (known : LookUp) (i : ℕ) (bytes : List ℕ)
   pub to_root :
       let last = last_layer (chunks_of d) in
       option_and_then (climbed (filled (chunks_of d) known) (height_of d - last) last (peak_offset last (chunks_of d)))
-          (known last (peak_offset last (chunks_of d))) ≡ Some d.root
+      (known last (peak_offset last (chunks_of d))) ≡ Some d.root

@@ -1,6 +1,6 @@
-use Rattle.std.proofs.Common.{rules, ◌∙◌, arith, sym, ap, ◌*◌, ◌+◌, ◌/◌}
+use Rattle.std.proofs.Common.{rules, ◌∙◌, arith, sym, ap}
 use Rattle.pp_tree.specs.Book.{entry}
-use Rattle.pp_paths.proofs.Adoptions.{GoesOn, other_there, goes_on_by, fit_above, parent_fits, child_absent, path_adopted, nothing_added}
+use Rattle.pp_paths.proofs.Adoptions.{other_there, goes_on_by, fit_above, parent_fits, child_absent, path_adopted, nothing_added}
 use Rattle.pp_paths.proofs.climbing.+adopt_from.Goals as goal
 
 pub returns-then-is_some-clause-added : goal.returns-then-is_some-clause-added

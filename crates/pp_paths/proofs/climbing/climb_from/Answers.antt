@@ -1,5 +1,4 @@
-use Rattle.std.proofs.Common.{◌≡◌, sym, ◌∙◌, ap, arith, ◌/◌, ◌+◌, ◌≤◌}
-use Rattle.pp_terms.specs.Proves.{sibling}
+use Rattle.std.proofs.Common.{sym, ◌∙◌, ap, arith}
 use Rattle.pp_tree.specs.Book.{entry}
 use Rattle.pp_paths.specs.Climb.{or_else}
 use Rattle.pp_paths.proofs.Climbs.{climb_step}

@@ -1,4 +1,4 @@
-use Rattle.std.proofs.Common.{◌≡◌, ◌-◌, ◌≤◌, ℕ}
+use Rattle.std.proofs.Common.{◌≡◌, ◌-◌, ◌≤◌}
 use Rattle.pp_tree.specs.Book.{entry}
 use Rattle.pp_paths.specs.Climb.{climb}
 use Rattle.pp_paths.proofs.climbing.climb_from.Given as goal

@@ -1,8 +1,7 @@
-use Rattle.std.proofs.Common.{◌≡◌, ◌∙◌, sym, ap, arith, refl}
+use Rattle.std.proofs.Common.{◌∙◌, sym, ap}
 use Rattle.pp_tree.specs.Book.{entry}
 use Rattle.pp_paths.specs.Claims.{claimed}
-use Rattle.pp_paths.specs.Climb.{IsFit}
-use Rattle.pp_paths.proofs.SettledPeaks.{HasLast, LacksLast, last_low, known_all, settled_known, adds_nothing, lacks_last, settled_missing, last_claimed, claims_last, settled_by, settled_wrong, fit_by, all_added}
+use Rattle.pp_paths.proofs.SettledPeaks.{HasLast, last_low, known_all, settled_known, adds_nothing, lacks_last, settled_missing, last_claimed, claims_last, settled_by, settled_wrong, fit_by, all_added}
 use Rattle.pp_paths.proofs.Verdicts.{same_bytes}
 use Rattle.pp_paths.specs.Settle.{settled_of}
 use Rattle.pp_paths.proofs.settling.settle_peaks.Goals as goal

@@ -1,4 +1,3 @@
-use Rattle.std.proofs.Common.{sym, ◌∙◌}
 use Rattle.pp_paths.specs.Claims.{claimed}
 use Rattle.pp_paths.proofs.PeakNodes.{filled_empty}
 use Rattle.pp_paths.proofs.settling.PeaksOthers.digest.Goals as goal
