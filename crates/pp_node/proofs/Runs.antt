@@ -3,7 +3,7 @@ use Rattle.std.proofs.Common.{◌≡◌, ◌⊎◌, inl, inr, ℕ, ◌+◌, ◌<
 use Rattle.std.proofs.Math.Pow.{pow_mono}
 use Rattle.std.proofs.lemmas.Fmt.{decimal_injective}
 use Rattle.pp_terms.specs.Content.{IsChunkSize}
-use Rattle.pp_terms.specs.Words.{IsImport}
+use Rattle.pp_terms.specs.CommandLine.{IsImport}
 use Rattle.pp_terms.specs.Descriptor.{Descriptor}
 use Rattle.pp_terms.specs.Store.{IsNoStore}
 use Rattle.pp_terms.specs.Disk.{DiskState, History, IsKnown, moment_of}

@@ -1,6 +1,6 @@
 // The top call.
 ghost use Rattle.std.specs.Prelude.{◌≡◌, ◌↔◌, ℕ, List};
-ghost use Rattle.pp_terms.specs.Words.{IsImport};
+ghost use Rattle.pp_terms.specs.CommandLine.{IsImport};
 ghost use Rattle.pp_tree.specs.Book.{empty_book};
 ghost use Rattle.pp_node.specs.Text.{texts};
 ghost use Rattle.pp_node.specs.Run.{ImportEnds};

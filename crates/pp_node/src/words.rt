@@ -1,7 +1,7 @@
 // The words of the command line.
 ghost use Rattle.std.specs.Prelude.{◌≡◌, ℕ, [], ◌∷◌, List, decimal, MatchOption};
 ghost use Rattle.pp_terms.specs.Content.{IsChunkSize};
-ghost use Rattle.pp_terms.specs.Words.{IsImport};
+ghost use Rattle.pp_terms.specs.CommandLine.{IsImport};
 ghost use Rattle.pp_node.specs.Text.{texts};
 
 /// The store's name and the chunk size of `import STORE CHUNK`, or None for any other words.

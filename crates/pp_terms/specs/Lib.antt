@@ -11,7 +11,11 @@ pub mod Calls
 pub mod Report
 pub mod Traffic
 pub mod Law
-pub mod Words
+pub mod Addresses
+pub mod Commands
+pub mod DescriptorFault
+pub mod Usage
+pub mod CommandLine
 pub mod Example
 pub mod Place
 pub mod Bins

@@ -1,0 +1,15 @@
+use Rattle.pp_traffic.proofs.OneMore.{lives_stay, lives_began, stories_grow, told_stays}
+use Rattle.pp_traffic.proofs.Paths.{paths_grow, plans_complete}
+use Rattle.pp_traffic.proofs.Served.{served_stays}
+use Rattle.pp_traffic.proofs.laws_of_traffic.Goals as goal
+
+pub returns : goal.returns
+returns c = record {
+  lives_stay = lives_stay;
+  lives_began = lives_began;
+  stories = stories_grow;
+  told = told_stays;
+  paths = paths_grow;
+  plans = plans_complete;
+  served = served_stays;
+}

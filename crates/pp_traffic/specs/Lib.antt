@@ -1,0 +1,11 @@
+pub mod Past
+pub mod Life
+pub mod Story
+pub mod Asking
+pub mod Hashes
+pub mod Serving
+pub mod Keeping
+pub mod Plain
+pub mod Turns
+pub mod Places
+pub mod Laws
