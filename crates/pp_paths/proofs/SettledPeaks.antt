@@ -12,12 +12,12 @@ use Rattle.pp_terms.proofs.Heights.{height_is}
 use Rattle.pp_tree.specs.Node.{node_of}
 use Rattle.pp_tree.specs.declared.node.Node.{Node}
 use Rattle.pp_paths.specs.declared.climbing.Climb.{Climb}
-use Rattle.pp_paths.specs.declared.climbing.Climb.TheVariants.{Reached}
+use Rattle.pp_paths.specs.declared.climbing.Climb.TheVariants.{Reached, Lacks}
 use Rattle.pp_paths.specs.declared.settling.Settled.TheVariants.{Known, Missing, Wrong}
-use Rattle.pp_paths.specs.Climb.{node_at, or_else, climb, path, IsFit, AddsPath}
-use Rattle.pp_paths.specs.Settle.{IsRootedFor, last_digest, climb_of_peaks, path_of_peaks, missing_or, settled_of, known_or, settled}
+use Rattle.pp_paths.specs.Climb.{node_at, or_else, climb, path, IsFit, IsEndAt, AddsPath}
+use Rattle.pp_paths.specs.Settle.{IsRootedFor, last_digest, climb_of_peaks, path_of_peaks, missing_or, settled_of, known_or, settled, IsWrong}
 use Rattle.pp_paths.specs.Judge.{same}
-use Rattle.pp_paths.proofs.Growth.{path_adds_nothing, fit_is_there}
+use Rattle.pp_paths.proofs.Growth.{option_cases, path_adds_nothing, fit_is_there}
 use Rattle.pp_paths.proofs.PeakNodes.{IsLast, last_is as last_peak_is, layer_within, peak_known, peaks_there}
 
 -- A rooted book over n chunks, from 1 to 2 ^ 20, and the last peak as the code has it.
@@ -205,3 +205,66 @@ fit_by end climb' at found kept same is equal =
 pub settled_wrong : (at : Node) (found kept : List ℕ) → same found kept ≡ false
     → settled_of (Reached at found kept) ≡ Wrong found kept
 settled_wrong at found kept differ = rw differ refl
+
+-- What a wrong answer says: the book lacks the last peak, all are known, and the climb ended at a node of the book.
+pub record IsSettledWrong (n : ℕ) (book claims : LookUp) (last : Node) : Type 0 where
+  pub lacks : LacksLast n book last
+  pub all : None ≡ first_absent (or_else book claims) n
+  pub at : Node
+  pub found : List ℕ
+  pub kept : List ℕ
+  pub ends : climb_of_peaks n book claims ≡ Reached at found kept
+
+wrong_end : (end : Climb) → IsWrong (settled_of end) → (at : Node) × (found : List ℕ) × (kept : List ℕ) × (end ≡ Reached at found kept)
+wrong_end (Lacks at) wrong = absurd wrong
+wrong_end (Reached at found kept) wrong = (at, found, kept, refl)
+
+wrong_parts : (o p : Option tree.Node) (end : Climb) → IsWrong (known_or o (missing_or p (settled_of end)))
+    → (absent : tree.Node) × (o ≡ Some absent) × (None ≡ p) × IsWrong (settled_of end)
+wrong_parts None p end wrong = absurd wrong
+wrong_parts (Some absent) None end wrong = (absent, refl, refl, wrong)
+wrong_parts (Some absent) (Some at) end wrong = absurd wrong
+
+pub settled_wrongly : (n : ℕ) (book claims : LookUp) (last : Node) → HasLast n book last → IsWrong (settled n book claims)
+    → IsSettledWrong n book claims last
+settled_wrongly n book claims last has wrong =
+    let (absent, lacking, all, ends) =
+    wrong_parts (first_absent book n) (first_absent (or_else book claims) n) (climb_of_peaks n book claims) wrong in
+    let (at, found, kept, end) = wrong_end (climb_of_peaks n book claims) ends in
+    record {
+      lacks = record {
+        has = has;
+        none = elim (option_cases (book (last_layer n) (peak_offset (last_layer n) n))) [
+          | inl none ↦ none
+          | inr (x, there) ↦
+              let here : book last.layer last.offset ≡ Some x = ap (λ (m : Node). book m.layer m.offset) has.last_is ∙ there in
+              let known = all_there n book book last x has (λ d r. r) here in
+              cc
+        ];
+        absent = absent;
+        absent_is = lacking;
+      };
+      all = all;
+      at = at;
+      found = found;
+      kept = kept;
+      ends = end;
+    }
+
+-- the node at which the code's climb ended
+pub wrong_node_is : (n top : ℕ) (book claims : LookUp) (last node : Node) (digest found kept : List ℕ) (end : Climb)
+    → ClaimsLast n book claims last digest → top ≡ height n
+    → end ≡ climb book (filled n claims) (top - last.layer) last.layer last.offset digest → end ≡ Reached node found kept
+    → IsEndAt node (climb_of_peaks n book claims)
+wrong_node_is n top book claims last node digest found kept end has top_is end_is reached =
+    subst (λ c. IsEndAt node c) (sym reached ∙ end_is ∙ climb_same n top book claims last digest has top_is) refl
+
+-- it doesn't end before one
+pub wrong_lacks_none : (n top : ℕ) (book claims : LookUp) (last node : Node) (digest : List ℕ) (end : Climb)
+    → ClaimsLast n book claims last digest → top ≡ height n
+    → end ≡ climb book (filled n claims) (top - last.layer) last.layer last.offset digest → end ≡ Lacks node
+    → IsSettledWrong n book claims last → IsEndAt node (climb_of_peaks n book claims)
+wrong_lacks_none n top book claims last node digest end has top_is end_is lacks wrong =
+    let same = climb_same n top book claims last digest has top_is in
+    let ends = wrong.ends in
+    cc

@@ -1,4 +1,4 @@
--- Climbing from a node towards the root of its tree, up to the first node that a book has (RFC 7574, sections 5.3 to 5.6).
+-- Climbing from a node towards the root of its tree, up to the first node that a book has (RFC 7574, sections 5.2 and 5.6).
 use Rattle.std.specs.Prelude.{◌≡◌, ℕ, zero, suc, ◌/◌, ◌==◌, ◌&&◌, cond, Option, Some, None, option_and_then, List}
 use Rattle.std.specs.Option.{option_or}
 use Rattle.sha2.specs.Sha256.{sha256}
@@ -41,6 +41,11 @@ path others zero k j digest l m = None
 path others (suc n) k j digest l m =
     cond (l == k && m / 2 == j / 2) (cond (m == j) (Some digest) (others k (sibling j)))
     (option_and_then (λ other. path others n (suc k) (j / 2) (sha256 (joined j digest other)) l m) (others k (sibling j)))
+
+-- The climb ended at that node of the book.
+abbrev pub IsEndAt : Node → Climb → Type 0
+IsEndAt node (Reached at found kept) = at ≡ node
+IsEndAt node (Lacks at) = ⊥
 
 -- The climb ended at a node that the book has, with that node's digest.
 abbrev pub IsFit : Climb → Type 0

@@ -1,4 +1,4 @@
--- How a chunk is judged by a book and by claims (RFC 7574, sections 5.3 to 5.6).
+-- How a chunk is judged by a book and by claims (RFC 7574, sections 5.2 and 5.6).
 use Rattle.std.specs.Prelude.{◌≡◌, ℕ, ◌==◌, Bool, cond, Option, Some, None, nat_eq, List, length}
 use Rattle.std.specs.Cmp.Lexicographic.{pointwise}
 use Rattle.sha2.specs.Sha256.{sha256}

@@ -56,3 +56,9 @@ abbrev pub settled : ℕ → LookUp → LookUp → Settled
 settled n book claims =
     known_or (first_absent book n)
     (missing_or (first_absent (or_else book claims) n) (settled_of (climb_of_peaks n book claims)))
+
+-- two digests differ
+abbrev pub IsWrong : Settled → Type 0
+IsWrong Known = ⊥
+IsWrong (Missing at) = ⊥
+IsWrong (Wrong found kept) = Unit {0}

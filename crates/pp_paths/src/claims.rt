@@ -24,7 +24,7 @@ fn newest(claims: &HeapCircularBuffer<Claim>, node: Node) -> Option<Digest>
 // How many claims are kept.
 const MOST_CLAIMS: usize = 128;
 
-/// What a peer says that a node's digest is, in an INTEGRITY message (RFC 7574, section 3.6).
+/// What a peer says that a node's digest is, in an INTEGRITY message (RFC 7574, section 3.5).
 #[derive(Clone, Copy)]
 struct Claim {
     node: Node,

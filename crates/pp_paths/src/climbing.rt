@@ -1,4 +1,4 @@
-// Climbing from a node towards the root of its tree, up to the first node that a book has (RFC 7574, sections 5.3 to 5.6).
+// Climbing from a node towards the root of its tree, up to the first node that a book has (RFC 7574, sections 5.2 and 5.6).
 ghost use Rattle.std.specs.Prelude.{◌≡◌, ◌==◌, if◌then◌else◌, ◌+◌, ◌%◌, ◌-◌, ◌/◌, ◌<◌, ◌≤◌};
 ghost use Rattle.sha2.specs.Sha256.{sha256};
 ghost use Rattle.pp_terms.specs.Proves.{sibling, joined};

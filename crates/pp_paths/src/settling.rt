@@ -8,9 +8,9 @@ ghost use Rattle.pp_terms.specs.Proves.{first_absent, filled, last_layer, peak_o
 ghost use Rattle.pp_tree.specs.Book.{entry};
 ghost use Rattle.pp_tree.specs.Node.{node_of};
 ghost use Rattle.pp_paths.specs.Claims.{claimed};
-ghost use Rattle.pp_paths.specs.Climb.{node_at, or_else, AddsPath};
+ghost use Rattle.pp_paths.specs.Climb.{node_at, or_else, AddsPath, IsEndAt};
 ghost use Rattle.pp_paths.specs.Judge.{KeepsEntries};
-ghost use Rattle.pp_paths.specs.Settle.{settled, path_of_peaks, IsRootedFor};
+ghost use Rattle.pp_paths.specs.Settle.{settled, path_of_peaks, climb_of_peaks, IsRootedFor, IsWrong};
 
 use crate::claims::Claims;
 use crate::climbing::{Climb, Others, adopt_from, climb_from, known};
@@ -64,6 +64,24 @@ pub fn settle_peaks(book: &mut Book, claims: &Claims, chunks: u32) -> Settled
                 Settled::Wrong { found, kept }
             }
         }
+    }
+}
+
+/// The node of the book whose digest isn't the one that the peaks lead to, where `settle_peaks` says so: the lowest one
+/// that covers a chunk and isn't full.
+pub fn wrong_node(book: &Book, claims: &Claims, chunks: u32) -> Node
+    requires some { 0 < chunks }
+    requires most { chunks ≤ 2 ^ 20 }
+    requires rooted { IsRootedFor chunks (entry book.now) }
+    requires wrong { IsWrong (settled chunks (entry book.now) (claimed claims.now)) }
+    ensures { IsEndAt result (climb_of_peaks chunks (entry book.now) (claimed claims.now)) }
+{
+    let last = last_peak(chunks);
+    let digest = claims.latest(last).unwrap();
+    let peaks = Peaks { claims, chunks };
+    match climb_from(book, &peaks, last, digest, height(chunks)) {
+        Climb::Reached { node, .. } => node,
+        Climb::Lacks(node) => node,
     }
 }
 

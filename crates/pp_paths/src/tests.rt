@@ -4,7 +4,7 @@ ghost use Rattle.std.specs.Prelude.{◌≡◌, IfOk};
 ghost use Rattle.pp_terms.specs.Book.{IsRooted};
 ghost use Rattle.pp_tree.specs.Book.{entry};
 
-use crate::{Claims, Settled, Verdict, adopt, judge, settle_peaks};
+use crate::{Claims, Settled, Verdict, adopt, judge, settle_peaks, wrong_node};
 use hex::FromHex;
 use pp_tree::{Book, Descriptor, Digest, Method, Node};
 use std::alloc::Global;
@@ -172,6 +172,10 @@ fn settles_no_wrong_peaks(rt: HostRuntime) -> Result<(), Fail> {
     let settled = settle_peaks(&mut book, &claims, descriptor.chunks());
     let (found, kept) = (digest(OTHER_ROOT)?, digest(ROOT)?);
     assert_eq!(rt; settled, Settled::Wrong { found, kept });
+    if let Settled::Wrong { .. } = settled {
+        let root = wrong_node(&book, &claims, descriptor.chunks());
+        assert_eq!(rt; root, node(3, 0));
+    }
     assert!(rt; !book.has_peaks());
     Ok(())
 }
