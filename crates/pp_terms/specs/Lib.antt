@@ -29,3 +29,4 @@ pub mod DescriptorRead
 pub mod Range
 pub mod ReadExample
 pub mod RangeExample
+pub mod Proves

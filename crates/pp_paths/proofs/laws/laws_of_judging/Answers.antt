@@ -1,0 +1,8 @@
+use Rattle.pp_paths.proofs.ProvenChunks.{proven_is_settled, proven_fits}
+use Rattle.pp_paths.proofs.laws.laws_of_judging.Goals as goal
+
+pub returns-clause-settled : goal.returns-clause-settled
+returns-clause-settled c = proven_is_settled
+
+pub returns-clause-fits : goal.returns-clause-fits
+returns-clause-fits c = proven_fits

@@ -1,0 +1,6 @@
+pub mod Claims
+pub mod Claim
+pub mod Climb
+pub mod Judge
+pub mod Settle
+pub mod Law

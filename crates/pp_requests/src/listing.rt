@@ -1,0 +1,154 @@
+// The chunks that one channel's peer may still be sent.
+ghost use Rattle.std.specs.Prelude.{◌≡◌, ◌↔◌, ℕ, ◌==◌, ◌&&◌, ◌||◌, not, [], OnOk, OnErr, IsErr, MatchOption};
+ghost use Rattle.std.specs.List.{filter};
+ghost use Rattle.pp_terms.specs.Range.{within, has, NeedsMore};
+ghost use Rattle.pp_ranges.specs.Edits.{is_apart};
+ghost use Rattle.pp_requests.specs.Lists.{IsLeast};
+
+use pp_ranges::{ChunkRange, Full, RangeList};
+use std::marker::Model;
+
+/// What a CANCEL took out of a list of requests.
+#[derive(Clone, Copy, PartialEq, Eq, Debug)]
+pub enum Cancelled {
+    /// Exactly its range.
+    Exact,
+    /// Its range and each range of the list that meets it, since more than 64 ranges would have been left.
+    Wide,
+}
+
+/// The chunks that one channel's peer has asked for and may still be sent, in at most 64 ranges.
+#[derive(Drop)]
+pub struct Requests {
+    list: RangeList,
+}
+
+impl Model for Requests {
+    ghost use Rattle.std.specs.Prelude.{List};
+    ghost use Rattle.pp_terms.specs.Range.{Span};
+
+    ghost Value = { List Span };
+
+    ghost view = { λ r. r.list };
+}
+
+impl Requests {
+    /// No requests.
+    pub fn new() -> Requests
+        ensures { result ≡ [] }
+    {
+        Requests {
+            list: RangeList::new(),
+        }
+    }
+
+    /// Adds a range of a REQUEST (RFC 7574, section 3.7), or changes nothing where more than 64 ranges would be needed.
+    pub fn request(&mut self, range: ChunkRange) -> Result<(), Full>
+        ensures ok { OnOk result ((i : ℕ) → has self.new i ≡ (within range i || has self.old i)) }
+        ensures err { OnErr result (self.new ≡ self.old) }
+        ensures full { IsErr result ↔ NeedsMore 64 (λ i. within range i || has self.old i) }
+    {
+        self.list.insert(range)
+    }
+
+    /// Takes out the range of a CANCEL (RFC 7574, section 3.8). Where more than 64 ranges would be left, each range of
+    /// the list that meets it goes too.
+    pub fn cancel(&mut self, range: ChunkRange) -> Cancelled
+        ensures exact { result ≡ Cancelled.Exact → (i : ℕ) → has self.new i ≡ (not (within range i) && has self.old i) }
+        ensures dropped { result ≡ Cancelled.Wide → self.new ≡ filter (is_apart range) self.old }
+        ensures wide { (result ≡ Cancelled.Wide) ↔ NeedsMore 64 (λ i. not (within range i) && has self.old i) }
+    {
+        match self.list.remove(range) {
+            Ok(()) => Cancelled::Exact,
+            Err(Full) => {
+                self.list.remove_wide(range);
+                Cancelled::Wide
+            }
+        }
+    }
+
+    /// Forgets all requests.
+    pub fn clear(&mut self)
+        ensures { self.new ≡ [] }
+    {
+        self.list = RangeList::new();
+    }
+
+    /// The least chunk that was asked for.
+    pub fn peek(&self) -> Option<u32>
+        ensures { MatchOption result (self.now ≡ []) (IsLeast self.now) }
+    {
+        self.list.first()
+    }
+
+    /// Takes out the least chunk that was asked for.
+    pub fn take(&mut self) -> Option<u32>
+        ensures least { MatchOption result (self.old ≡ []) (IsLeast self.old) }
+        ensures rest { MatchOption result (self.new ≡ self.old)
+            (λ least. (i : ℕ) → has self.new i ≡ (not (i == least) && has self.old i)) }
+    {
+        // Its contract tells that there are at most 64 ranges, in order: the least number of one is left out without one more.
+        let _ = self.list.count();
+        let least = self.list.first()?;
+        if let Some(range) = ChunkRange::new(least, least) {
+            let _ = self.list.remove(range);
+        }
+        Some(least)
+    }
+
+    pub fn contains(&self, i: u32) -> bool
+        ensures { result ≡ has self.now i }
+    {
+        self.list.contains(i)
+    }
+}
+
+#[cfg(test)]
+mod tests {
+    use super::*;
+
+    fn request(requests: &mut Requests, first: u32, last: u32) -> Option<Result<(), Full>> {
+        Some(requests.request(ChunkRange::new(first, last)?))
+    }
+
+    // The even numbers from 0 to 126.
+    #[test]
+    fn takes_no_65th_range(rt: HostRuntime) {
+        let mut requests = Requests::new();
+        assert_eq!(rt; requests.peek(), None);
+        for i in 0..64u32 {
+            assert_eq!(rt; request(&mut requests, 2 * i, 2 * i), Some(Ok(())));
+        }
+        assert_eq!(rt; request(&mut requests, 128, 128), Some(Err(Full)));
+        assert!(rt; !requests.contains(128) && requests.contains(126));
+        assert_eq!(rt; request(&mut requests, 1, 1), Some(Ok(())));
+        assert_eq!(rt; request(&mut requests, 128, 128), Some(Ok(())));
+        assert_eq!(rt; request(&mut requests, 130, 130), Some(Err(Full)));
+        for want in [0, 1, 2, 4] {
+            assert_eq!(rt; requests.peek(), Some(want));
+            assert_eq!(rt; requests.take(), Some(want));
+        }
+        requests.clear();
+        assert_eq!(rt; requests.take(), None);
+    }
+
+    // Those from 0 to 10, and the even ones from 20 to 144: a hole in the first range makes a 65th.
+    #[test]
+    fn drops_a_range_where_a_hole_has_no_room(rt: HostRuntime) {
+        let mut requests = Requests::new();
+        assert_eq!(rt; request(&mut requests, 0, 10), Some(Ok(())));
+        for i in 10..73u32 {
+            assert_eq!(rt; request(&mut requests, 2 * i, 2 * i), Some(Ok(())));
+        }
+        let (Some(five), Some(end)) = (ChunkRange::new(5, 5), ChunkRange::new(144, 150)) else {
+            assert!(rt; false);
+            return;
+        };
+        assert_eq!(rt; requests.cancel(five), Cancelled::Wide);
+        assert_eq!(rt; requests.cancel(end), Cancelled::Exact);
+        for i in 10..72u32 {
+            assert_eq!(rt; requests.take(), Some(2 * i));
+        }
+        assert_eq!(rt; requests.take(), None);
+    }
+}
