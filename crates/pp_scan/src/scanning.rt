@@ -195,3 +195,6 @@ fn scan_chunks<D: Disk>(
     }
 }
 
+
+#[cfg(test)]
+mod tests;

@@ -10,3 +10,4 @@ pub mod Steps
 pub mod Ends
 pub mod Counted
 pub mod Opening
+pub mod Rereading

@@ -7,3 +7,4 @@ pub mod Import
 pub mod Probe
 pub mod ReadChunk
 pub mod Store
+pub mod Law

@@ -189,3 +189,6 @@ impl Store {
         self.live
     }
 }
+
+#[cfg(test)]
+mod tests;

@@ -1,0 +1,62 @@
+// Scans of the store of `abc`.
+use super::*;
+use pp_outside::MemoryDisk;
+use pp_tree::{Method, leaf};
+use std::test::Fail;
+
+const STORE: [u8; 67] = [
+    0x50, 0x50, 0x53, 0x54, 0x4f, 0x52, 0x45, 0x31, // "PPSTORE1"
+    0x00, 0x00, 0x04, 0x00, // the chunk size
+    0x00, 0x00, 0x00, 0x00, 0x00, 0x00, 0x00, 0x03, // the content size
+    // the root
+    0xba, 0x78, 0x16, 0xbf, 0x8f, 0x01, 0xcf, 0xea, 0x41, 0x41, 0x40, 0xde, 0x5d, 0xae, 0x22, 0x23,
+    0xb0, 0x03, 0x61, 0xa3, 0x96, 0x17, 0x7a, 0x9c, 0xb4, 0x10, 0xff, 0x61, 0xf2, 0x00, 0x15, 0xad,
+    0x00, 0x00, 0x00, 0x00, 0x00, 0x00, 0x00, 0x00, 0x00, 0x00, 0x00, 0x00, // zeros
+    0x61, 0x62, 0x63, // "abc"
+];
+
+// How many chunks a file holds of the descriptor's one.
+fn held(alloc: Global, image: &[u8]) -> Result<Result<u32, ScanFault>, Fail> {
+    let Ok(descriptor) = Descriptor::new(leaf(b"abc"), 1024, 3, Method::Range32) else {
+        return Err("no descriptor".into());
+    };
+    let mut disk = MemoryDisk::new(alloc, image)?;
+    let mut book = Book::empty(alloc);
+    book.prepare(alloc, &descriptor)?;
+    Ok(match scan(alloc, &descriptor, &mut disk, &mut book) {
+        Ok(set) => Ok(set.count()),
+        Err(fault) => Err(fault),
+    })
+}
+
+#[test]
+fn holds_what_is_there(rt: HostRuntime) -> Result<(), Fail> {
+    let alloc = rt.alloc();
+    assert_eq!(rt; held(alloc, &STORE)?, Ok(1));
+    assert_eq!(rt; held(alloc, &STORE[..66])?, Ok(0));
+    assert_eq!(rt; held(alloc, &[])?, Ok(0));
+    let mut other = STORE;
+    other[66] = b'd';
+    assert_eq!(rt; held(alloc, &other)?, Ok(0));
+    Ok(())
+}
+
+#[test]
+fn names_the_first_byte_that_differs(rt: HostRuntime) -> Result<(), Fail> {
+    let alloc = rt.alloc();
+    let mut other = STORE;
+    other[7] = b'2';
+    let fault = ScanFault::NotAStore {
+        at: 7,
+        found: 50,
+        want: 49,
+    };
+    assert_eq!(rt; held(alloc, &other)?, Err(fault));
+    let fault = ScanFault::NotAStore {
+        at: 7,
+        found: 0,
+        want: 49,
+    };
+    assert_eq!(rt; held(alloc, &STORE[..7])?, Err(fault));
+    Ok(())
+}

@@ -1,0 +1,12 @@
+-- A law of stores, which a function of this crate states.
+use Rattle.std.specs.Prelude.{ℕ, ◌<◌, List}
+use Rattle.pp_terms.specs.Descriptor.{chunks_of}
+use Rattle.pp_terms.specs.Store.{IsStoreOf}
+use Rattle.pp_terms.specs.Image.{StandsIn}
+use Rattle.pp_store.specs.Imported.{imported}
+use Rattle.pp_store.specs.Growing.{IsContent}
+
+-- In a content's whole store each of its chunks stands: it is held by an image that is read from the root down.
+abbrev pub StoresHoldAll : Type 0
+StoresHoldAll = (chunk : ℕ) (content image : List ℕ) → IsContent chunk content → IsStoreOf (imported content chunk) content image
+    → (i : ℕ) → i < chunks_of (imported content chunk) → StandsIn (imported content chunk) image i

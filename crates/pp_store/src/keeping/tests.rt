@@ -1,0 +1,46 @@
+// A store of seven chunks of 1,024 bytes.
+use super::*;
+use crate::importing::import;
+use pp_outside::{MemoryDisk, MemorySource};
+use pp_tree::Digest;
+use std::test::Fail;
+
+// 5, 12, 19 .., with a step more at each 256th
+fn content() -> [u8; 7000] {
+    let mut bytes = [0u8; 7000];
+    for (j, byte) in bytes.iter_mut().enumerate() {
+        *byte = ((5 + 7 * j + j / 256 + j / 65_536) % 256) as u8;
+    }
+    bytes
+}
+
+#[test]
+fn what_was_imported_is_read_back(rt: HostRuntime) -> Result<(), Fail> {
+    let alloc = rt.alloc();
+    let content = content();
+    let mut disk = MemoryDisk::new(alloc, &[])?;
+    let descriptor = import(1024, &mut MemorySource::new(&content), &mut disk)?;
+    let mut book = Book::empty(alloc);
+    book.prepare(alloc, &descriptor)?;
+    let store = Store::open(alloc, &descriptor, &mut disk, &mut book)?;
+    assert_eq!(rt; (store.committed().count(), store.pending(), store.is_live()), (7, 0, true));
+    Ok(())
+}
+
+#[test]
+fn a_fresh_store_gets_its_header(rt: HostRuntime) -> Result<(), Fail> {
+    let alloc = rt.alloc();
+    let Ok(descriptor) = Descriptor::new(Digest::new([9; 32]), 256, 257, pp_tree::Method::Range32) else {
+        return Err("no descriptor".into());
+    };
+    let mut disk = MemoryDisk::new(alloc, &[])?;
+    let mut book = Book::empty(alloc);
+    book.prepare(alloc, &descriptor)?;
+    let store = Store::open(alloc, &descriptor, &mut disk, &mut book)?;
+    assert_eq!(rt; disk.bytes(), header_of(&descriptor).as_slice());
+    let mut out = [0; 256];
+    assert_eq!(rt; store.committed().count(), 0);
+    assert_eq!(rt; store.committed().contains(1), false);
+    assert_eq!(rt; store.read(1, &mut out, &book, &mut disk), Err(ReadFault::Absent));
+    Ok(())
+}

@@ -1,0 +1,7 @@
+// What follows from the definitions of a store and of what an image holds.
+ghost use Rattle.pp_store.specs.Law.{StoresHoldAll};
+
+/// What an import leaves is read back as holding every chunk. It does nothing.
+pub fn laws_of_stores()
+    ensures { StoresHoldAll }
+{}
