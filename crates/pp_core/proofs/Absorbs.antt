@@ -72,8 +72,8 @@ seat_apart d whole c new life at sender bytes past s p e =
       address = p.address;
       local = p.local;
       remote = p.remote;
-      proven = λ x. inl (sym p.proven ∙ x);
-      replied = λ x. inl (sym p.replied ∙ x);
+      proven = p.proven ∙ ap (λ (b : Bool). b || c.proven) (sym e);
+      replied = p.replied;
       open_still = comes_not d life (Received at sender bytes) e;
     } in
     seat_on d whole whole c new life (Received at sender bytes) past s on
@@ -86,8 +86,8 @@ seat_quiet d whole c life at past s =
       address = refl;
       local = refl;
       remote = refl;
-      proven = λ x. inl x;
-      replied = λ x. inl x;
+      proven = refl;
+      replied = refl;
       open_still = refl;
     } in
     seat_on d whole whole c c life (traffic.Quiet at) past s on
@@ -119,8 +119,8 @@ seat_heard d whole chunks c new k life at sender bytes past s comes left =
       address = after.same.address;
       local = after.same.local;
       remote = after.same.remote;
-      proven = λ x. inr comes;
-      replied = λ x. inl (sym after.same.replied ∙ x);
+      proven = after.same.proven ∙ ap (λ (b : Bool). b || c.proven) (sym comes);
+      replied = after.same.replied;
       open_still = and_right (comes_on d life (Received at sender bytes)) (closes it.read) (open_by chunks it.fault it.read (Proven c) new k left);
     } in
     seat_on d whole whole c new life (Received at sender bytes) past s on

@@ -1,6 +1,6 @@
 -- A channel that a datagram opens.
 use Rattle.std.proofs.Common.{◌≡◌, ◌⊎◌, inl, inr, ⊎_elim, ℕ, zero, suc, ◌+◌, ◌<◌, ◌≤◌, max, ltb, leb, eqb, Bool, true, false, cond, not, ◌&&◌, ◌||◌, Option, Some, None, List, [], ◌∷◌, length, drop, refl, sym, ◌∙◌, ap, subst, arith}
-use Rattle.std.proofs.lemmas.Bool.{and_parts, and_from, or_cases, or_left, or_right, or_parts, or_from, and_left, cases_Bool, both_ways, cond-true, cond-false, not-false, not-true, lt-ltb, le-ltb, eqb-true, eqb-false, eq-eqb, ne_eqb}
+use Rattle.std.proofs.lemmas.Bool.{and_parts, and_from, or_cases, or_left, or_right, or_parts, or_from, and_left, and_right, cases_Bool, both_ways, cond-true, cond-false, not-false, not-true, lt-ltb, le-ltb, eqb-true, eqb-false, eq-eqb, ne_eqb}
 use Rattle.std.specs.Prelude.{MatchOption}
 use Rattle.rand_chacha.specs.ChaCha.{ChaCha, next_word}
 use Rattle.pp_terms.specs.Traffic as traffic
@@ -11,7 +11,9 @@ use Rattle.pp_terms.specs.Messages.{Message, Handshake, Data, Ack, Have, Integri
 use Rattle.pp_traffic.specs.Past.{now, read, same_address, comes_from, is_number, some_since, is_at}
 use Rattle.pp_traffic.specs.Life.{Life, greets, comes_on, shakes_on, closes_on, is_closed, fits, begins_fitting}
 use Rattle.pp_traffic.specs.Story.{Line, Heard, Said, Taken, hear, heard_in, told, story}
+use Rattle.pp_traffic.specs.Life.{answers}
 use Rattle.pp_traffic.proofs.OneMore.{story_opening}
+use Rattle.pp_traffic.proofs.Plains.{none_from_end}
 use Rattle.pp_outside.specs.Outside.{address_of}
 use Rattle.pp_outside.specs.declared.link.Address.{Address}
 use Rattle.pp_core.specs.Hearing.{hear_all}
@@ -90,8 +92,8 @@ new_seat d whole chunks at sender word source o ms fault bytes past new k is fit
         remote_some = subst (λ (n : ℕ). 0 < n) (sym after.same.remote) (positive source some);
         opened = or_left (eqb (length past) (length past) && greets d life r) (is_at (greets d life) (length past) past) (and_from (eqb (length past) (length past)) (greets d life r) (eq-eqb (length past) (length past) refl) greeting);
         open_still = closed_none d life (r ∷ past) (omega arith);
-        replied = λ e. absurd (let no_reply : false ≡ true = sym after.same.replied ∙ e in cc);
-        heard = λ e. absurd (let unproven : false ≡ true = sym after.same.proven ∙ e in cc);
+        replied = after.same.replied ∙ sym (none_new (answers d life) (length past) r past (omega arith) refl);
+        heard = after.same.proven ∙ sym (none_new (comes_on d life) (length past) r past (omega arith) (zero_apart (number_from word) source o ms fault bytes is));
         follows = subst (λ (xs : List Line). Follows whole new xs) (sym story_is) (follow_taken whole new (max at (now past)) (hear (max at (now past)) ms []) after.follows);
       };
     }
@@ -99,6 +101,14 @@ new_seat d whole chunks at sender word source o ms fault bytes past new k is fit
     positive : (n : ℕ) → (n ≡ 0 → ⊥) → 0 < n
     positive zero none = absurd (none refl)
     positive (suc n) none = omega arith
+    none_new : (test : Record → Bool) (place : ℕ) (x : Record) (xs : List Record) → length xs ≤ place → test x ≡ false → some_since test place (x ∷ xs) ≡ false
+    none_new test place x xs le none = or_from (leb place (length xs) && test x) (some_since test place xs) (and_right (leb place (length xs)) (test x) none) (none_from_end test place xs le)
+    zero_apart : (local : ℕ) (from : ℕ) (options : Options) (rest : List Message) (cut : Option (ℕ × WireKind)) (text : List ℕ)
+        → datagram d.method d.chunk text ≡ record { channel = Some 0; messages = record { read = Handshake from options ∷ rest; fault = cut } }
+        → comes_on d (NewLife sender (number_from word) source past) (Received at (address_of sender) text) ≡ false
+    zero_apart local from options rest cut text is_zero =
+        and_right (same_address (address_of sender) (address_of sender)) (is_number (number_from word) (datagram d.method d.chunk text).channel)
+        (rw is_zero (ne_eqb 0 (number_from word) (λ e. let some_number = number_some word in omega arith)))
 
 -- ---- what a datagram leaves where there was no channel
 

@@ -43,13 +43,13 @@ same_is (V6 a p) (V6 b q) e =
 pub seat_began : (d : Descriptor) (whole : Type 0) (c : Channel) (life : Life) (past : List Record) → SeatStands d whole c life past → life.opening < length past
 seat_began d whole c life past s = at_within (greets d life) life.opening past s.opened
 
--- The channel after a record is to the same peer; it is proven or replied only if it was, or by the record.
+-- The channel after a record is to the same peer; it is proven or replied if it was, or by the record.
 pub record GoesOn (d : Descriptor) (c new : Channel) (life : Life) (r : Record) : Type 0 where
   pub address : new.address ≡ c.address
   pub local : new.local ≡ c.local
   pub remote : new.remote ≡ c.remote
-  pub proven : new.proven ≡ true → (c.proven ≡ true) ⊎ (comes_on d life r ≡ true)
-  pub replied : new.replied ≡ true → (c.replied ≡ true) ⊎ (answers d life r ≡ true)
+  pub proven : new.proven ≡ (comes_on d life r || c.proven)
+  pub replied : new.replied ≡ (answers d life r || c.replied)
   pub open_still : closes_on d life r ≡ false
 
 pub seat_on : (d : Descriptor) (whole after : Type 0) (c new : Channel) (life : Life) (r : Record) (past : List Record) → SeatStands d whole c life past → GoesOn d c new life r
@@ -65,16 +65,10 @@ seat_on d whole after c new life r past s on f =
       remote_some = subst (λ (n : ℕ). 0 < n) (sym on.remote) s.remote_some;
       opened = at_later (greets d life) life.opening r past s.opened;
       open_still = closed_no d life r past on.open_still s.open_still;
-      replied = λ e. ⊎_elim
-          (λ before. or_right (leb life.opening (length past) && answers d life r) (some_since (answers d life) life.opening past) (s.replied before))
-          (λ here. or_left (leb life.opening (length past) && answers d life r) (some_since (answers d life) life.opening past)
-          (and_from (leb life.opening (length past)) (answers d life r) (le-leb life.opening (length past) (omega arith)) here))
-          (on.replied e);
-      heard = λ e. ⊎_elim
-          (λ before. or_right (leb life.opening (length past) && comes_on d life r) (some_since (comes_on d life) life.opening past) (s.heard before))
-          (λ here. or_left (leb life.opening (length past) && comes_on d life r) (some_since (comes_on d life) life.opening past)
-          (and_from (leb life.opening (length past)) (comes_on d life r) (le-leb life.opening (length past) (omega arith)) here))
-          (on.proven e);
+      replied = on.replied ∙ ap (λ (b : Bool). answers d life r || b) s.replied
+          ∙ ap (λ (b : Bool). b && answers d life r || some_since (answers d life) life.opening past) (sym (le-leb life.opening (length past) (omega arith)));
+      heard = on.proven ∙ ap (λ (b : Bool). comes_on d life r || b) s.heard
+          ∙ ap (λ (b : Bool). b && comes_on d life r || some_since (comes_on d life) life.opening past) (sym (le-leb life.opening (length past) (omega arith)));
       follows = f;
     }
 
@@ -84,7 +78,7 @@ seat_lives d whole c life past s replied = record {
   local_some = subst (λ (n : ℕ). 0 < n) (sym s.local) s.local_some;
   remote_some = subst (λ (n : ℕ). 0 < n) (sym s.remote) s.remote_some;
   greeted = at_since (greets d life) life.opening past s.opened;
-  answered = s.replied replied;
+  answered = sym s.replied ∙ replied;
   opened = at_more (greets d life) (λ r. greets d life r || answers d life r) (λ r e. or_left (greets d life r) (answers d life r) e) life.opening past s.opened;
   open_still = s.open_still;
 }

@@ -1,6 +1,6 @@
 -- A peer that stands for its traffic stands for it with one datagram more that it sent.
 use Rattle.std.proofs.Common.{◌≡◌, ◌⊎◌, inl, inr, ⊎_elim, ℕ, zero, suc, ◌+◌, ◌-◌, ◌^◌, ◌<◌, ◌≤◌, min, ltb, leb, eqb, Bool, true, false, cond, not, ◌&&◌, ◌||◌, Option, Some, None, List, [], ◌∷◌, ◌++◌, length, refl, sym, ◌∙◌, ap, subst, arith}
-use Rattle.std.proofs.lemmas.Bool.{and_parts, and_from, or_cases, or_left, or_right, cases_Bool, both_ways, cond-true, cond-false, lt-ltb, ltb-true, leb-true, eqb-true, eq-eqb, ne_eqb}
+use Rattle.std.proofs.lemmas.Bool.{and_parts, and_from, and_right, or_cases, or_left, or_right, cases_Bool, both_ways, cond-true, cond-false, lt-ltb, ltb-true, leb-true, eqb-true, eq-eqb, ne_eqb}
 use Rattle.std.specs.Prelude.{MatchOption}
 use Rattle.std.specs.List.{AllByRecursion, list_all, list_any}
 use Rattle.sha2.specs.Sha256.{sha256}
@@ -103,8 +103,8 @@ replied_seat d whole c life moment bytes holds past s is =
       address = refl;
       local = refl;
       remote = refl;
-      proven = λ e. inl e;
-      replied = λ e. inr answers_it;
+      proven = refl;
+      replied = ap (λ (b : Bool). b || c.replied) (sym answers_it);
       open_still = refl;
     } in
     let f = s.follows in
@@ -229,8 +229,8 @@ left_seat d whole after c new life past l lost s = record {
   remote_some = subst (λ (n : ℕ). 0 < n) (sym l.remote) s.remote_some;
   opened = s.opened;
   open_still = s.open_still;
-  replied = λ e. s.replied (sym l.replied ∙ e);
-  heard = λ e. s.heard (sym l.proven ∙ e);
+  replied = l.replied ∙ s.replied;
+  heard = l.proven ∙ s.heard;
   follows = record {
     asked_for = λ e. s.follows.asked_for (l.asked e);
     kept = λ w e. absurd (lost w);
@@ -279,6 +279,13 @@ follow_delivery whole c now at digest bytes s f = record {
     one_more : (xs : List ℕ) → length xs + 1 ≡ length (0 ∷ xs)
     one_more xs = omega arith
 
+-- a chunk is no handshake
+no_answer : (d : Descriptor) (life : Life) (c : Channel) (moment now' : ℕ) (digest content bytes : List ℕ) → IsDatagram d bytes c.remote (delivery now' digest content)
+    → answers d life (DatagramOf c moment bytes) ≡ false
+no_answer d life c moment now' digest content bytes is =
+    and_right (goes_to life.address (DatagramOf c moment bytes) && is_number (cond life.is_dialled 0 life.remote) (datagram d.method d.chunk bytes).channel) (begins_as life.local (datagram d.method d.chunk bytes).messages.read)
+    (ap (λ (x : Datagram). begins_as life.local x.messages.read) is)
+
 delivered_seat : (d : Descriptor) (whole : Type 0) (c : Channel) (life : Life) (moment now' : ℕ) (digest content bytes : List ℕ) (past : List Record) → SeatStands d whole c life past
     → IsDatagram d bytes c.remote (delivery now' digest content) → SeatStands d whole (is_delivered c) life (DatagramOf c moment bytes ∷ past)
 delivered_seat d whole c life moment now' digest content bytes past s is =
@@ -287,8 +294,8 @@ delivered_seat d whole c life moment now' digest content bytes past s is =
       address = refl;
       local = refl;
       remote = refl;
-      proven = λ e. inl e;
-      replied = λ e. inl e;
+      proven = refl;
+      replied = ap (λ (b : Bool). b || c.replied) (sym (no_answer d life c moment now' digest content bytes is));
       open_still = refl;
     } in
     seat_on d whole whole c (is_delivered c) life r past s on
@@ -340,7 +347,7 @@ delivery_serves d book whole c life now' digest content past one rooted s proven
           alive = seat_lives d whole c life past s replied;
           asked_for = s.follows.asked_for asks;
           unchoked = s.follows.unchoked;
-          heard = s.heard proven;
+          heard = sym s.heard ∙ proven;
           whole_path = subst (λ (n : ℕ). completes n (brings (Integrity (only 0) digest ∷ [])) (is_told n (story d life past)) 0 ≡ true) (sym one)
               (one_path (brings (Integrity (only 0) digest ∷ [])) (is_told 1 (story d life past)) refl);
           in_window = lt-ltb (length (in_flight (story d life past))) 2 (omega (arith, s.follows.flies));

@@ -59,8 +59,8 @@ pub record SeatStands (d : Descriptor) (whole : Type 0) (c : Channel) (life : Li
   pub remote_some : 0 < c.remote
   pub opened : is_at (greets d life) life.opening past ≡ true
   pub open_still : is_closed d life past ≡ false
-  pub replied : c.replied ≡ true → some_since (answers d life) life.opening past ≡ true
-  pub heard : c.proven ≡ true → is_heard d life past ≡ true
+  pub replied : c.replied ≡ some_since (answers d life) life.opening past
+  pub heard : c.proven ≡ is_heard d life past
   pub follows : Follows whole c (story d life past)
 
 -- It is, and no other life of the traffic is plain.
