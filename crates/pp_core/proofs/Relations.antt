@@ -1,24 +1,27 @@
 -- What was sent, put together.
 use Rattle.std.proofs.Common.{◌≡◌, ◌⊎◌, inl, inr, ⊎_elim, ℕ, zero, suc, ◌+◌, ◌-◌, ◌^◌, ◌<◌, ◌≤◌, min, ltb, Bool, true, false, ◌&&◌, Option, Some, None, List, [], ◌∷◌, ◌++◌, length, refl, sym, ◌∙◌, ap, subst, arith, append_assoc}
 use Rattle.std.specs.Prelude.{MatchOption, slice_index_or}
-use Rattle.std.specs.List.{AllByRecursion}
+use Rattle.std.specs.List.{AllByRecursion, list_any}
 use Rattle.pp_terms.specs.Book.{LookUp}
 use Rattle.pp_terms.specs.Count.{HasRisen}
 use Rattle.pp_terms.specs.Traffic.{LinkState, Record, Sent, GainsRecords}
 use Rattle.pp_terms.specs.Descriptor.{Descriptor, chunks_of}
 use Rattle.pp_terms.specs.Disk.{DiskState, IsKnown, moment_of}
 use Rattle.pp_terms.specs.Image.{holds}
-use Rattle.std.proofs.lemmas.Bool.{and_parts, and_left, and_right, ltb-true}
-use Rattle.pp_traffic.specs.Past.{is_event}
+use Rattle.std.proofs.lemmas.Bool.{and_parts, and_from, and_left, and_right, ltb-true, eq-eqb, or_left, or_right}
+use Rattle.pp_traffic.specs.Past.{read, goes_to, is_number, same_address, is_event}
+use Rattle.pp_traffic.specs.Life.{begins_as}
+use Rattle.pp_terms.specs.Messages.{Message, Datagram, datagram}
 use Rattle.pp_outside.specs.Outside.{address_of}
 use Rattle.pp_core.specs.Serving.{IsChunk, Served, waits, lacks, unread, damaged, delivers}
-use Rattle.pp_core.specs.Writing.{reply, delivery}
+use Rattle.pp_core.specs.Writing.{IsDatagram, reply, delivery}
 use Rattle.pp_core.specs.Sending.{is_sent, is_unsent, is_unheld, is_unread, is_damaged, is_replied, is_met, is_delivered, SendsOne, SendsNone, leaves_on, owes_reply, may_deliver, Replies, Delivers}
-use Rattle.pp_core.specs.Sends.{SameCore, Sends, RisesWith, Causes}
+use Rattle.pp_core.specs.Sends.{HasShape, IsOurs, replies_on, OwesNone, SameCore, Sends, RisesWith, Causes}
 use Rattle.pp_core.specs.Standing.{State, holds_first, StandsFor}
 use Rattle.pp_core.specs.declared.counts.Counts.{Counts}
 use Rattle.pp_core.specs.declared.channel.Channel.{Channel}
 use Rattle.pp_core.specs.declared.hearing.Heard.{Heard}
+use Rattle.pp_core.proofs.Seats.{same_self}
 use Rattle.pp_core.proofs.Sends.{IsLeft, left_as_is, left_met, IsLost, lost_unsent, lost_unheld, lost_unread, lost_damaged, SameTies, stands_left, stands_replied, stands_delivered}
 
 abbrev pub On : State → Heard → State
@@ -31,12 +34,17 @@ gains_nothing : (old new : Option (List Record)) → new ≡ old → GainsRecord
 gains_nothing None new e = e
 gains_nothing (Some xs) new e = e
 
+owes_none : (s : State) (c : Channel) → s.channel ≡ Some c → owes_reply c ≡ false → OwesNone s
+owes_none s c here e = subst (λ (o : Option Channel). MatchOption o (Unit {0}) (λ x. owes_reply x ≡ false)) (sym here) e
+
 -- nothing was done
 pub sends_nothing : (moment : ℕ) (seen : LinkState) (s : State) → Sends moment seen seen s s
 sends_nothing moment seen s = record {
   added = [];
   gained = gains_nothing seen.traffic seen.traffic refl;
   all_sent = tt;
+  shaped = tt;
+  answered = λ e. inl e;
   nexts = refl;
   later = omega arith;
   core = record { descriptor = refl; committed = refl; latest = refl; numbers = refl; is_live = refl };
@@ -44,12 +52,14 @@ sends_nothing moment seen s = record {
 }
 
 -- a request was given up, or a datagram refused
-pub sends_left : (moment : ℕ) (seen seen' : LinkState) (s : State) (c new : Channel) (k : Counts) → s.channel ≡ Some c → IsLeft c new → IsLost k → SameTies s.counts k
+pub sends_left : (moment : ℕ) (seen seen' : LinkState) (s : State) (c new : Channel) (k : Counts) → s.channel ≡ Some c → IsLeft c new → owes_reply new ≡ owes_reply c → IsLost k → SameTies s.counts k
     → seen'.traffic ≡ seen.traffic → seen'.nexts ≡ seen.nexts → seen.faults ≤ seen'.faults → Sends moment seen seen' s (On s (leaves_on new k))
-sends_left moment seen seen' s c new k here left lost ties same nexts later = record {
+sends_left moment seen seen' s c new k here left owes lost ties same nexts later = record {
   added = [];
   gained = gains_nothing seen.traffic seen'.traffic same;
   all_sent = tt;
+  shaped = tt;
+  answered = λ e. inl (owes_none s c here (sym owes ∙ e));
   nexts = nexts;
   later = later;
   core = same_core s (Some new) k;
@@ -59,6 +69,17 @@ sends_left moment seen seen' s c new k here left lost ties same nexts later = re
 same_ties : (k : Counts) → SameTies k (is_unsent k)
 same_ties k = record { datagrams = refl; short = refl; sent = refl }
 
+is_reply : (s : State) (c : Channel) (moment : ℕ) (bytes : List ℕ) → s.channel ≡ Some c → IsDatagram s.descriptor bytes c.remote (reply s.descriptor c.local (holds_first s))
+    → replies_on s.descriptor s.channel (Sent moment (address_of c.address) bytes) ≡ true
+is_reply s c moment bytes here is =
+    let it = datagram s.descriptor.method s.descriptor.chunk bytes in
+    let r = Sent moment (address_of c.address) bytes in
+    subst (λ (o : Option Channel). replies_on s.descriptor o r ≡ true) (sym here)
+    (and_from (goes_to (address_of c.address) r && is_number c.remote it.channel) (begins_as c.local it.messages.read)
+    (and_from (goes_to (address_of c.address) r) (is_number c.remote it.channel) (same_self (address_of c.address))
+    (subst (λ (x : Datagram). is_number c.remote x.channel ≡ true) (sym is) (eq-eqb c.remote c.remote refl)))
+    (subst (λ (x : Datagram). begins_as c.local x.messages.read ≡ true) (sym is) (eq-eqb c.local c.local refl)))
+
 pub sends_reply : (moment : ℕ) (seen seen' : LinkState) (s : State) (c : Channel) (h : Heard) → s.channel ≡ Some c → Replies s.descriptor (holds_first s) c s.counts moment seen seen' h
     → Sends moment seen seen' s (On s h)
 sends_reply moment seen seen' s c h here (inl sent) =
@@ -67,6 +88,9 @@ sends_reply moment seen seen' s c h here (inl sent) =
       added = Sent moment (address_of c.address) sent.0.bytes ∷ [];
       gained = sent.0.gained;
       all_sent = (refl, tt);
+      shaped = (record { short = sent.0.short; number = c.remote; messages = reply s.descriptor c.local (holds_first s); read = sent.0.read; either = inl (c.local, refl) }, tt);
+      answered = λ e. inr (or_left (replies_on s.descriptor s.channel (Sent moment (address_of c.address) sent.0.bytes)) false
+          (is_reply s c moment sent.0.bytes here sent.0.read));
       nexts = sent.0.nexts;
       later = sent.0.later;
       core = same_core s (Some (is_replied c)) (is_sent s.counts);
@@ -74,7 +98,7 @@ sends_reply moment seen seen' s c h here (inl sent) =
     })
 sends_reply moment seen seen' s c h here (inr refused) =
     subst (λ (x : Heard). Sends moment seen seen' s (On s x)) (sym refused.1)
-    (sends_left moment seen seen' s c c (is_unsent s.counts) here (left_as_is c) (lost_unsent s.counts) (same_ties s.counts) refused.0.same refused.0.nexts refused.0.later)
+    (sends_left moment seen seen' s c c (is_unsent s.counts) here (left_as_is c) refl (lost_unsent s.counts) (same_ties s.counts) refused.0.same refused.0.nexts refused.0.later)
 
 pub sends_delivery : (moment : ℕ) (seen seen' : LinkState) (s : State) (c : Channel) (now' : ℕ) (digest content : List ℕ) (h : Heard) → s.channel ≡ Some c
     → c.proven ≡ true → c.replied ≡ true → c.asked ≡ true → c.flying < 2 → IsChunk s.descriptor digest content
@@ -85,6 +109,8 @@ sends_delivery moment seen seen' s c now' digest content h here proven replied a
       added = Sent moment (address_of c.address) sent.0.bytes ∷ [];
       gained = sent.0.gained;
       all_sent = (refl, tt);
+      shaped = (record { short = sent.0.short; number = c.remote; messages = delivery now' digest content; read = sent.0.read; either = inr (now', digest, content, refl) }, tt);
+      answered = λ e. inl (owes_none s c here e);
       nexts = sent.0.nexts;
       later = sent.0.later;
       core = same_core s (Some (is_delivered c)) (is_sent s.counts);
@@ -92,7 +118,7 @@ sends_delivery moment seen seen' s c now' digest content h here proven replied a
     })
 sends_delivery moment seen seen' s c now' digest content h here proven replied asks few chunk (inr refused) =
     subst (λ (x : Heard). Sends moment seen seen' s (On s x)) (sym refused.1)
-    (sends_left moment seen seen' s c (is_met c) (is_unsent s.counts) here (left_met c) (lost_unsent s.counts) (same_ties s.counts) refused.0.same refused.0.nexts refused.0.later)
+    (sends_left moment seen seen' s c (is_met c) (is_unsent s.counts) here (left_met c) refl (lost_unsent s.counts) (same_ties s.counts) refused.0.same refused.0.nexts refused.0.later)
 
 -- ---- one after the other
 
@@ -106,11 +132,22 @@ all_both : (P : Record → Type 0) (x y : List Record) → AllByRecursion P x �
 all_both P [] y a b = b
 all_both P (r ∷ x) y a b = (a.0, all_both P x y a.1 b)
 
-pub sends_twice : (moment : ℕ) (a b c : LinkState) (s t u : State) → Sends moment a b s t → Sends moment b c t u → Sends moment a c s u
-sends_twice moment a b c s t u p q = record {
+any_later : (test : Record → Bool) (x y : List Record) → list_any test y ≡ true → list_any test (x ++ y) ≡ true
+any_later test [] y e = e
+any_later test (r ∷ x) y e = or_right (test r) (list_any test (x ++ y)) (any_later test x y e)
+
+ours_on : (s t : State) (xs : List Record) → SameCore s t → AllByRecursion (IsOurs t.descriptor (holds_first t)) xs → AllByRecursion (IsOurs s.descriptor (holds_first s)) xs
+ours_on s t xs core all =
+    subst (λ (d : Descriptor). AllByRecursion (IsOurs d (holds_first s)) xs) core.descriptor
+    (subst (λ (set : List Bool). AllByRecursion (IsOurs t.descriptor (slice_index_or set 0 false)) xs) core.committed all)
+
+pub sends_twice : (moment : ℕ) (a b c : LinkState) (s t u : State) → Sends moment a b s t → Sends moment b c t u → (OwesNone u → OwesNone t) → Sends moment a c s u
+sends_twice moment a b c s t u p q owed = record {
   added = q.added ++ p.added;
   gained = gains_twice a.traffic b.traffic c.traffic p.added q.added p.gained q.gained;
   all_sent = all_both (λ r. is_event r ≡ false) q.added p.added q.all_sent p.all_sent;
+  shaped = all_both (IsOurs s.descriptor (holds_first s)) q.added p.added (ours_on s t q.added p.core q.shaped) p.shaped;
+  answered = λ e. ⊎_elim (λ none. inl none) (λ some. inr (any_later (replies_on s.descriptor s.channel) q.added p.added some)) (p.answered (owed e));
   nexts = q.nexts ∙ p.nexts;
   later = omega (arith, p.later, q.later);
   core = record {
@@ -136,10 +173,10 @@ may_parts c e =
     let two = and_parts c.proven c.replied asks.0 in
     (two.0, two.1, asks.1, ltb-true c.flying 2 few.1)
 
-keeps_link : (moment : ℕ) (seen seen' : LinkState) (s : State) (c new : Channel) (k : Counts) → s.channel ≡ Some c → IsLeft c new → IsLost k → SameTies s.counts k → seen' ≡ seen
+keeps_link : (moment : ℕ) (seen seen' : LinkState) (s : State) (c new : Channel) (k : Counts) → s.channel ≡ Some c → IsLeft c new → owes_reply new ≡ owes_reply c → IsLost k → SameTies s.counts k → seen' ≡ seen
     → Sends moment seen seen' s (On s (leaves_on new k))
-keeps_link moment seen seen' s c new k here left lost ties same =
-    sends_left moment seen seen' s c new k here left lost ties (ap (λ (x : LinkState). x.traffic) same) (ap (λ (x : LinkState). x.nexts) same) (let e = ap (λ (x : LinkState). x.faults) same in omega arith)
+keeps_link moment seen seen' s c new k here left owes lost ties same =
+    sends_left moment seen seen' s c new k here left owes lost ties (ap (λ (x : LinkState). x.traffic) same) (ap (λ (x : LinkState). x.nexts) same) (let e = ap (λ (x : LinkState). x.faults) same in omega arith)
 
 state_is : (s : State) (c : Channel) → s.channel ≡ Some c → On s (leaves_on c s.counts) ≡ s
 state_is s c here = ap (λ (o : Option Channel). record s { channel = o; counts = s.counts }) (sym here)
@@ -152,13 +189,13 @@ sends_served disk disk' seen seen' s c h here (waits idle is same) =
     (subst (λ (l : LinkState). Sends (moment_of disk.history) seen l s s) (sym same) (sends_nothing (moment_of disk.history) seen s)))
 sends_served disk disk' seen seen' s c h here (lacks none is same) =
     subst (λ (x : Heard). Sends (moment_of disk.history) seen seen' s (On s x)) (sym is)
-    (keeps_link (moment_of disk.history) seen seen' s c (is_met c) (is_unheld s.counts) here (left_met c) (lost_unheld s.counts) (record { datagrams = refl; short = refl; sent = refl }) same)
+    (keeps_link (moment_of disk.history) seen seen' s c (is_met c) (is_unheld s.counts) here (left_met c) refl (lost_unheld s.counts) (record { datagrams = refl; short = refl; sent = refl }) same)
 sends_served disk disk' seen seen' s c h here (unread risen is same) =
     subst (λ (x : Heard). Sends (moment_of disk.history) seen seen' s (On s x)) (sym is)
-    (keeps_link (moment_of disk.history) seen seen' s c (is_met c) (is_unread s.counts) here (left_met c) (lost_unread s.counts) (record { datagrams = refl; short = refl; sent = refl }) same)
+    (keeps_link (moment_of disk.history) seen seen' s c (is_met c) (is_unread s.counts) here (left_met c) refl (lost_unread s.counts) (record { datagrams = refl; short = refl; sent = refl }) same)
 sends_served disk disk' seen seen' s c h here (damaged why is same) =
     subst (λ (x : Heard). Sends (moment_of disk.history) seen seen' s (On s x)) (sym is)
-    (keeps_link (moment_of disk.history) seen seen' s c (is_met c) (is_damaged s.counts) here (left_met c) (lost_damaged s.counts) (record { datagrams = refl; short = refl; sent = refl }) same)
+    (keeps_link (moment_of disk.history) seen seen' s c (is_met c) (is_damaged s.counts) here (left_met c) refl (lost_damaged s.counts) (record { datagrams = refl; short = refl; sent = refl }) same)
 sends_served disk disk' seen seen' s c h here (delivers digest content chunk may sent) =
     let p = may_parts c may in
     sends_delivery (moment_of disk.history) seen seen' s c s.latest digest content h here p.0 p.1 p.2 p.3 chunk sent

@@ -211,6 +211,7 @@ impl Peer {
         ensures sends { Sends (moment_of (D.state disk.old).history) (L.seen link.old) (L.seen link.new) self.old self.new }
         ensures causes { Causes self.old.descriptor (holds_first self.old) (D.state disk.old) (D.state disk.new) (L.seen link.old) (L.seen link.new) self.old.counts self.new.counts }
         ensures owes { OwesNone self.old → OwesNone self.new }
+        ensures owed { OwesNone self.new → OwesNone self.old }
         ensures served { LeavesNone self.new }
         ensures disk { ReadsAlone (D.state disk.old) (D.state disk.new) }
     {

@@ -10,3 +10,4 @@ pub mod Turns
 pub mod Places
 pub mod Laws
 pub mod Flight
+pub mod Prompt

@@ -6,7 +6,7 @@ use Rattle.pp_core.proofs.Relations.{sends_twice, flush_causes}
 use Rattle.pp_core.proofs.peer.Peer.flush.Goals as goal
 
 pub returns-clause-sends : goal.returns-clause-sends
-returns-clause-sends g c = sends_twice _ _ _ _ _ _ _ c.reply.ensures.sends c.serve.ensures.sends
+returns-clause-sends g c = sends_twice _ _ _ _ _ _ _ c.reply.ensures.sends c.serve.ensures.sends c.serve.ensures.owed
 
 pub returns-clause-causes : goal.returns-clause-causes
 returns-clause-causes g c =
