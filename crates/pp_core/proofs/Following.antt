@@ -109,20 +109,21 @@ pub record SameSeat (c new : Channel) : Type 0 where
   pub remote : new.remote ≡ c.remote
   pub proven : new.proven ≡ c.proven
   pub replied : new.replied ≡ c.replied
+  pub reply_due : new.reply_due ≡ c.reply_due
 
 pub same_seat : (c : Channel) → SameSeat c c
-same_seat c = record { address = refl; local = refl; remote = refl; proven = refl; replied = refl }
+same_seat c = record { address = refl; local = refl; remote = refl; proven = refl; replied = refl; reply_due = refl }
 
-same_after : (m : Message) (c new : Channel) → SameSeat (after_message m c) new → SameSeat c new
+pub same_after : (m : Message) (c new : Channel) → SameSeat (after_message m c) new → SameSeat c new
 same_after (Handshake source options) c new s = s
 same_after (Data chunk sent_at bytes) c new s = s
-same_after (Ack span delay) c new s = record { address = s.address; local = s.local; remote = s.remote; proven = s.proven; replied = s.replied }
+same_after (Ack span delay) c new s = record { address = s.address; local = s.local; remote = s.remote; proven = s.proven; replied = s.replied; reply_due = s.reply_due }
 same_after (Have span) c new s = s
 same_after (Integrity span digest) c new s = s
 same_after (Pex4 address port) c new s = s
 same_after PexReq c new s = s
-same_after (Request span) c new s = record { address = s.address; local = s.local; remote = s.remote; proven = s.proven; replied = s.replied }
-same_after (Cancel span) c new s = record { address = s.address; local = s.local; remote = s.remote; proven = s.proven; replied = s.replied }
+same_after (Request span) c new s = record { address = s.address; local = s.local; remote = s.remote; proven = s.proven; replied = s.replied; reply_due = s.reply_due }
+same_after (Cancel span) c new s = record { address = s.address; local = s.local; remote = s.remote; proven = s.proven; replied = s.replied; reply_due = s.reply_due }
 same_after Choke c new s = s
 same_after Unchoke c new s = s
 same_after (Pex6 address port) c new s = s
@@ -214,9 +215,11 @@ pub record SameLoss (k new : Counts) : Type 0 where
   pub datagrams : new.datagrams ≡ k.datagrams
   pub short : new.short ≡ k.short
   pub sent : new.sent ≡ k.sent
+  pub turns : new.turns ≡ k.turns
+  pub receive_faults : new.receive_faults ≡ k.receive_faults
 
 pub same_loss : (k : Counts) → SameLoss k k
-same_loss k = record { unheld = refl; damaged = refl; read_faults = refl; send_faults = refl; datagrams = refl; short = refl; sent = refl }
+same_loss k = record { unheld = refl; damaged = refl; read_faults = refl; send_faults = refl; datagrams = refl; short = refl; sent = refl; turns = refl; receive_faults = refl }
 
 pub loss_on : (k mid new : Counts) → SameLoss k mid → SameLoss mid new → SameLoss k new
 loss_on k mid new a b = record {
@@ -227,14 +230,16 @@ loss_on k mid new a b = record {
   datagrams = b.datagrams ∙ a.datagrams;
   short = b.short ∙ a.short;
   sent = b.sent ∙ a.sent;
+  turns = b.turns ∙ a.turns;
+  receive_faults = b.receive_faults ∙ a.receive_faults;
 }
 
 counted_loss : (chunks : ℕ) (m : Message) (k : Counts) → SameLoss k (counted chunks m k)
-counted_loss chunks m k = record { unheld = refl; damaged = refl; read_faults = refl; send_faults = refl; datagrams = refl; short = refl; sent = refl }
+counted_loss chunks m k = record { unheld = refl; damaged = refl; read_faults = refl; send_faults = refl; datagrams = refl; short = refl; sent = refl; turns = refl; receive_faults = refl }
 
 pub loss_all : (chunks : ℕ) (fault : Option (ℕ × WireKind)) (ms : List Message) (c : Channel) (k : Counts) → SameLoss k (hear_all chunks fault ms c k).counts
 loss_all chunks None [] c k = same_loss k
-loss_all chunks (Some fault) [] c k = record { unheld = refl; damaged = refl; read_faults = refl; send_faults = refl; datagrams = refl; short = refl; sent = refl }
+loss_all chunks (Some fault) [] c k = record { unheld = refl; damaged = refl; read_faults = refl; send_faults = refl; datagrams = refl; short = refl; sent = refl; turns = refl; receive_faults = refl }
 loss_all chunks fault (m ∷ ms) c k = ⊎_elim
     (λ closing. subst (λ (h : heard.Heard). SameLoss k h.counts) (sym (cond-true (is_closing m) (record { channel = None; counts = k }) (hear_all chunks fault ms (after_message m c) (counted chunks m k)) closing)) (same_loss k))
     (λ stays. subst (λ (h : heard.Heard). SameLoss k h.counts) (sym (cond-false (is_closing m) (record { channel = None; counts = k }) (hear_all chunks fault ms (after_message m c) (counted chunks m k)) stays))

@@ -9,4 +9,5 @@ pub mod Losses
 pub mod Turning
 pub mod Sends
 pub mod Relations
+pub mod Prompts
 pub mod Unheld
