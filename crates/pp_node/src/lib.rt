@@ -7,6 +7,7 @@ mod printing;
 mod refusing;
 mod status;
 mod top;
+mod turning;
 
 pub use top::run;
 

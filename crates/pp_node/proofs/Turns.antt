@@ -1,0 +1,293 @@
+-- Turns, one after the other.
+use Rattle.std.proofs.Common.{◌≡◌, ◌⊎◌, inl, inr, ⊎_elim, ℕ, zero, suc, ◌+◌, ◌-◌, ◌^◌, ◌<◌, ◌≤◌, min, Bool, true, false, List, [], ◌∷◌, ◌++◌, length, take, refl, sym, ◌∙◌, ap, subst, arith}
+use Rattle.std.specs.Prelude.{slice_index_or}
+use Rattle.std.specs.List.{AllByRecursion, list_any}
+use Rattle.std.proofs.lemmas.List.{length-take-le, take-take}
+use Rattle.pp_terms.specs.Book.{LookUp}
+use Rattle.pp_terms.specs.Count.{HasRisen}
+use Rattle.pp_terms.specs.Descriptor.{Descriptor, chunks_of}
+use Rattle.pp_terms.specs.Disk.{DiskState, History, IsKnown, moment_of}
+use Rattle.pp_terms.specs.Image.{holds}
+use Rattle.pp_terms.specs.Traffic as traffic
+use Rattle.pp_terms.specs.Traffic.{LinkState, Record, Received, Sent, GainsRecords}
+use Rattle.pp_terms.proofs.Knowing.{known_on}
+use Rattle.pp_traffic.specs.Past.{is_event}
+use Rattle.pp_traffic.specs.Flight.{fewer_than_two}
+use Rattle.pp_traffic.specs.Prompt.{LetsInFirst, ServesAsked}
+use Rattle.pp_traffic.specs.Turns.{AtTurnEndsBut, AtEndsBut}
+use Rattle.pp_traffic.specs.Plain.{IsPlainNow}
+use Rattle.pp_outside.specs.Outside.{record_of, size_of, FitsIn}
+use Rattle.pp_outside.specs.Arrivals.{IsEvent}
+use Rattle.pp_outside.specs.declared.link.Event.{Event}
+use Rattle.pp_outside.specs.declared.link.Event.TheVariants.{Datagram, Quiet}
+use Rattle.pp_core.specs.Counting.{rise}
+use Rattle.pp_core.specs.Events.{after_event, after_refusal}
+use Rattle.pp_core.specs.Sends.{IsOurs, replies_on, OwesNone, Sends, Causes}
+use Rattle.pp_core.specs.Serving.{ReadsAlone}
+use Rattle.pp_core.specs.Standing.{State, IsWhole, holds_first, capped, StandsFor}
+use Rattle.pp_core.proofs.Counted.{CountsTurn, event_counted, event_refusals, refusal_counted, sent_turns, sent_refusals, sent_whole}
+use Rattle.pp_core.proofs.Prompts.{lets_event, serves_turn}
+use Rattle.pp_core.proofs.Relations.{gains_twice, gains_nothing, all_both}
+use Rattle.pp_core.proofs.Turning.{stands_event, stands_refused}
+use Rattle.pp_node.specs.Turning.{Flushes, Waits, took, missed, TakesTurn, waits, IsCalm, IsSmooth, TakesTurns}
+
+-- ---- the event in the buffer
+
+event_fits : (event : Event) (buffer : List ℕ) → length buffer ≡ 65536 → FitsIn event buffer → IsEvent event (take (size_of event) buffer)
+event_fits (Datagram sender len at) buffer whole fits =
+    let is = length-take-le len buffer fits in (sym is, omega (arith, is, fits, whole))
+event_fits (Quiet at) buffer whole fits = refl
+
+same_record : (event : Event) (buffer : List ℕ) → record_of event (take (size_of event) buffer) ≡ record_of event buffer
+same_record (Datagram sender len at) buffer = ap (λ (xs : List ℕ). Received at _ xs) (take-take len len buffer (omega arith))
+same_record (Quiet at) buffer = refl
+
+pub waits_took : (seen mid : LinkState) (s taken : State) (event : Event) (buffer : List ℕ) → length buffer ≡ 65536 → FitsIn event buffer
+    → GainsRecords seen.traffic (record_of event buffer ∷ []) mid.traffic → taken ≡ after_event s event (take (size_of event) buffer) → Waits seen mid s taken
+waits_took seen mid s taken event buffer whole fits gained is =
+    took event (take (size_of event) buffer) (event_fits event buffer whole fits)
+    (subst (λ (r : Record). GainsRecords seen.traffic (r ∷ []) mid.traffic) (sym (same_record event buffer)) gained) is
+
+-- ---- counts of devices
+
+risen_more : (a b c : ℕ) → b ≤ c → HasRisen a b → HasRisen a c
+risen_more a b c le risen below = let lt = risen (omega (arith, le, below)) in omega (arith, lt, le)
+
+risen_less : (a b c : ℕ) → a ≤ b → HasRisen b c → HasRisen a c
+risen_less a b c le risen below = let lt = risen below in omega (arith, lt, le)
+
+-- ---- ends of turns
+
+ends_none : (P : List Record → Type 0) (past : List Record) → AtEndsBut 0 P past → P past × AtTurnEndsBut 0 P past
+ends_none P past (inl both) = both
+ends_none P past (inr other) = absurd (let never : 0 ≡ suc other.0 = other.1.0 in omega (arith, never))
+
+ends_event : (P : List Record → Type 0) (event : Event) (bytes : List ℕ) (past : List Record) → P past → AtTurnEndsBut 0 P past → AtTurnEndsBut 0 P (record_of event bytes ∷ past)
+ends_event P (Datagram sender len at) bytes past here before = inl (here, before)
+ends_event P (Quiet at) bytes past here before = inl (here, before)
+
+ends_sent : (P : List Record → Type 0) (sent past : List Record) → AllByRecursion (λ r. is_event r ≡ false) sent → AtTurnEndsBut 0 P past → AtTurnEndsBut 0 P (sent ++ past)
+ends_sent P [] past all e = e
+ends_sent P (Received at sender bytes ∷ sent) past all e = absurd (let never : true ≡ false = all.0 in cc)
+ends_sent P (traffic.Quiet at ∷ sent) past all e = absurd (let never : true ≡ false = all.0 in cc)
+ends_sent P (Sent moment receiver bytes ∷ sent) past all e = ends_sent P sent past all.1 e
+
+waits_sent : (sent past : List Record) → AllByRecursion (λ r. is_event r ≡ false) sent → waits (sent ++ past) ≡ waits past
+waits_sent [] past all = refl
+waits_sent (Received at sender bytes ∷ sent) past all = absurd (let never : true ≡ false = all.0 in cc)
+waits_sent (traffic.Quiet at ∷ sent) past all = absurd (let never : true ≡ false = all.0 in cc)
+waits_sent (Sent moment receiver bytes ∷ sent) past all = waits_sent sent past all.1
+
+-- ---- one wait
+
+-- What a wait added, and what it left.
+record Took (seen mid : LinkState) (s taken : State) : Type 0 where
+  came : List Record
+  gained : GainsRecords seen.traffic came mid.traffic
+  refusals : ℕ
+  all : (past : List Record) → waits (came ++ past) + refusals ≡ waits past + 1
+  refused : (refusals ≡ 0) ⊎ HasRisen seen.faults mid.faults
+  descriptor : taken.descriptor ≡ s.descriptor
+  committed : taken.committed ≡ s.committed
+  ours : (d : Descriptor) (held : Bool) → AllByRecursion (IsOurs d held) came
+  counted : CountsTurn s.counts taken.counts
+  receive_faults : (before : ℕ) → s.counts.receive_faults ≡ capped before → taken.counts.receive_faults ≡ capped (before + refusals)
+  stands : (book : LookUp) (since : ℕ) (past : List Record) → StandsFor book since s past → StandsFor book since taken (came ++ past)
+  lets : IsCalm seen.faults mid.faults → (book : LookUp) (since : ℕ) (past sent : List Record) → StandsFor book since s past → LetsInFirst s.descriptor past
+      → AllByRecursion (λ r. is_event r ≡ false) sent → OwesNone taken ⊎ (list_any (replies_on taken.descriptor taken.channel) sent ≡ true)
+      → LetsInFirst s.descriptor (sent ++ came ++ past)
+  ends : (P : List Record → Type 0) (past : List Record) → IsCalm seen.faults mid.faults → P past → AtTurnEndsBut 0 P past → AtTurnEndsBut 0 P (came ++ past)
+
+event_descriptor : (s : State) (event : Event) (bytes : List ℕ) → (after_event s event bytes).descriptor ≡ s.descriptor
+event_descriptor s (Datagram sender len at) bytes = refl
+event_descriptor s (Quiet at) bytes = refl
+
+event_committed : (s : State) (event : Event) (bytes : List ℕ) → (after_event s event bytes).committed ≡ s.committed
+event_committed s (Datagram sender len at) bytes = refl
+event_committed s (Quiet at) bytes = refl
+
+event_waits : (event : Event) (bytes : List ℕ) (past : List Record) → waits (record_of event bytes ∷ past) + 0 ≡ waits past + 1
+event_waits (Datagram sender len at) bytes past = omega arith
+event_waits (Quiet at) bytes past = omega arith
+
+event_ours : (d : Descriptor) (held : Bool) (event : Event) (bytes : List ℕ) → IsOurs d held (record_of event bytes)
+event_ours d held (Datagram sender len at) bytes = tt
+event_ours d held (Quiet at) bytes = tt
+
+took_wait : (seen mid : LinkState) (s taken : State) → Waits seen mid s taken → Took seen mid s taken
+took_wait seen mid s taken (took event bytes is gained now_is) =
+    subst (λ (x : State). Took seen mid s x) (sym now_is) (record {
+      came = record_of event bytes ∷ [];
+      gained = gained;
+      refusals = 0;
+      all = event_waits event bytes;
+      refused = inl refl;
+      descriptor = event_descriptor s event bytes;
+      committed = event_committed s event bytes;
+      ours = λ d held. (event_ours d held event bytes, tt);
+      counted = event_counted s event bytes;
+      receive_faults = λ before e. let same = event_refusals s event bytes in omega (arith, same, e);
+      stands = λ book since past st. stands_event book since s event bytes past is st;
+      lets = λ calm book since past sent st before all answered. lets_event s event bytes past sent book since is st before all answered;
+      ends = λ P past calm here before. ends_event P event bytes past here before;
+    })
+took_wait seen mid s taken (missed same risen now_is) =
+    subst (λ (x : State). Took seen mid s x) (sym now_is) (record {
+      came = [];
+      gained = gains_nothing seen.traffic mid.traffic same;
+      refusals = 1;
+      all = λ past. refl;
+      refused = inr risen;
+      descriptor = refl;
+      committed = refl;
+      ours = λ d held. tt;
+      counted = refusal_counted s;
+      receive_faults = λ before e. omega (arith, e);
+      stands = λ book since past st. stands_refused book since s past st;
+      lets = λ calm book since past sent st before all answered. absurd (calm risen);
+      ends = λ P past calm here before. absurd (calm risen);
+    })
+
+-- ---- one turn more
+
+pub turns_none : (disk : DiskState) (seen : LinkState) (s : State) → TakesTurns 0 disk disk seen seen s s
+turns_none disk seen s = record {
+  added = [];
+  gained = gains_nothing seen.traffic seen.traffic refl;
+  nexts = λ some. absurd (omega (arith, some));
+  unmoved = λ e. refl;
+  later = omega arith;
+  reads = record { tells = refl; honest = refl; same = refl; hard = refl; later = omega arith };
+  descriptor = refl;
+  committed = refl;
+  ours = tt;
+  refusals = 0;
+  all = refl;
+  refused = inl refl;
+  turns = λ before e. omega (arith, e);
+  receive_faults = λ before e. omega (arith, e);
+  stands = λ book since le st. st;
+  whole = λ smooth book since le st w. w;
+  lets = λ calm book since le st. inl (λ after r before is. absurd (no_split after r before is), tt);
+  serves = λ smooth book since le st w. inl (λ life plain heard asks. absurd (let never : false ≡ true = heard in cc), tt);
+}
+  where
+    no_split : (after : List Record) (r : Record) (before : List Record) → [] ≡ after ++ r ∷ before → ⊥
+    no_split [] r before is = cc
+    no_split (x ∷ after) r before is = cc
+
+next_step : (n a b c : ℕ) → (0 < n → b ≡ capped (a + n)) → (n ≡ 0 → b ≡ a) → c ≡ capped (b + 1) → c ≡ capped (a + (n + 1))
+next_step zero a b c more same e = let h = same refl in omega (arith, h, e)
+next_step (suc n) a b c more same e = let h = more (omega arith) in omega (arith, h, e)
+
+reads_twice : (a b c : DiskState) → ReadsAlone a b → ReadsAlone b c → ReadsAlone a c
+reads_twice a b c p q = record { tells = q.tells ∙ p.tells; honest = q.honest ∙ p.honest; same = q.same ∙ p.same; hard = q.hard ∙ p.hard; later = omega (arith, p.later, q.later) }
+
+refused_twice : (x y a b c : ℕ) → a ≤ b → b ≤ c → (x ≡ 0) ⊎ HasRisen a b → (y ≡ 0) ⊎ HasRisen b c → (x + y ≡ 0) ⊎ HasRisen a c
+refused_twice x y a b c le le' (inl e) (inl f) = inl (omega (arith, e, f))
+refused_twice x y a b c le le' (inl e) (inr g) = inr (risen_less a b c le g)
+refused_twice x y a b c le le' (inr f) g = inr (risen_more a b c le' f)
+
+ours_as : (d e : Descriptor) (set set' : List Bool) (xs : List Record) → e ≡ d → set' ≡ set → AllByRecursion (IsOurs e (slice_index_or set' 0 false)) xs → AllByRecursion (IsOurs d (slice_index_or set 0 false)) xs
+ours_as d e set set' xs is same all =
+    subst (λ (x : Descriptor). AllByRecursion (IsOurs x (slice_index_or set 0 false)) xs) is
+    (subst (λ (x : List Bool). AllByRecursion (IsOurs e (slice_index_or x 0 false)) xs) same all)
+
+module _ (n : ℕ) (disk half disk' : DiskState) (seen seen1 seen' : LinkState) (s t u : State) (q : TakesTurns n disk half seen seen1 s t) (p : TakesTurn half disk' seen1 seen' t u) where
+  w : Took seen1 p.mid t p.taken
+  w = took_wait seen1 p.mid t p.taken p.waited
+
+  sends : Sends (moment_of half.history) p.mid seen' p.taken u
+  sends = p.flushed.sends
+
+  all_added : List Record
+  all_added = sends.added ++ w.came ++ q.added
+
+  taken_descriptor : p.taken.descriptor ≡ s.descriptor
+  taken_descriptor = w.descriptor ∙ q.descriptor
+
+  taken_committed : p.taken.committed ≡ s.committed
+  taken_committed = w.committed ∙ q.committed
+
+  stands_then : (book : LookUp) (since : ℕ) → since ≤ moment_of disk.history → StandsFor book since s [] → StandsFor book since p.taken (w.came ++ q.added)
+  stands_then book since le st = w.stands book since q.added (q.stands book since le st)
+
+  stands_now : (book : LookUp) (since : ℕ) → since ≤ moment_of disk.history → StandsFor book since s [] → StandsFor book since u all_added
+  stands_now book since le st =
+      sends.stands book since (w.came ++ q.added) (subst (λ (h : History). since ≤ moment_of h) (sym q.reads.same) le) (stands_then book since le st)
+
+  calm_before : IsCalm seen.faults seen'.faults → IsCalm seen.faults seen1.faults
+  calm_before calm risen = calm (risen_more seen.faults seen1.faults seen'.faults (omega (arith, p.later, sends.later)) risen)
+
+  calm_wait : IsCalm seen.faults seen'.faults → IsCalm seen1.faults p.mid.faults
+  calm_wait calm risen = calm (risen_more seen.faults p.mid.faults seen'.faults sends.later (risen_less seen.faults seen1.faults p.mid.faults q.later risen))
+
+  calm_send : IsCalm seen.faults seen'.faults → IsCalm p.mid.faults seen'.faults
+  calm_send calm risen = calm (risen_less seen.faults p.mid.faults seen'.faults (omega (arith, q.later, p.later)) risen)
+
+  smooth_before : IsSmooth s.descriptor (holds_first s) disk disk' seen seen' → IsSmooth s.descriptor (holds_first s) disk half seen seen1
+  smooth_before smooth = record {
+    link = calm_before smooth.link;
+    reads = λ risen. smooth.reads (risen_more disk.faults half.faults disk'.faults p.flushed.reads.later risen);
+    known = smooth.known;
+    holding = smooth.holding;
+    committed = smooth.committed;
+  }
+
+  whole_now : IsSmooth s.descriptor (holds_first s) disk disk' seen seen' → (book : LookUp) (since : ℕ) → since ≤ moment_of disk.history → StandsFor book since s [] → IsWhole s.counts → IsWhole u.counts
+  whole_now smooth book since le st whole =
+      sent_whole p.taken.descriptor (holds_first p.taken) half disk' p.mid seen' p.taken.counts u.counts p.flushed.causes (calm_send smooth.link)
+      (λ risen. smooth.reads (risen_less disk.faults half.faults disk'.faults q.reads.later risen))
+      (known_on disk half q.reads.tells q.reads.honest smooth.known)
+      (subst (λ (d : Descriptor). chunks_of d ≡ 1) (sym taken_descriptor) st.one_chunk)
+      (subst (λ (d : Descriptor). holds d half.history.reads 0 ≡ true) (sym taken_descriptor)
+      (subst (λ (h : History). holds s.descriptor h.reads 0 ≡ true) (sym q.reads.same) smooth.holding))
+      (subst (λ (set : List Bool). slice_index_or set 0 false ≡ true) (sym taken_committed) smooth.committed)
+      (w.counted.whole (q.whole (smooth_before smooth) book since le st whole))
+
+  lets_now : IsCalm seen.faults seen'.faults → (book : LookUp) (since : ℕ) → since ≤ moment_of disk.history → StandsFor book since s [] → AtEndsBut 0 (LetsInFirst s.descriptor) all_added
+  lets_now calm book since le st =
+      let before = ends_none (LetsInFirst s.descriptor) q.added (q.lets (calm_before calm) book since le st) in
+      let done : OwesNone u = ⊎_elim (λ none. none) (λ risen. absurd (calm_send calm risen)) p.flushed.replied in
+      let here = w.lets (calm_wait calm) book since q.added sends.added (q.stands book since le st) (subst (λ (d : Descriptor). LetsInFirst d q.added) (sym q.descriptor) before.0) sends.all_sent (sends.answered done) in
+      inl (subst (λ (d : Descriptor). LetsInFirst d all_added) q.descriptor here,
+      ends_sent (LetsInFirst s.descriptor) sends.added (w.came ++ q.added) sends.all_sent (w.ends (LetsInFirst s.descriptor) q.added (calm_wait calm) before.0 before.1))
+
+  serves_now : IsSmooth s.descriptor (holds_first s) disk disk' seen seen' → (book : LookUp) (since : ℕ) → since ≤ moment_of disk.history → StandsFor book since s [] → IsWhole s.counts
+      → AtEndsBut 0 (ServesAsked s.descriptor fewer_than_two 0) all_added
+  serves_now smooth book since le st whole =
+      let before = ends_none (ServesAsked s.descriptor fewer_than_two 0) q.added (q.serves (smooth_before smooth) book since le st whole) in
+      let here = serves_turn book since u all_added (stands_now book since le st) (whole_now smooth book since le st whole) p.flushed.served in
+      inl (subst (λ (d : Descriptor). ServesAsked d fewer_than_two 0 all_added) (sends.core.descriptor ∙ taken_descriptor) here,
+      ends_sent (ServesAsked s.descriptor fewer_than_two 0) sends.added (w.came ++ q.added) sends.all_sent (w.ends (ServesAsked s.descriptor fewer_than_two 0) q.added (calm_wait smooth.link) before.0 before.1))
+
+  pub turns_more : TakesTurns (n + 1) disk disk' seen seen' s u
+  turns_more = record {
+    added = all_added;
+    gained = gains_twice seen.traffic p.mid.traffic seen'.traffic (w.came ++ q.added) sends.added (gains_twice seen.traffic seen1.traffic p.mid.traffic q.added w.came q.gained w.gained) sends.gained;
+    nexts = λ some. sends.nexts ∙ next_step n seen.nexts seen1.nexts p.mid.nexts q.nexts q.unmoved p.nexts;
+    unmoved = λ none. absurd (omega (arith, none));
+    later = omega (arith, q.later, p.later, sends.later);
+    reads = reads_twice disk half disk' q.reads p.flushed.reads;
+    descriptor = sends.core.descriptor ∙ taken_descriptor;
+    committed = sends.core.committed ∙ taken_committed;
+    ours = all_both (IsOurs s.descriptor (holds_first s)) sends.added (w.came ++ q.added) (ours_as s.descriptor p.taken.descriptor s.committed p.taken.committed sends.added taken_descriptor taken_committed sends.shaped)
+        (all_both (IsOurs s.descriptor (holds_first s)) w.came q.added (w.ours s.descriptor (holds_first s)) q.ours);
+    refusals = q.refusals + w.refusals;
+    all = let sent = waits_sent sends.added (w.came ++ q.added) sends.all_sent in let came = w.all q.added in omega (arith, sent, came, q.all);
+    refused = refused_twice q.refusals w.refusals seen.faults seen1.faults seen'.faults q.later (omega (arith, p.later, sends.later)) q.refused
+        (⊎_elim (λ e. inl e) (λ risen. inr (risen_more seen1.faults p.mid.faults seen'.faults sends.later risen)) w.refused);
+    turns = λ before e.
+        let h1 = sent_turns p.taken.descriptor (holds_first p.taken) half disk' p.mid seen' p.taken.counts u.counts p.flushed.causes in
+        let h2 = w.counted.turns in
+        let h3 = q.turns before e in
+        omega (arith, h1, h2, h3);
+    receive_faults = λ before e.
+        let h1 = sent_refusals p.taken.descriptor (holds_first p.taken) half disk' p.mid seen' p.taken.counts u.counts p.flushed.causes in
+        let h2 = w.receive_faults (before + q.refusals) (q.receive_faults before e) in
+        omega (arith, h1, h2);
+    stands = stands_now;
+    whole = whole_now;
+    lets = lets_now;
+    serves = serves_now;
+  }
