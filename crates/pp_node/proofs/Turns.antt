@@ -16,7 +16,7 @@ use Rattle.pp_traffic.specs.Flight.{fewer_than_two}
 use Rattle.pp_traffic.specs.Prompt.{LetsInFirst, ServesAsked}
 use Rattle.pp_traffic.specs.Turns.{AtTurnEndsBut, AtEndsBut}
 use Rattle.pp_traffic.specs.Plain.{IsPlainNow}
-use Rattle.pp_outside.specs.Outside.{record_of, size_of, FitsIn}
+use Rattle.pp_outside.specs.Outside.{address_of, record_of, size_of, FitsIn}
 use Rattle.pp_outside.specs.Arrivals.{IsEvent}
 use Rattle.pp_outside.specs.declared.link.Event.{Event}
 use Rattle.pp_outside.specs.declared.link.Event.TheVariants.{Datagram, Quiet}
@@ -39,7 +39,7 @@ event_fits (Datagram sender len at) buffer whole fits =
 event_fits (Quiet at) buffer whole fits = refl
 
 same_record : (event : Event) (buffer : List ℕ) → record_of event (take (size_of event) buffer) ≡ record_of event buffer
-same_record (Datagram sender len at) buffer = ap (λ (xs : List ℕ). Received at _ xs) (take-take len len buffer (omega arith))
+same_record (Datagram sender len at) buffer = ap (λ (xs : List ℕ). Received at (address_of sender) xs) (take-take len len buffer (omega arith))
 same_record (Quiet at) buffer = refl
 
 pub waits_took : (seen mid : LinkState) (s taken : State) (event : Event) (buffer : List ℕ) → length buffer ≡ 65536 → FitsIn event buffer
@@ -60,7 +60,7 @@ risen_less a b c le risen below = let lt = risen below in omega (arith, lt, le)
 
 ends_none : (P : List Record → Type 0) (past : List Record) → AtEndsBut 0 P past → P past × AtTurnEndsBut 0 P past
 ends_none P past (inl both) = both
-ends_none P past (inr other) = absurd (let never : 0 ≡ suc other.0 = other.1.0 in omega (arith, never))
+ends_none P past (inr other) = absurd (let never : 0 ≡ suc other.0 = other.1 in omega (arith, never))
 
 ends_event : (P : List Record → Type 0) (event : Event) (bytes : List ℕ) (past : List Record) → P past → AtTurnEndsBut 0 P past → AtTurnEndsBut 0 P (record_of event bytes ∷ past)
 ends_event P (Datagram sender len at) bytes past here before = inl (here, before)
@@ -81,7 +81,7 @@ waits_sent (Sent moment receiver bytes ∷ sent) past all = waits_sent sent past
 -- ---- one wait
 
 -- What a wait added, and what it left.
-record Took (seen mid : LinkState) (s taken : State) : Type 0 where
+record Took (seen mid : LinkState) (s taken : State) : Type 1 where
   came : List Record
   gained : GainsRecords seen.traffic came mid.traffic
   refusals : ℕ
@@ -95,7 +95,7 @@ record Took (seen mid : LinkState) (s taken : State) : Type 0 where
   stands : (book : LookUp) (since : ℕ) (past : List Record) → StandsFor book since s past → StandsFor book since taken (came ++ past)
   lets : IsCalm seen.faults mid.faults → (book : LookUp) (since : ℕ) (past sent : List Record) → StandsFor book since s past → LetsInFirst s.descriptor past
       → AllByRecursion (λ r. is_event r ≡ false) sent → OwesNone taken ⊎ (list_any (replies_on taken.descriptor taken.channel) sent ≡ true)
-      → LetsInFirst s.descriptor (sent ++ came ++ past)
+      → LetsInFirst s.descriptor (sent ++ (came ++ past))
   ends : (P : List Record → Type 0) (past : List Record) → IsCalm seen.faults mid.faults → P past → AtTurnEndsBut 0 P past → AtTurnEndsBut 0 P (came ++ past)
 
 event_descriptor : (s : State) (event : Event) (bytes : List ℕ) → (after_event s event bytes).descriptor ≡ s.descriptor
@@ -194,14 +194,14 @@ ours_as d e set set' xs is same all =
     (subst (λ (x : List Bool). AllByRecursion (IsOurs e (slice_index_or x 0 false)) xs) same all)
 
 module _ (n : ℕ) (disk half disk' : DiskState) (seen seen1 seen' : LinkState) (s t u : State) (q : TakesTurns n disk half seen seen1 s t) (p : TakesTurn half disk' seen1 seen' t u) where
-  w : Took seen1 p.mid t p.taken
+  abbrev w : Took seen1 p.mid t p.taken
   w = took_wait seen1 p.mid t p.taken p.waited
 
-  sends : Sends (moment_of half.history) p.mid seen' p.taken u
+  abbrev sends : Sends (moment_of half.history) p.mid seen' p.taken u
   sends = p.flushed.sends
 
-  all_added : List Record
-  all_added = sends.added ++ w.came ++ q.added
+  abbrev all_added : List Record
+  all_added = sends.added ++ (w.came ++ q.added)
 
   taken_descriptor : p.taken.descriptor ≡ s.descriptor
   taken_descriptor = w.descriptor ∙ q.descriptor
@@ -291,3 +291,35 @@ module _ (n : ℕ) (disk half disk' : DiskState) (seen seen1 seen' : LinkState) 
     lets = lets_now;
     serves = serves_now;
   }
+
+pub turn_of : (disk half disk' : DiskState) (seen mid seen' : LinkState) (s taken new : State) → half ≡ disk → Waits seen mid s taken → mid.nexts ≡ capped (seen.nexts + 1) → seen.faults ≤ mid.faults
+    → Flushes half disk' mid seen' taken new → TakesTurn disk disk' seen seen' s new
+turn_of disk half disk' seen mid seen' s taken new same waited nexts later flushed =
+    record { mid = mid; taken = taken; waited = waited; nexts = nexts; later = later; flushed = subst (λ (x : DiskState). Flushes x disk' mid seen' taken new) same flushed }
+
+-- ---- the loop
+
+-- So many turns have been taken.
+pub record HasTaken {B : Type 0} (taken turns : ℕ) (disk disk' : DiskState) (seen seen' : LinkState) (s new : State) (book book' : B) (room : ℕ) : Type 0 where
+  pub within : taken ≤ turns
+  pub took : TakesTurns taken disk disk' seen seen' s new
+  pub live : new.is_live ≡ true
+  pub same : book' ≡ book
+  pub buffer : room ≡ 65536
+
+pub taken_more : {B : Type 0} (taken turns : ℕ) (disk half disk' : DiskState) (seen seen1 seen' : LinkState) (s t u : State) (book book1 book' : B) (room room' : ℕ)
+    → HasTaken taken turns disk half seen seen1 s t book book1 room → taken < turns → TakesTurn half disk' seen1 seen' t u → u.is_live ≡ true → book' ≡ book1 → room' ≡ room
+    → HasTaken (taken + 1) turns disk disk' seen seen' s u book book' room'
+taken_more taken turns disk half disk' seen seen1 seen' s t u book book1 book' room room' before lt turn live same size = record {
+  within = omega (arith, lt);
+  took = turns_more taken disk half disk' seen seen1 seen' s t u before.took turn;
+  live = live;
+  same = same ∙ before.same;
+  buffer = size ∙ before.buffer;
+}
+
+pub all_taken : {B : Type 0} (taken turns : ℕ) (disk disk' : DiskState) (seen seen' : LinkState) (s new : State) (book book' : B) (room : ℕ)
+    → HasTaken taken turns disk disk' seen seen' s new book book' room → turns ≤ taken → TakesTurns turns disk disk' seen seen' s new
+all_taken taken turns disk disk' seen seen' s new book book' room h over =
+    let is : taken ≡ turns = omega (arith, h.within, over) in
+    subst (λ (n : ℕ). TakesTurns n disk disk' seen seen' s new) is h.took

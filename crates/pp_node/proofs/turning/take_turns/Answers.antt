@@ -1,29 +1,23 @@
-use Rattle.std.proofs.Common.{rules, ◌≡◌, ◌+◌, ◌≤◌, true, length, IsOk, ℕ, ◌-◌, ◌*◌, ◌<◌, ◌/◌, ◌%◌, Bool, false, nat_eq, nat_lt, List, [], ◌∷◌, ◌++◌, slice_index_or, slice_set, bit_and, bit_or, Fits, w8, w32, w64, Bor, MutBor}
-use Rattle.pp_core.specs.Standing.{capped}
-use Rattle.pp_outside.specs.Outside.{size_of}
-use Rattle.pp_node.specs.Turning.{Waits, TakesTurn, TakesTurns}
+use Rattle.std.proofs.Common.{◌≤◌, refl, arith}
+use Rattle.pp_node.proofs.Turns.{turns_none, taken_more, all_taken}
 use Rattle.pp_node.proofs.turning.take_turns.Goals as goal
 
--- src/turning.rt:31:5
 pub loop-taken-init : goal.loop-taken-init
-loop-taken-init g c = ?
+loop-taken-init g c =
+    record { within = omega arith; took = turns_none (g.D.Disk.state c.args.disk.now) (g.L.Link.seen c.args.link.now) c.args.peer.now; live = c.requires.live; same = refl; buffer = c.requires.room }
 
--- src/turning.rt:32:9
 pub take_turn-requires-clause-live : goal.take_turn-requires-clause-live
-take_turn-requires-clause-live g c = ?
+take_turn-requires-clause-live g c = c.loop-taken.invariant.live
 
--- src/turning.rt:31:5
 pub loop-taken-preserved : goal.loop-taken-preserved
-loop-taken-preserved g c = ?
+loop-taken-preserved g c =
+    taken_more _ _ _ _ _ _ _ _ _ _ _ _ _ _ _ _ c.loop-taken.invariant c.loop-taken-test.true c.take_turn.ensures.turn c.take_turn.ensures.live c.take_turn.ensures.book c.take_turn.auto.buffer
 
--- src/turning.rt:15:1
 pub returns-clause-turns : goal.returns-clause-turns
-returns-clause-turns g c = ?
+returns-clause-turns g c = all_taken _ _ _ _ _ _ _ _ _ _ _ c.loop-taken.invariant c.loop-taken-test.false
 
--- src/turning.rt:15:1
 pub returns-clause-live : goal.returns-clause-live
-returns-clause-live g c = ?
+returns-clause-live g c = c.loop-taken.invariant.live
 
--- src/turning.rt:15:1
 pub returns-clause-book : goal.returns-clause-book
-returns-clause-book g c = ?
+returns-clause-book g c = c.loop-taken.invariant.same

@@ -1,12 +1,10 @@
-use Rattle.std.proofs.Common.{◌-◌, ◌≡◌, ◌+◌, ◌≤◌, true, length, IsOk, ℕ, ◌*◌, ◌<◌}
-use Rattle.pp_core.specs.Standing.{capped}
-use Rattle.pp_outside.specs.Outside.{size_of}
-use Rattle.pp_node.specs.Turning.{Waits, TakesTurn, TakesTurns}
+use Rattle.std.proofs.Common.{length, ◌-◌}
+use Rattle.pp_node.proofs.Turns.{HasTaken}
 use Rattle.pp_node.proofs.turning.take_turns.Given as goal
 
 abbrev pub invariant-loop-taken : goal.invariant-loop-taken
-invariant-loop-taken g l = ?
+invariant-loop-taken g l =
+    HasTaken l.taken l.turns (g.D.Disk.state l.initial.disk) (g.D.Disk.state l.disk) (g.L.Link.seen l.initial.link) (g.L.Link.seen l.link) l.initial.peer l.peer l.initial.book l.book (length l.buffer)
 
--- proposed from the loop's first test
 abbrev pub decreases-loop-taken : goal.decreases-loop-taken
 decreases-loop-taken g l = l.turns - l.taken
