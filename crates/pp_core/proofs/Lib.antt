@@ -10,4 +10,5 @@ pub mod Turning
 pub mod Sends
 pub mod Relations
 pub mod Prompts
+pub mod Counted
 pub mod Unheld

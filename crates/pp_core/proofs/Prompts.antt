@@ -16,7 +16,7 @@ use Rattle.pp_traffic.specs.Story.{story}
 use Rattle.pp_traffic.specs.Asking.{asked, is_heard}
 use Rattle.pp_traffic.specs.Flight.{in_flight, fewer_than_two}
 use Rattle.pp_traffic.specs.Plain.{is_handshake, first_since, IsPlainDial, IsPlainAnswer, IsPlainNow}
-use Rattle.pp_traffic.specs.Prompt.{knocks, first_source, knocks_in, knocks_once, lets_in, LetsInFirst, ServesAsked, IsPrompt}
+use Rattle.pp_traffic.specs.Prompt.{knocks, first_source, knocks_in, knocks_once, lets_in, LetsInFirst, ServesAsked}
 use Rattle.pp_outside.specs.Outside.{address_of, record_of}
 use Rattle.pp_outside.specs.Arrivals.{IsEvent}
 use Rattle.pp_outside.specs.declared.link.Address.{Address}
@@ -322,29 +322,19 @@ serves_turn book since s past st w left life plain heard asks = ⊎_elim
     (subst (λ (l : Life). asked 0 (story s.descriptor l past) ≡ true) same asks)))
     (channel? s.channel)
 
--- ---- both
+-- ---- an event, and what was sent then
 
-pub prompt_turn : (s sent : State) (event : Event) (bytes : List ℕ) (past added : List Record) (book : LookUp) (since : ℕ) → IsEvent event bytes → StandsFor book since s past
-    → IsPrompt s.descriptor fewer_than_two 0 past → AllByRecursion (λ x. is_event x ≡ false) added
+pub lets_event : (s : State) (event : Event) (bytes : List ℕ) (past added : List Record) (book : LookUp) (since : ℕ) → IsEvent event bytes → StandsFor book since s past
+    → LetsInFirst s.descriptor past → AllByRecursion (λ x. is_event x ≡ false) added
     → OwesNone (after_event s event bytes) ⊎ (list_any (replies_on (after_event s event bytes).descriptor (after_event s event bytes).channel) added ≡ true)
-    → sent.descriptor ≡ s.descriptor → StandsFor book since sent (added ++ record_of event bytes ∷ past) → IsWhole sent.counts → LeavesNone sent
-    → IsPrompt s.descriptor fewer_than_two 0 (added ++ record_of event bytes ∷ past)
-prompt_turn s sent (Quiet at) bytes past added book since is st before all answered same after w left = record {
-  lets_in = lets_turn s.descriptor added past (traffic.Quiet at) all before.lets_in (λ e. absurd cc);
-  serves = subst (λ (d : Descriptor). ServesAsked d fewer_than_two 0 (added ++ traffic.Quiet at ∷ past)) same (serves_turn book since sent (added ++ traffic.Quiet at ∷ past) after w left);
-}
-prompt_turn s sent (Came sender len at) bytes past added book since is st before all answered same after w left =
+    → LetsInFirst s.descriptor (added ++ record_of event bytes ∷ past)
+lets_event s (Quiet at) bytes past added book since is st before all answered = lets_turn s.descriptor added past (traffic.Quiet at) all before (λ e. absurd cc)
+lets_event s (Came sender len at) bytes past added book since is st before all answered =
     let whole : take len bytes ≡ bytes = ap (λ (n : ℕ). take n bytes) is.0 ∙ take-length bytes in
-    let r = Received at (address_of sender) (take len bytes) in
-    let lets : knocks_in s.descriptor r ≡ true → knocks_once s.descriptor r ≡ true → list_any (knocks_in s.descriptor) past ≡ false → list_any (lets_in s.descriptor r) added ≡ true =
-        λ e once none.
-        let here : s.channel ≡ None = no_channel book since s past st none in
-        subst (λ (xs : List ℕ). list_any (lets_in s.descriptor (Received at (address_of sender) xs)) added ≡ true) (sym whole)
-        (reply_sent s.descriptor at sender bytes (reached s.counts) s.numbers (after_event s (Came sender len at) bytes) added refl
-        (ap (λ (o : Option Channel). (take_datagram s.descriptor sender bytes o (reached s.counts) s.numbers).heard.channel) here)
-        (subst (λ (xs : List ℕ). knocks_in s.descriptor (Received at (address_of sender) xs) ≡ true) whole e)
-        (subst (λ (xs : List ℕ). knocks_once s.descriptor (Received at (address_of sender) xs) ≡ true) whole once) answered) in
-    record {
-      lets_in = lets_turn s.descriptor added past r all before.lets_in lets;
-      serves = subst (λ (d : Descriptor). ServesAsked d fewer_than_two 0 (added ++ r ∷ past)) same (serves_turn book since sent (added ++ r ∷ past) after w left);
-    }
+    lets_turn s.descriptor added past (Received at (address_of sender) (take len bytes)) all before (λ e once none.
+    let here : s.channel ≡ None = no_channel book since s past st none in
+    subst (λ (xs : List ℕ). list_any (lets_in s.descriptor (Received at (address_of sender) xs)) added ≡ true) (sym whole)
+    (reply_sent s.descriptor at sender bytes (reached s.counts) s.numbers (after_event s (Came sender len at) bytes) added refl
+    (ap (λ (o : Option Channel). (take_datagram s.descriptor sender bytes o (reached s.counts) s.numbers).heard.channel) here)
+    (subst (λ (xs : List ℕ). knocks_in s.descriptor (Received at (address_of sender) xs) ≡ true) whole e)
+    (subst (λ (xs : List ℕ). knocks_once s.descriptor (Received at (address_of sender) xs) ≡ true) whole once) answered))

@@ -30,7 +30,7 @@ On s h = record s { channel = h.channel; counts = h.counts }
 same_core : (s : State) (channel : Option Channel) (k : Counts) → SameCore s (record s { channel = channel; counts = k })
 same_core s channel k = record { descriptor = refl; committed = refl; latest = refl; numbers = refl; is_live = refl }
 
-gains_nothing : (old new : Option (List Record)) → new ≡ old → GainsRecords old [] new
+pub gains_nothing : (old new : Option (List Record)) → new ≡ old → GainsRecords old [] new
 gains_nothing None new e = e
 gains_nothing (Some xs) new e = e
 
@@ -122,13 +122,13 @@ sends_delivery moment seen seen' s c now' digest content h here proven replied a
 
 -- ---- one after the other
 
-gains_twice : (a b c : Option (List Record)) (x y : List Record) → GainsRecords a x b → GainsRecords b y c → GainsRecords a (y ++ x) c
+pub gains_twice : (a b c : Option (List Record)) (x y : List Record) → GainsRecords a x b → GainsRecords b y c → GainsRecords a (y ++ x) c
 gains_twice None b c x y p q = let q' : GainsRecords None y c = subst (λ (o : Option (List Record)). GainsRecords o y c) p q in q'
 gains_twice (Some xs) b c x y p q =
     let q' : GainsRecords (Some (x ++ xs)) y c = subst (λ (o : Option (List Record)). GainsRecords o y c) p q in
     q' ∙ ap (λ (ys : List Record). Some ys) (sym (append_assoc y x xs))
 
-all_both : (P : Record → Type 0) (x y : List Record) → AllByRecursion P x → AllByRecursion P y → AllByRecursion P (x ++ y)
+pub all_both : (P : Record → Type 0) (x y : List Record) → AllByRecursion P x → AllByRecursion P y → AllByRecursion P (x ++ y)
 all_both P [] y a b = b
 all_both P (r ∷ x) y a b = (a.0, all_both P x y a.1 b)
 

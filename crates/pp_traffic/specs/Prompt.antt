@@ -49,8 +49,3 @@ LetsInFirst d past = (after : List Record) (r : Record) (before : List Record) �
 abbrev pub ServesAsked : Descriptor → Window → ℕ → List Record → Type 0
 ServesAsked d window i past = (life : Life) → IsPlainNow d life past → is_heard d life past ≡ true → asked i (story d life past) ≡ true
     → window (story d life past) ≡ false
-
--- Both hold.
-pub record IsPrompt (d : Descriptor) (window : Window) (i : ℕ) (past : List Record) : Type 0 where
-  pub lets_in : LetsInFirst d past
-  pub serves : ServesAsked d window i past

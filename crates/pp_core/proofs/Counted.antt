@@ -1,0 +1,52 @@
+-- What a turn does to counts.
+use Rattle.std.proofs.Common.{◌≡◌, ◌⊎◌, inl, inr, ⊎_elim, ℕ, ◌+◌, ◌-◌, ◌^◌, ◌<◌, ◌≤◌, min, Bool, true, false, List, length, refl, sym, ◌∙◌, ap, subst, arith}
+use Rattle.pp_terms.specs.Count.{HasRisen}
+use Rattle.pp_terms.specs.Descriptor.{Descriptor, chunks_of}
+use Rattle.pp_terms.specs.Disk.{DiskState, IsKnown}
+use Rattle.pp_terms.specs.Image.{holds}
+use Rattle.pp_terms.specs.Traffic.{LinkState}
+use Rattle.pp_outside.specs.Arrivals.{IsEvent}
+use Rattle.pp_outside.specs.declared.link.Event.{Event}
+use Rattle.pp_outside.specs.declared.link.Event.TheVariants.{Datagram, Quiet}
+use Rattle.pp_core.specs.Counting.{rise}
+use Rattle.pp_core.specs.Events.{reached, after_event, after_refusal}
+use Rattle.pp_core.specs.Sends.{RisesWith, Causes}
+use Rattle.pp_core.specs.Standing.{State, IsWhole}
+use Rattle.pp_core.specs.declared.counts.Counts.{Counts}
+use Rattle.pp_core.proofs.Losses.{takes_loss}
+
+-- A turn was counted, and nothing was given up.
+pub record CountsTurn (k new : Counts) : Type 0 where
+  pub turns : new.turns ≡ rise k.turns
+  pub whole : IsWhole k → IsWhole new
+
+pub event_counted : (s : State) (event : Event) (bytes : List ℕ) → CountsTurn s.counts (after_event s event bytes).counts
+event_counted s (Datagram sender len at) bytes =
+    let l = takes_loss s.descriptor sender bytes s.channel (reached s.counts) s.numbers in record {
+      turns = l.turns;
+      whole = λ w. record { unheld = l.unheld ∙ w.unheld; damaged = l.damaged ∙ w.damaged; read_faults = l.read_faults ∙ w.read_faults; send_faults = l.send_faults ∙ w.send_faults };
+    }
+event_counted s (Quiet at) bytes = record { turns = refl; whole = λ w. record { unheld = w.unheld; damaged = w.damaged; read_faults = w.read_faults; send_faults = w.send_faults } }
+
+pub event_refusals : (s : State) (event : Event) (bytes : List ℕ) → (after_event s event bytes).counts.receive_faults ≡ s.counts.receive_faults
+event_refusals s (Datagram sender len at) bytes = (takes_loss s.descriptor sender bytes s.channel (reached s.counts) s.numbers).receive_faults
+event_refusals s (Quiet at) bytes = refl
+
+pub refusal_counted : (s : State) → CountsTurn s.counts (after_refusal s).counts
+refusal_counted s = record { turns = refl; whole = λ w. record { unheld = w.unheld; damaged = w.damaged; read_faults = w.read_faults; send_faults = w.send_faults } }
+
+module _ (d : Descriptor) (held : Bool) (disk disk' : DiskState) (seen seen' : LinkState) (k new : Counts) (causes : Causes d held disk disk' seen seen' k new) where
+  pub sent_turns : new.turns ≡ k.turns
+  sent_turns = ap (λ (n : Counts). n.turns) causes.others
+
+  pub sent_refusals : new.receive_faults ≡ k.receive_faults
+  sent_refusals = ap (λ (n : Counts). n.receive_faults) causes.others
+
+  -- while no device refuses, and the chunk is held, nothing is given up
+  pub sent_whole : (HasRisen seen.faults seen'.faults → ⊥) → (HasRisen disk.faults disk'.faults → ⊥) → IsKnown disk → chunks_of d ≡ 1 → holds d disk.history.reads 0 ≡ true → held ≡ true → IsWhole k → IsWhole new
+  sent_whole calm still known one holding has w = record {
+    unheld = ⊎_elim (λ same. same ∙ w.unheld) (λ lacks. absurd (let never : false ≡ true = sym lacks ∙ has in cc)) causes.unheld;
+    damaged = ⊎_elim (λ same. same ∙ w.damaged) (λ why. absurd (let never : false ≡ true = sym (why known one) ∙ holding in cc)) causes.damaged;
+    read_faults = ⊎_elim (λ same. same ∙ w.read_faults) (λ risen. absurd (still risen)) causes.read;
+    send_faults = ⊎_elim (λ same. same ∙ w.send_faults) (λ risen. absurd (calm risen)) causes.send;
+  }
