@@ -6,3 +6,4 @@ pub mod PeakNodes
 pub mod Verdicts
 pub mod SettledPeaks
 pub mod ProvenChunks
+pub mod ProvenClashes

@@ -29,7 +29,7 @@ use Rattle.pp_paths.proofs.Verdicts.{same_as_itself, as_fits}
 use Rattle.pp_paths.proofs.SettledPeaks.{settled_known}
 
 -- halving in two parts
-above_half : (n j : ℕ) → above n (j / 2) ≡ above (suc n) j
+pub above_half : (n j : ℕ) → above n (j / 2) ≡ above (suc n) j
 above_half zero j = refl
 above_half (suc n) j = ap (λ (m : ℕ). m / 2) (above_half n j)
 
@@ -49,7 +49,7 @@ ends_same book others n k j digest kept at agree =
     (node_at k j, digest, climb_ends book others n k j digest kept at ∙ ap (λ x. Reached (node_at k j) digest x) same)
 
 -- where a step of a climb is known
-climbed_on : (known : LookUp) (n k j : ℕ) (digest end : List ℕ) → climbed known (suc n) k j digest ≡ Some end
+pub climbed_on : (known : LookUp) (n k j : ℕ) (digest end : List ℕ) → climbed known (suc n) k j digest ≡ Some end
     → (other : List ℕ) × (known k (sibling j) ≡ Some other)
     × (climbed known n (suc k) (j / 2) (sha256 (joined j digest other)) ≡ Some end)
 climbed_on known n k j digest end is = elim (option_cases (known k (sibling j))) [
@@ -102,14 +102,14 @@ last_halved n k h covers some low =
     split a b c e = ap (λ (m : ℕ). 2 ^ m) e ∙ pow-add 2 a b
 
 -- What a descriptor's chunk count and a proof say of peaks.
-record Counted (d : Descriptor) : Type 0 where
+pub record Counted (d : Descriptor) : Type 0 where
   pub some : 0 < chunks_of d
   pub most : chunks_of d ≤ 2 ^ 20
   pub last : IsLast (chunks_of d) (last_layer (chunks_of d))
   pub within : last_layer (chunks_of d) ≤ height_of d
   pub halved : above (height_of d - last_layer (chunks_of d)) (peak_offset (last_layer (chunks_of d)) (chunks_of d)) ≡ 0
 
-counted : (d : Descriptor) → IsDescriptor d → Counted d
+pub counted : (d : Descriptor) → IsDescriptor d → Counted d
 counted d is =
     let range = chunk_size_range d.chunk is.chunk_size in
     let count = chunk_count_range d.size d.chunk (omega arith) is.content_size in
@@ -126,7 +126,7 @@ counted d is =
     }
 
 -- the last peak is known
-last_there : (d : Descriptor) (known : LookUp) → Counted d → first_absent known (chunks_of d) ≡ None
+pub last_there : (d : Descriptor) (known : LookUp) → Counted d → first_absent known (chunks_of d) ≡ None
     → (x : List ℕ) × (known (last_layer (chunks_of d)) (peak_offset (last_layer (chunks_of d)) (chunks_of d)) ≡ Some x)
 last_there d known count all =
     let tall = height_is (chunks_of d) count.some count.most in
@@ -255,7 +255,7 @@ follows_moves book new known i (suc n) k j top digest end top_is j_is is stays a
     )
 
 -- from the last peak on, halving leads past the full nodes
-past_full : (n k s : ℕ) → above k n % 2 ≡ 1 → 0 < s → above s (peak_offset k n) ≡ above (s + k) n
+pub past_full : (n k s : ℕ) → above k n % 2 ≡ 1 → 0 < s → above s (peak_offset k n) ≡ above (s + k) n
 past_full n k zero odd some = absurd (omega arith)
 past_full n k (suc s) odd some =
     let half : peak_offset k n / 2 ≡ above (suc k) n = omega arith in
@@ -286,6 +286,17 @@ lacks_the_last d book k rooted count low odd none =
           let (y, there) = peak_known book (chunks_of d) k all low odd in
           cc
     ]
+
+-- a layer's peak covers a chunk
+pub covered : (m l : ℕ) → 0 < above l m → peak_offset l m * 2 ^ l < m
+covered m l some =
+    let e = above_is l m in
+    let one : 0 < 2 ^ l = pow_pos l in
+    let down : m / 2 ^ l * 2 ^ l ≤ m = omega arith in
+    let split : above l m ≡ peak_offset l m + 1 = omega arith in
+    let whole : above l m * 2 ^ l ≤ m = subst (λ q. q * 2 ^ l ≤ m) (sym e) down in
+    let more : above l m * 2 ^ l ≡ peak_offset l m * 2 ^ l + 2 ^ l = ap (λ q. q * 2 ^ l) split ∙ grind arith in
+    omega arith
 
 -- What the book with the settled peaks has of them, where the book before lacked one.
 module _ (d : Descriptor) (book peaked claims : LookUp) (rooted : IsRooted d book) (count : Counted d)
@@ -364,16 +375,6 @@ module _ (d : Descriptor) (book peaked claims : LookUp) (rooted : IsRooted d boo
           ]
         ]
       ]
-    where
-      covered : (m l : ℕ) → 0 < above l m → peak_offset l m * 2 ^ l < m
-      covered m l some =
-          let e = above_is l m in
-          let one : 0 < 2 ^ l = pow_pos l in
-          let down : m / 2 ^ l * 2 ^ l ≤ m = omega arith in
-          let split : above l m ≡ peak_offset l m + 1 = omega arith in
-          let whole : above l m * 2 ^ l ≤ m = subst (λ q. q * 2 ^ l ≤ m) (sym e) down in
-          let more : above l m * 2 ^ l ≡ peak_offset l m * 2 ^ l + 2 ^ l = ap (λ q. q * 2 ^ l) split ∙ grind arith in
-          omega arith
 
 pub proven_fits : ProvenFits
 proven_fits d book peaked claims i bytes proof is rooted follows added rooted' =

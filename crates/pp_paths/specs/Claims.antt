@@ -1,5 +1,5 @@
 -- The digests that a peer claimed, the newest first.
-use Rattle.std.specs.Prelude.{ℕ, ◌==◌, ◌&&◌, cond, Some, None, List, [], ◌∷◌}
+use Rattle.std.specs.Prelude.{◌≡◌, ℕ, ◌==◌, ◌&&◌, cond, Some, None, List, [], ◌∷◌, length}
 use Rattle.pp_terms.specs.Book.{LookUp}
 
 -- A node and the digest that was claimed of it.
@@ -12,3 +12,7 @@ pub record Claimed : Type 0 where
 abbrev pub claimed : List Claimed → LookUp
 claimed [] k j = None
 claimed (c ∷ cs) k j = cond (c.layer == k && c.offset == j) (Some c.digest) (claimed cs k j)
+
+-- each digest has 32 bytes
+abbrev pub AreDigests : LookUp → Type 0
+AreDigests known = (k j : ℕ) (digest : List ℕ) → known k j ≡ Some digest → length digest ≡ 32

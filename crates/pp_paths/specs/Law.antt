@@ -1,11 +1,12 @@
 -- Claims that prove a chunk are enough.
-use Rattle.std.specs.Prelude.{◌≡◌, ℕ, zero, suc, ◌-◌, ◌/◌, Some, IfSome, List}
+use Rattle.std.specs.Prelude.{◌≡◌, ◌⊎◌, ℕ, zero, suc, ◌-◌, ◌/◌, Some, IfSome, List, ◌++◌}
 use Rattle.sha2.specs.Sha256.{sha256}
-use Rattle.pp_terms.specs.Book.{LookUp, IsRooted}
+use Rattle.pp_terms.specs.Book.{LookUp, IsJoined, IsRooted}
 use Rattle.pp_terms.specs.Descriptor.{Descriptor, chunks_of, height_of, IsDescriptor}
 use Rattle.pp_terms.specs.Proves.{sibling, joined, filled, last_layer, peak_offset, Proves}
 use Rattle.pp_paths.specs.declared.settling.Settled.TheVariants.{Known}
 use Rattle.pp_paths.specs.declared.judging.Verdict.TheVariants.{Fits}
+use Rattle.pp_paths.specs.Claims.{AreDigests}
 use Rattle.pp_paths.specs.Climb.{AddsPath}
 use Rattle.pp_paths.specs.Judge.{judged}
 use Rattle.pp_paths.specs.Settle.{settled, path_of_peaks}
@@ -24,6 +25,29 @@ pub record HasNoOther (d : Descriptor) (book known : LookUp) (i : ℕ) (bytes : 
       let last = last_layer (chunks_of d) in
       (digest : List ℕ) → known last (peak_offset last (chunks_of d)) ≡ Some digest
       → Follows book (filled (chunks_of d) known) (height_of d - last) last (peak_offset last (chunks_of d)) digest
+
+-- On the way of n layers up from node (k, j), two texts with one digest: the climb's pair and that of the book.
+abbrev pub ClimbClashes : LookUp → LookUp → ℕ → ℕ → ℕ → List ℕ → Type 0
+ClimbClashes book known zero k j digest = ⊥
+ClimbClashes book known (suc n) k j digest =
+    (other : List ℕ) × (known k (sibling j) ≡ Some other)
+    × (((left : List ℕ) × (right : List ℕ) × IsJoined book k (j / 2) left right
+    × (joined j digest other ≡ left ++ right → ⊥) × (sha256 (joined j digest other) ≡ sha256 (left ++ right)))
+    ⊎ ClimbClashes book known n (suc k) (j / 2) (sha256 (joined j digest other)))
+
+-- Two texts with one digest on the climbs of a proof, one of the claims or the bytes and one of the book.
+abbrev pub ProofClashes : (d : Descriptor) (book claims : LookUp) (i : ℕ) (bytes : List ℕ) → Proves d claims i bytes → Type 0
+ProofClashes d book claims i bytes proof =
+    ClimbClashes book claims proof.top 0 i (sha256 bytes)
+    ⊎ ((digest : List ℕ) × (claims (last_layer (chunks_of d)) (peak_offset (last_layer (chunks_of d)) (chunks_of d)) ≡ Some digest)
+    × ClimbClashes book (filled (chunks_of d) claims) (height_of d - last_layer (chunks_of d)) (last_layer (chunks_of d))
+    (peak_offset (last_layer (chunks_of d)) (chunks_of d)) digest)
+
+-- Where claims prove a chunk, a rooted book has no other digest on the climbs, or two different texts have one digest.
+abbrev pub ProvenOrClash : Type 0
+ProvenOrClash = (d : Descriptor) (book claims : LookUp) (i : ℕ) (bytes : List ℕ) (proof : Proves d claims i bytes)
+    → IsDescriptor d → IsRooted d book → AreDigests claims
+    → HasNoOther d book claims i bytes proof ⊎ ProofClashes d book claims i bytes proof
 
 -- Where claims prove a chunk, the peaks are settled by them, if the book has no other digest on the way.
 abbrev pub ProvenIsSettled : Type 0

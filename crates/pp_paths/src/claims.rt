@@ -1,6 +1,6 @@
 // The digests that one channel's peer claimed.
 ghost use Rattle.std.specs.Prelude.{◌≡◌, [], ◌∷◌, take, IfOk, IfSome, length};
-ghost use Rattle.pp_paths.specs.Claims.{claimed, Claimed};
+ghost use Rattle.pp_paths.specs.Claims.{claimed, Claimed, AreDigests};
 ghost use Rattle.pp_paths.specs.Claim.{is_claim_of};
 ghost use Rattle.std.specs.Option.{option_map};
 ghost use Rattle.std.specs.List.{find};
@@ -40,14 +40,14 @@ pub struct Claims {
 
 impl Model for Claims {
     ghost use Rattle.std.specs.Prelude.{◌≡◌, List, map};
-    ghost use Rattle.pp_paths.specs.Claims.{Claimed};
+    ghost use Rattle.pp_paths.specs.Claims.{Claimed, claimed, AreDigests};
     ghost use Rattle.pp_paths.specs.Claim.{claimed_of};
 
     ghost Value = { List Claimed };
 
     ghost view = { λ c. map claimed_of c.kept.items };
 
-    ghost invariant = { λ c. c.kept.capacity ≡ 128 };
+    ghost invariant = { λ c. (c.kept.capacity ≡ 128) × AreDigests (claimed (map claimed_of c.kept.items)) };
 }
 
 impl Claims {
@@ -63,6 +63,8 @@ impl Claims {
     pub fn add(&mut self, node: Node, digest: Digest)
         ensures { self.new ≡ take 128 (record { layer = node.layer; offset = node.offset; digest = digest } ∷ self.old) }
     {
+        // Its contract tells that the digest has 32 bytes.
+        let _ = digest.bytes();
         self.kept.push_front(Claim { node, digest });
     }
 
@@ -70,6 +72,7 @@ impl Claims {
     pub fn latest(&self, node: Node) -> Option<Digest>
         ensures latest { result ≡ claimed self.now node.layer node.offset }
         ensures len { IfSome result (λ digest. length digest ≡ 32) }
+        ensures digests { AreDigests (claimed self.now) }
     {
         newest(&self.kept, node)
     }

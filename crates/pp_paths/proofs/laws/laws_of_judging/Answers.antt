@@ -1,4 +1,5 @@
 use Rattle.pp_paths.proofs.ProvenChunks.{proven_is_settled, proven_fits}
+use Rattle.pp_paths.proofs.ProvenClashes.{proven_or_clash}
 use Rattle.pp_paths.proofs.laws.laws_of_judging.Goals as goal
 
 pub returns-clause-settled : goal.returns-clause-settled
@@ -6,3 +7,6 @@ returns-clause-settled c = proven_is_settled
 
 pub returns-clause-fits : goal.returns-clause-fits
 returns-clause-fits c = proven_fits
+
+pub returns-clause-clash : goal.returns-clause-clash
+returns-clause-clash c = proven_or_clash

@@ -1,7 +1,7 @@
 use Rattle.std.proofs.Common.{refl, None}
 use Rattle.pp_tree.specs.Book.{entry}
 use Rattle.pp_paths.specs.Claims.{claimed}
-use Rattle.pp_paths.proofs.SettledPeaks.{HasLast, last_low, last_claimed, claims_last, settled_wrongly, wrong_node_is, wrong_lacks_none}
+use Rattle.pp_paths.proofs.SettledPeaks.{HasLast, last_claimed, claims_last, settled_wrongly, wrong_node_is, wrong_lacks_none}
 use Rattle.pp_paths.proofs.settling.wrong_node.Goals as goal
 
 pub unwrap-digest-requires : goal.unwrap-digest-requires
