@@ -1,9 +1,11 @@
-use crate::{FileDisk, StdinSource, StdoutSink};
-use pp_outside::{Disk, DiskFault, Sink, SinkFault, Source, SourceFault};
+use crate::{FileDisk, StdinSource, StdoutSink, UdpLink};
+use pp_outside::{Address, Disk, DiskFault, Event, Link, LinkFault, Sink, SinkFault, Source, SourceFault};
 use std::fs;
 use std::io::{self, ErrorKind, Read};
+use std::net::UdpSocket;
 use std::os::unix::fs::symlink;
 use std::test::Fail;
+use std::time::Duration;
 
 #[test]
 fn keeps_a_store_in_a_locked_file(rt: HostRuntime) -> Result<(), Fail> {
@@ -124,5 +126,38 @@ fn writes_at_once(rt: HostRuntime) -> Result<(), Fail> {
     assert_eq!(rt; sink.write(b"d"), Err(SinkFault));
     assert_eq!(rt; sink.faults(), 1);
     assert_eq!(rt; &room, b"abc");
+    Ok(())
+}
+
+// A socket of the test's own hears what port the link was given.
+#[test]
+fn sends_to_its_own_socket(rt: HostRuntime) -> Result<(), Fail> {
+    let other = UdpSocket::bind(&rt, "127.0.0.1:0")?;
+    other.set_read_timeout(Some(Duration::from_secs(10)))?;
+    let home = [127, 0, 0, 1];
+    let disk = FileDisk::new(&rt);
+    let mut buffer = vec![in rt.alloc(); 7; 65536]?;
+    let mut link = UdpLink::new(&rt);
+    assert_eq!(rt; link.next(1_000, &mut buffer), Err(LinkFault));
+    assert_eq!(rt; (link.faults(), link.nexts()), (1, 1));
+    link.bind(&Address::V4(home, 0))?;
+    link.send(&disk, &Address::V4(home, other.local_addr()?.port()), b"who")?;
+    let (len, own) = other.recv_from(&mut buffer)?;
+    assert_eq!(rt; &buffer[..len], b"who".as_slice());
+    let own = Address::V4(home, own.port());
+    link.send(&disk, &own, b"self")?;
+    let Event::Datagram { from, len, at } = link.next(10_000_000, &mut buffer)? else {
+        panic!(rt; "no datagram");
+    };
+    assert_eq!(rt; from, own);
+    assert_eq!(rt; &buffer[..len], b"self".as_slice());
+    let Event::Quiet { at: later } = link.next(0, &mut buffer)? else {
+        panic!(rt; "a second datagram");
+    };
+    assert!(rt; at <= later);
+    let mut home = [0; 16];
+    home[15] = 1;
+    assert_eq!(rt; link.send(&disk, &Address::V6(home, 9), b"no"), Err(LinkFault));
+    assert_eq!(rt; (link.faults(), link.nexts()), (2, 3));
     Ok(())
 }
