@@ -1,11 +1,15 @@
+ghost use Rattle.std.specs.Prelude.{◌≤◌, length, IfOk};
+
 use crate::{FileDisk, StdinSource, StdoutSink, UdpLink};
-use pp_outside::{Address, Disk, DiskFault, Event, Link, LinkFault, Sink, SinkFault, Source, SourceFault};
+use pp_outside::{
+    Address, Disk, DiskFault, Event, Link, LinkFault, Sink, SinkFault, Source, SourceFault,
+};
+use std::alloc::{AllocError, Global};
 use std::fs;
 use std::io::{self, ErrorKind, Read};
-use std::net::UdpSocket;
+use std::net::{Net, UdpSocket};
 use std::os::unix::fs::symlink;
 use std::test::Fail;
-use std::time::Duration;
 
 #[test]
 fn keeps_a_store_in_a_locked_file(rt: HostRuntime) -> Result<(), Fail> {
@@ -129,35 +133,42 @@ fn writes_at_once(rt: HostRuntime) -> Result<(), Fail> {
     Ok(())
 }
 
-// A socket of the test's own hears what port the link was given.
+// Room for a datagram.
+fn room(alloc: Global) -> Result<Vec<u8>, AllocError>
+    ensures { IfOk result (λ room. 65536 ≤ length room.items) }
+{
+    vec![in alloc; 0; 65536]
+}
+
+// A port that is free now.
+fn free_port(rt: &(impl Net + Drop)) -> io::Result<u16> {
+    Ok(UdpSocket::bind(rt, "127.0.0.1:0")?.local_addr()?.port())
+}
+
 #[test]
 fn sends_to_its_own_socket(rt: HostRuntime) -> Result<(), Fail> {
-    let other = UdpSocket::bind(&rt, "127.0.0.1:0")?;
-    other.set_read_timeout(Some(Duration::from_secs(10)))?;
-    let home = [127, 0, 0, 1];
-    let disk = FileDisk::new(&rt);
-    let mut buffer = vec![in rt.alloc(); 7; 65536]?;
+    let own = Address::V4([127, 0, 0, 1], free_port(&rt)?);
+    let mut buffer = room(rt.alloc())?;
     let mut link = UdpLink::new(&rt);
-    assert_eq!(rt; link.next(1_000, &mut buffer), Err(LinkFault));
-    assert_eq!(rt; (link.faults(), link.nexts()), (1, 1));
-    link.bind(&Address::V4(home, 0))?;
-    link.send(&disk, &Address::V4(home, other.local_addr()?.port()), b"who")?;
-    let (len, own) = other.recv_from(&mut buffer)?;
-    assert_eq!(rt; &buffer[..len], b"who".as_slice());
-    let own = Address::V4(home, own.port());
-    link.send(&disk, &own, b"self")?;
-    let Event::Datagram { from, len, at } = link.next(10_000_000, &mut buffer)? else {
-        panic!(rt; "no datagram");
-    };
-    assert_eq!(rt; from, own);
-    assert_eq!(rt; &buffer[..len], b"self".as_slice());
-    let Event::Quiet { at: later } = link.next(0, &mut buffer)? else {
-        panic!(rt; "a second datagram");
-    };
-    assert!(rt; at <= later);
-    let mut home = [0; 16];
-    home[15] = 1;
-    assert_eq!(rt; link.send(&disk, &Address::V6(home, 9), b"no"), Err(LinkFault));
-    assert_eq!(rt; (link.faults(), link.nexts()), (2, 3));
+    link.bind(&own)?;
+    link.send(&FileDisk::new(&rt), &own, b"abc")?;
+    let event = link.next(10_000_000, &mut buffer)?;
+    assert!(rt; matches!(event, Event::Datagram { from, len: 3, .. } if from == own));
+    assert!(rt; buffer.starts_with(b"abc\0"));
+    Ok(())
+}
+
+#[test]
+fn refuses_the_other_family(rt: HostRuntime) -> Result<(), Fail> {
+    let mut buffer = room(rt.alloc())?;
+    let mut link = UdpLink::new(&rt);
+    assert_eq!(rt; link.next(0, &mut buffer), Err(LinkFault));
+    link.bind(&Address::V4([127, 0, 0, 1], 0))?;
+    assert!(rt; matches!(link.next(0, &mut buffer), Ok(Event::Quiet { .. })));
+    assert_eq!(rt;
+        link.send(&FileDisk::new(&rt), &Address::V6([0; 16], 9), b"abc"),
+        Err(LinkFault)
+    );
+    assert_eq!(rt; (link.faults(), link.nexts()), (2, 2));
     Ok(())
 }

@@ -117,7 +117,15 @@ fn widen(socket: &UdpSocket) {
     let mut most = [0; 16];
     most[..4].copy_from_slice(&i32::MAX.to_ne_bytes());
     // The option is read from the first 4 bytes alone.
-    let _ = unsafe { net::setsockopt(socket.as_raw_fd(), net::SOL_SOCKET, net::SO_RCVBUF, &most, 4) };
+    let _ = unsafe {
+        net::setsockopt(
+            socket.as_raw_fd(),
+            net::SOL_SOCKET,
+            net::SO_RCVBUF,
+            &most,
+            4,
+        )
+    };
 }
 
 fn open(net: &impl Net, listen: &Address) -> io::Result<Bound>
@@ -138,7 +146,8 @@ impl Bound {
     {
         if self.limit_us != Some(limit_us) {
             // A limit of 0 would be none.
-            self.socket.set_read_timeout(Some(Duration::from_micros(limit_us.max(1))))?;
+            self.socket
+                .set_read_timeout(Some(Duration::from_micros(limit_us.max(1))))?;
             self.limit_us = Some(limit_us);
         }
         Ok(())
