@@ -1,3 +1,4 @@
 pub mod Counts
 pub mod FileState
 pub mod Folder
+pub mod UdpState

@@ -1,7 +1,13 @@
-use crate::{FileDisk, StdinSource, StdoutSink};
-use pp_outside::{Disk, DiskFault, Sink, SinkFault, Source, SourceFault};
+ghost use Rattle.std.specs.Prelude.{◌≤◌, length, IfOk};
+
+use crate::{FileDisk, StdinSource, StdoutSink, UdpLink};
+use pp_outside::{
+    Address, Disk, DiskFault, Event, Link, LinkFault, Sink, SinkFault, Source, SourceFault,
+};
+use std::alloc::{AllocError, Global};
 use std::fs;
 use std::io::{self, ErrorKind, Read};
+use std::net::{Net, UdpSocket};
 use std::os::unix::fs::symlink;
 use std::test::Fail;
 
@@ -124,5 +130,45 @@ fn writes_at_once(rt: HostRuntime) -> Result<(), Fail> {
     assert_eq!(rt; sink.write(b"d"), Err(SinkFault));
     assert_eq!(rt; sink.faults(), 1);
     assert_eq!(rt; &room, b"abc");
+    Ok(())
+}
+
+// Room for a datagram.
+fn room(alloc: Global) -> Result<Vec<u8>, AllocError>
+    ensures { IfOk result (λ room. 65536 ≤ length room.items) }
+{
+    vec![in alloc; 0; 65536]
+}
+
+// A port that is free now.
+fn free_port(rt: &(impl Net + Drop)) -> io::Result<u16> {
+    Ok(UdpSocket::bind(rt, "127.0.0.1:0")?.local_addr()?.port())
+}
+
+#[test]
+fn sends_to_its_own_socket(rt: HostRuntime) -> Result<(), Fail> {
+    let own = Address::V4([127, 0, 0, 1], free_port(&rt)?);
+    let mut buffer = room(rt.alloc())?;
+    let mut link = UdpLink::new(&rt);
+    link.bind(&own)?;
+    link.send(&FileDisk::new(&rt), &own, b"abc")?;
+    let event = link.next(10_000_000, &mut buffer)?;
+    assert!(rt; matches!(event, Event::Datagram { from, len: 3, .. } if from == own));
+    assert!(rt; buffer.starts_with(b"abc\0"));
+    Ok(())
+}
+
+#[test]
+fn refuses_the_other_family(rt: HostRuntime) -> Result<(), Fail> {
+    let mut buffer = room(rt.alloc())?;
+    let mut link = UdpLink::new(&rt);
+    assert_eq!(rt; link.next(0, &mut buffer), Err(LinkFault));
+    link.bind(&Address::V4([127, 0, 0, 1], 0))?;
+    assert!(rt; matches!(link.next(0, &mut buffer), Ok(Event::Quiet { .. })));
+    assert_eq!(rt;
+        link.send(&FileDisk::new(&rt), &Address::V6([0; 16], 9), b"abc"),
+        Err(LinkFault)
+    );
+    assert_eq!(rt; (link.faults(), link.nexts()), (2, 2));
     Ok(())
 }
