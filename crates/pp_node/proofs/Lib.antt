@@ -2,3 +2,4 @@ pub mod Written
 pub mod Lines
 pub mod Runs
 pub mod Attached
+pub mod Looks

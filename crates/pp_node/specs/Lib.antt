@@ -2,3 +2,4 @@ pub mod Text
 pub mod Status
 pub mod Built
 pub mod Run
+pub mod Looking
