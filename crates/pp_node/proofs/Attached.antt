@@ -4,7 +4,7 @@ use Rattle.pp_terms.specs.Disk.{DiskState, IsKnown, DoesAttach}
 use Rattle.pp_terms.specs.Stream.{SourceState, SinkState}
 use Rattle.pp_terms.proofs.Knowing.{known_on}
 use Rattle.pp_node.specs.declared.status.Status.{Status}
-use Rattle.pp_node.specs.declared.status.Status.TheVariants.{Done, Usage, DiskFault, SourceFault, SinkFault, NotEmpty, ContentSize}
+use Rattle.pp_node.specs.declared.status.Status.TheVariants.{Done, Usage, NotAStore, Incomplete, DiskFault, SourceFault, SinkFault, NotEmpty, ContentSize, Memory, Damaged}
 use Rattle.pp_node.specs.Run.{IsStored, EndsIn, IsImportRun}
 
 module _ {E : Type 0} (chunk : ℕ) (source source' : SourceState) (sink sink' : SinkState) (old mid new : DiskState) (attached : DoesAttach {E = E} old (Ok tt) mid) where
@@ -16,7 +16,6 @@ module _ {E : Type 0} (chunk : ℕ) (source source' : SourceState) (sink sink' :
 
   pub ends_since : (status : Status) → EndsIn status chunk source source' sink sink' mid new → EndsIn status chunk source source' sink sink' old new
   ends_since Done e = record { import = stored_since e.import; printed = e.printed }
-  ends_since Usage e = e
   ends_since DiskFault e = record {
     risen = λ below. let r : mid.faults < new.faults = e.risen below in omega (arith, attached.call.cause.later, r);
     hard = λ below. let r : mid.hard < new.hard = e.hard below in omega (arith, attached.hard_cause.later, r);
@@ -33,6 +32,11 @@ module _ {E : Type 0} (chunk : ℕ) (source source' : SourceState) (sink sink' :
     said = e.said;
   }
   ends_since ContentSize e = record { count = e.count; either = e.either; counted = e.counted; no_store = λ known. e.no_store (known_mid known); said = e.said }
+  ends_since Usage e = e
+  ends_since NotAStore e = e
+  ends_since Incomplete e = e
+  ends_since Memory e = e
+  ends_since Damaged e = e
 
   pub run_since : (status : Status) → IsImportRun status chunk source source' mid new → IsImportRun status chunk source source' old new
   run_since status r = record {

@@ -3,3 +3,4 @@ pub mod Lines
 pub mod Runs
 pub mod Attached
 pub mod Turns
+pub mod Looks

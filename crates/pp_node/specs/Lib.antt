@@ -3,3 +3,4 @@ pub mod Status
 pub mod Built
 pub mod Run
 pub mod Turning
+pub mod Looking

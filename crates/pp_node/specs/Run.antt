@@ -14,7 +14,7 @@ use Rattle.pp_store.specs.declared.importing.ImportFault.TheVariants as fault
 use Rattle.pp_node.specs.Text.{Says}
 use Rattle.pp_node.specs.Status.{number_of}
 use Rattle.pp_node.specs.declared.status.Status.{Status}
-use Rattle.pp_node.specs.declared.status.Status.TheVariants.{Done, Usage, DiskFault, SourceFault, SinkFault, NotEmpty, ContentSize}
+use Rattle.pp_node.specs.declared.status.Status.TheVariants.{Done, DiskFault, SourceFault, SinkFault, NotEmpty, ContentSize}
 
 -- The bytes that the source gave are a content, and each image that a crash may leave is their whole store.
 pub record IsStored (chunk : ℕ) (source : SourceState) (disk disk' : DiskState) : Type 0 where
@@ -72,12 +72,12 @@ Reports fault.Disk status old new = (status ≡ DiskFault) × Says disk_fault_li
 -- When each status comes, and what was said.
 abbrev pub EndsIn : Status → ℕ → SourceState → SourceState → SinkState → SinkState → DiskState → DiskState → Type 0
 EndsIn Done chunk source source' sink sink' disk disk' = IsDone chunk source sink sink' disk disk'
-EndsIn Usage chunk source source' sink sink' disk disk' = ⊥
 EndsIn DiskFault chunk source source' sink sink' disk disk' = IsDiskFault sink sink' disk disk'
 EndsIn SourceFault chunk source source' sink sink' disk disk' = IsSourceFault source source' sink sink' disk disk'
 EndsIn SinkFault chunk source source' sink sink' disk disk' = IsSinkFault chunk source sink sink' disk disk'
 EndsIn NotEmpty chunk source source' sink sink' disk disk' = IsNotEmpty source source' sink sink' disk disk'
 EndsIn ContentSize chunk source source' sink sink' disk disk' = IsNoContent chunk source sink sink' disk disk'
+EndsIn _ chunk source source' sink sink' disk disk' = ⊥
 
 -- The disk was attached last, and nothing was done on it since.
 pub record IsFreshlyAttached (h : History) : Type 0 where

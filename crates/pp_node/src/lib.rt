@@ -3,6 +3,7 @@
 
 mod built;
 mod importing;
+mod looking;
 mod printing;
 mod refusing;
 mod status;

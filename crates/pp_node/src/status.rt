@@ -8,6 +8,10 @@ pub enum Status {
     Done = 0,
     /// The words are no command.
     Usage = 1,
+    /// The file is no store of the descriptor's.
+    NotAStore = 2,
+    /// Some chunk isn't held.
+    Incomplete = 3,
     /// The disk refused a call.
     DiskFault = 4,
     /// The source refused a read.
@@ -18,6 +22,10 @@ pub enum Status {
     NotEmpty = 8,
     /// The content is none of a swarm.
     ContentSize = 9,
+    /// There was no memory.
+    Memory = 11,
+    /// A chunk was read back with another digest than the book's.
+    Damaged = 12,
 }
 
 impl Status {

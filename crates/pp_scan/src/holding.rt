@@ -90,7 +90,10 @@ fn is_held<D: Disk>(
     ensures held { IsKnown (D.state disk.old)
         → IfOk result (λ held. held ≡ is_there descriptor.now (D.state disk.old).history.reads (entry book.now) i) }
 {
-    let Some(digest) = book.get(Node { layer: 0, offset: i }) else {
+    let Some(digest) = book.get(Node {
+        layer: 0,
+        offset: i,
+    }) else {
         return Ok(false);
     };
     let size = descriptor.chunk_len(i) as usize;

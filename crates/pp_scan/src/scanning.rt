@@ -195,6 +195,5 @@ fn scan_chunks<D: Disk>(
     }
 }
 
-
 #[cfg(test)]
 mod tests;

@@ -12,9 +12,9 @@ mod leaves;
 mod probing;
 mod reading;
 
+pub use findings::{Probe, ProbeFault};
 pub use importing::{ImportFault, import};
 pub use keeping::Store;
 pub use laws::laws_of_stores;
-pub use findings::{Probe, ProbeFault};
 pub use probing::probe;
 pub use reading::{ReadFault, read_chunk};

@@ -49,7 +49,12 @@ pub fn read_chunk<D: Disk>(
     ensures looks { KeepsAll (D.state disk.old) (D.state disk.new) }
     ensures hard { (D.state disk.new).hard ≡ (D.state disk.old).hard }
 {
-    let kept = book.get(Node { layer: 0, offset: i }).unwrap();
+    let kept = book
+        .get(Node {
+            layer: 0,
+            offset: i,
+        })
+        .unwrap();
     let size = descriptor.chunk_len(i) as usize;
     let bytes = &mut out[..size];
     match disk.read_at(slot_place(descriptor.chunk(), i), bytes) {

@@ -23,14 +23,18 @@ fn what_was_imported_is_read_back(rt: HostRuntime) -> Result<(), Fail> {
     let mut book = Book::empty(alloc);
     book.prepare(alloc, &descriptor)?;
     let store = Store::open(alloc, &descriptor, &mut disk, &mut book)?;
-    assert_eq!(rt; (store.committed().count(), store.pending(), store.is_live()), (7, 0, true));
+    assert_eq!(rt;
+        (store.committed().count(), store.pending(), store.is_live()),
+        (7, 0, true)
+    );
     Ok(())
 }
 
 #[test]
 fn a_fresh_store_gets_its_header(rt: HostRuntime) -> Result<(), Fail> {
     let alloc = rt.alloc();
-    let Ok(descriptor) = Descriptor::new(Digest::new([9; 32]), 256, 257, pp_tree::Method::Range32) else {
+    let Ok(descriptor) = Descriptor::new(Digest::new([9; 32]), 256, 257, pp_tree::Method::Range32)
+    else {
         return Err("no descriptor".into());
     };
     let mut disk = MemoryDisk::new(alloc, &[])?;
@@ -41,6 +45,9 @@ fn a_fresh_store_gets_its_header(rt: HostRuntime) -> Result<(), Fail> {
     let mut out = [0; 256];
     assert_eq!(rt; store.committed().count(), 0);
     assert_eq!(rt; store.committed().contains(1), false);
-    assert_eq!(rt; store.read(1, &mut out, &book, &mut disk), Err(ReadFault::Absent));
+    assert_eq!(rt;
+        store.read(1, &mut out, &book, &mut disk),
+        Err(ReadFault::Absent)
+    );
     Ok(())
 }

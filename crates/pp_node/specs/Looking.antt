@@ -1,0 +1,45 @@
+-- What a command finds that attaches a store and scans it. `found` of the disk's history is what reads gave when the store
+-- was attached.
+use Rattle.std.specs.Prelude.{◌≡◌, ◌⊎◌, ℕ, ◌<◌, ◌≤◌, Bool, false, true, Ok, Err, List, [], length, slice_index_or, Result, is_some}
+use Rattle.pp_terms.specs.Count.{HasRisen}
+use Rattle.pp_terms.specs.Book.{LookUp}
+use Rattle.pp_terms.specs.Descriptor.{Descriptor, chunks_of}
+use Rattle.pp_terms.specs.Store.{header}
+use Rattle.pp_terms.specs.Image.{holds}
+use Rattle.pp_terms.specs.Disk.{DiskState, IsKnown}
+use Rattle.pp_scan.specs.declared.scanning.ScanFault.{ScanFault}
+use Rattle.pp_scan.specs.declared.scanning.ScanFault.TheVariants.{NotAStore, Disk, Memory}
+use Rattle.pp_scan.specs.Header.{HasHeader, IsDifference}
+use Rattle.pp_scan.specs.Holding.{is_there}
+
+-- The file is empty or begins with the descriptor's header, zeros past its end.
+abbrev pub IsOf : Descriptor → List ℕ → Type 0
+IsOf d found = (found ≡ []) ⊎ HasHeader d found
+
+-- The chunks that are held, and whose leaves are in the book.
+pub record IsFound (d : Descriptor) (disk disk' : DiskState) (book : LookUp) (set : List Bool) : Type 0 where
+  pub count : length set ≡ chunks_of d
+  pub leaf : (i : ℕ) → slice_index_or set i false ≡ true → is_some (book 0 i) ≡ true
+  pub held : IsKnown disk → (i : ℕ) → i < chunks_of d → slice_index_or set i false ≡ holds d disk'.history.found i
+  pub there : IsKnown disk → (i : ℕ) → slice_index_or set i false ≡ true → is_there d disk'.history.reads book i ≡ true
+  pub begins : IsKnown disk → IsOf d disk'.history.found
+
+-- The file isn't empty, and this is its first byte that differs from the header.
+pub record IsOther (d : Descriptor) (at found want : ℕ) (disk disk' : DiskState) : Type 0 where
+  pub within : at < 64
+  pub differ : found ≡ want → ⊥
+  pub some : IsKnown disk → 0 < length disk'.history.found
+  pub first : IsKnown disk → IsDifference disk'.history.found (header d) at found want
+
+abbrev pub HasLooked : Descriptor → DiskState → DiskState → LookUp → Result (List Bool) ScanFault → Type 0
+HasLooked d disk disk' book (Ok set) = IsFound d disk disk' book set
+HasLooked d disk disk' book (Err (NotAStore at found want)) = IsOther d at found want disk disk'
+HasLooked d disk disk' book (Err Disk) = HasRisen disk.faults disk'.faults
+HasLooked d disk disk' book (Err Memory) = IsKnown disk → IsOf d disk'.history.found
+
+-- Nothing was written: what reads give is what they gave when the store was attached.
+pub record IsUnwritten (disk disk' : DiskState) : Type 0 where
+  pub tells : disk'.tells ≡ disk.tells
+  pub honest : disk'.honest ≡ disk.honest
+  pub same : IsKnown disk → disk'.history.reads ≡ disk'.history.found
+  pub faults : disk.faults ≤ disk'.faults
