@@ -4,3 +4,4 @@ pub mod Runs
 pub mod Attached
 pub mod Turns
 pub mod Looks
+pub mod Readies

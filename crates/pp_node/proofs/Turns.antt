@@ -53,7 +53,7 @@ waits_took seen mid s taken event buffer whole fits gained is =
 risen_more : (a b c : ℕ) → b ≤ c → HasRisen a b → HasRisen a c
 risen_more a b c le risen below = let lt = risen (omega (arith, le, below)) in omega (arith, lt, le)
 
-risen_less : (a b c : ℕ) → a ≤ b → HasRisen b c → HasRisen a c
+pub risen_less : (a b c : ℕ) → a ≤ b → HasRisen b c → HasRisen a c
 risen_less a b c le risen below = let lt = risen below in omega (arith, lt, le)
 
 -- ---- ends of turns

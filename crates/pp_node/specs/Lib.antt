@@ -3,4 +3,5 @@ pub mod Status
 pub mod Built
 pub mod Run
 pub mod Turning
+pub mod Preparing
 pub mod Looking

@@ -4,6 +4,7 @@
 mod built;
 mod importing;
 mod looking;
+mod preparing;
 mod printing;
 mod refusing;
 mod status;
