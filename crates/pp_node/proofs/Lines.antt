@@ -51,3 +51,8 @@ usage_said u old mid new (Err e) first second = tt
 
 pub reports : (fault other : ImportFault) (status : Status) (old new : SinkState) → fault ≡ other → Reports other status old new → Reports fault status old new
 reports fault other status old new is reported = subst (λ (f : ImportFault). Reports f status old new) (sym is) reported
+
+-- a text said in two parts
+pub said_more : {T E : Type 0} (old mid new : Option (List ℕ)) (a b : List ℕ) (result : Result T E) → Gains old a mid → OnOk result (Gains mid b new) → OnOk result (Gains old (a ++ b) new)
+said_more old mid new a b (Ok x) first second = gains_more old mid new a b first second
+said_more old mid new a b (Err e) first second = tt

@@ -4,4 +4,5 @@ pub mod Built
 pub mod Run
 pub mod Turning
 pub mod Preparing
+pub mod Counting
 pub mod Looking

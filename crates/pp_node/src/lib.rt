@@ -2,6 +2,7 @@
 #![tactic(auto)]
 
 mod built;
+mod counting;
 mod importing;
 mod looking;
 mod preparing;
