@@ -5,3 +5,6 @@ mod agreeing;
 
 pub use agreeing::{Mismatch, check};
 
+
+#[cfg(test)]
+mod tests;
