@@ -37,21 +37,104 @@ fn names_the_first_that_differs(rt: HostRuntime) -> Result<(), Fail> {
     for (options, reply, want) in [
         (right, false, Ok(())),
         (turned, false, Ok(())),
-        (Options { swarm: right.swarm, ..none }, false, Ok(())),
-        (Options { version: Some(2), ..right }, false, Ok(())),
-        (Options { version: Some(0), ..right }, false, Err(Mismatch::Version(0))),
-        (Options { minimum: Some(2), ..right }, false, Err(Mismatch::Minimum(2))),
+        (
+            Options {
+                swarm: right.swarm,
+                ..none
+            },
+            false,
+            Ok(()),
+        ),
+        (
+            Options {
+                version: Some(2),
+                ..right
+            },
+            false,
+            Ok(()),
+        ),
+        (
+            Options {
+                version: Some(0),
+                ..right
+            },
+            false,
+            Err(Mismatch::Version(0)),
+        ),
+        (
+            Options {
+                minimum: Some(2),
+                ..right
+            },
+            false,
+            Err(Mismatch::Minimum(2)),
+        ),
         (none, true, Ok(())),
         (none, false, Err(Mismatch::Swarm)),
-        (Options { swarm: Some(&BYTES[..32]), ..right }, true, Err(Mismatch::Swarm)),
-        (Options { integrity: Some(2), ..right }, false, Err(Mismatch::Integrity(2))),
-        (Options { hash: Some(0), ..right }, false, Err(Mismatch::Hash(0))),
-        (Options { addressing: Some(3), ..right }, false, Err(Mismatch::Addressing(3))),
-        (Options { chunk: Some(512), ..right }, false, Err(Mismatch::Chunk(512))),
-        (Options { version: Some(0), hash: Some(0), ..right }, false, Err(Mismatch::Version(0))),
-        (Options { addressing: Some(3), chunk: Some(512), ..right }, false, Err(Mismatch::Addressing(3))),
+        (
+            Options {
+                swarm: Some(&BYTES[..32]),
+                ..right
+            },
+            true,
+            Err(Mismatch::Swarm),
+        ),
+        (
+            Options {
+                integrity: Some(2),
+                ..right
+            },
+            false,
+            Err(Mismatch::Integrity(2)),
+        ),
+        (
+            Options {
+                hash: Some(0),
+                ..right
+            },
+            false,
+            Err(Mismatch::Hash(0)),
+        ),
+        (
+            Options {
+                addressing: Some(3),
+                ..right
+            },
+            false,
+            Err(Mismatch::Addressing(3)),
+        ),
+        (
+            Options {
+                chunk: Some(512),
+                ..right
+            },
+            false,
+            Err(Mismatch::Chunk(512)),
+        ),
+        (
+            Options {
+                version: Some(0),
+                hash: Some(0),
+                ..right
+            },
+            false,
+            Err(Mismatch::Version(0)),
+        ),
+        (
+            Options {
+                addressing: Some(3),
+                chunk: Some(512),
+                ..right
+            },
+            false,
+            Err(Mismatch::Addressing(3)),
+        ),
     ] {
-        assert_eq!(rt; check(&options, &swarm, reply), want, "{options:?}, a reply: {reply}");
+        assert_eq!(rt;
+            check(&options, &swarm, reply),
+            want,
+            "{options:?}, a reply: {reply}"
+        );
     }
     Ok(())
 }
