@@ -3,3 +3,5 @@ pub mod Lines
 pub mod Runs
 pub mod Attached
 pub mod Looks
+pub mod Spans
+pub mod Checks

@@ -2,9 +2,11 @@
 #![tactic(auto)]
 
 mod built;
+mod checking;
 mod importing;
 mod looking;
 mod printing;
+mod ranges;
 mod refusing;
 mod status;
 mod top;
