@@ -5,3 +5,5 @@ mod agreeing;
 
 pub use agreeing::{Mismatch, check};
 
+#[cfg(test)]
+mod tests;

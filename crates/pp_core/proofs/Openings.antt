@@ -101,8 +101,10 @@ new_seat d whole chunks at sender word source o ms fault bytes past new k is fit
     positive : (n : ℕ) → (n ≡ 0 → ⊥) → 0 < n
     positive zero none = absurd (none refl)
     positive (suc n) none = omega arith
+
     none_new : (test : Record → Bool) (place : ℕ) (x : Record) (xs : List Record) → length xs ≤ place → test x ≡ false → some_since test place (x ∷ xs) ≡ false
     none_new test place x xs le none = or_from (leb place (length xs) && test x) (some_since test place xs) (and_right (leb place (length xs)) (test x) none) (none_from_end test place xs le)
+
     zero_apart : (local : ℕ) (from : ℕ) (options : Options) (rest : List Message) (cut : Option (ℕ × WireKind)) (text : List ℕ)
         → datagram d.method d.chunk text ≡ record { channel = Some 0; messages = record { read = Handshake from options ∷ rest; fault = cut } }
         → comes_on d (NewLife sender (number_from word) source past) (Received at (address_of sender) text) ≡ false

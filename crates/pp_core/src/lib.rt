@@ -14,3 +14,6 @@ mod writing;
 pub use counts::Counts;
 pub use opening::OpenFault;
 pub use peer::Peer;
+
+#[cfg(test)]
+mod tests;

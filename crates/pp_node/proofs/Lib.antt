@@ -5,3 +5,5 @@ pub mod Attached
 pub mod Turns
 pub mod Looks
 pub mod Readies
+pub mod Spans
+pub mod Checks

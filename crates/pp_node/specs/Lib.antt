@@ -6,3 +6,5 @@ pub mod Turning
 pub mod Preparing
 pub mod Counting
 pub mod Looking
+pub mod Held
+pub mod Checking

@@ -3,10 +3,12 @@
 
 mod built;
 mod counting;
+mod checking;
 mod importing;
 mod looking;
 mod preparing;
 mod printing;
+mod ranges;
 mod refusing;
 mod status;
 mod top;

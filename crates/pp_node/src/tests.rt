@@ -106,6 +106,63 @@ fn measures_the_greatest_content(rt: HostRuntime) -> Result<(), Fail> {
     Ok(())
 }
 
+const DESCRIPTOR_OF_ABC: &str =
+    "ppspp1:ba7816bf8f01cfea414140de5dae2223b00361a396177a9cb410ff61f20015ad:1024:3:2";
+
+fn check_of(alloc: Global, descriptor: &str, image: &[u8]) -> Result<Ran, AllocError> {
+    import_over(
+        alloc,
+        &["check", "s", descriptor],
+        MemoryDisk::new(alloc, image)?,
+        MemorySink::new(alloc),
+        &mut MemorySource::new(&[]),
+    )
+}
+
+#[test]
+fn says_what_a_store_holds(rt: HostRuntime) -> Result<(), Fail> {
+    let alloc = rt.alloc();
+    let ran = check_of(alloc, DESCRIPTOR_OF_ABC, &STORE_OF_ABC)?;
+    assert_eq!(rt; ran.status, 0);
+    assert_eq!(rt; ran.sink.bytes(), b"held 1 of 1 0-0\n".as_slice());
+    assert_eq!(rt; ran.disk.bytes(), STORE_OF_ABC.as_slice());
+    let ran = check_of(alloc, DESCRIPTOR_OF_ABC, &[])?;
+    assert_eq!(rt; ran.status, 0);
+    assert_eq!(rt; ran.sink.bytes(), b"held 0 of 1 none\n".as_slice());
+    assert_eq!(rt; ran.disk.bytes().len(), 0);
+    Ok(())
+}
+
+// Two chunks of seven are torn.
+#[test]
+fn says_the_ranges_that_are_held(rt: HostRuntime) -> Result<(), Fail> {
+    let alloc = rt.alloc();
+    let stored = import_of(alloc, &[7; 7000], MemoryDisk::new(alloc, &[])?)?;
+    let mut image = [0; 7680];
+    for (byte, was) in image.iter_mut().zip(stored.disk.bytes()) {
+        *byte = *was;
+    }
+    image[2240] = 8;
+    image[5504] = 8;
+    let descriptor =
+        "ppspp1:ef7be05f2b9aa01d2c5cd485d52043ff5ff814525fb3f33dbf8da4b03d81befe:1024:7000:2";
+    let ran = check_of(alloc, descriptor, &image)?;
+    assert_eq!(rt; ran.status, 0);
+    assert_eq!(rt; ran.sink.bytes(), b"held 5 of 7 0-1,3-4,6-6\n".as_slice());
+    Ok(())
+}
+
+#[test]
+fn names_the_first_byte_of_another_file(rt: HostRuntime) -> Result<(), Fail> {
+    let alloc = rt.alloc();
+    let mut image = STORE_OF_ABC;
+    image[11] = 1;
+    let ran = check_of(alloc, DESCRIPTOR_OF_ABC, &image)?;
+    assert_eq!(rt; ran.status, 2);
+    assert_eq!(rt; ran.sink.bytes(), b"not a store: byte 11 is 1, wanted 0\n".as_slice());
+    Ok(())
+}
+
 #[test]
 fn refuses_a_disk_that_is_not_empty(rt: HostRuntime) -> Result<(), Fail> {
     let alloc = rt.alloc();

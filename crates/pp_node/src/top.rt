@@ -1,16 +1,19 @@
 // The top call.
-ghost use Rattle.std.specs.Prelude.{◌≡◌, ◌↔◌, ℕ, List};
+ghost use Rattle.std.specs.Prelude.{◌≡◌, ◌↔◌, ℕ, List, codes};
 ghost use Rattle.pp_terms.specs.Commands as terms;
-ghost use Rattle.pp_terms.specs.CommandLine.{Spells, IsImport, IsOneOf, IsFirstWrong};
+ghost use Rattle.pp_terms.specs.CommandLine.{Spells, IsImport, IsOnStore, IsOneOf, IsFirstWrong};
+ghost use Rattle.pp_terms.specs.Descriptor.{Descriptor};
 ghost use Rattle.pp_terms.specs.Usage as wrong;
 ghost use Rattle.pp_terms.specs.Usage.{usage_line};
-ghost use Rattle.pp_tree.specs.Book.{empty_book};
+ghost use Rattle.pp_tree.specs.Book.{entry, empty_book};
 ghost use Rattle.pp_words.specs.Views.{texts};
 ghost use Rattle.pp_node.specs.Built.{built};
 ghost use Rattle.pp_node.specs.Text.{Says};
 ghost use Rattle.pp_node.specs.Run.{ImportEnds};
+ghost use Rattle.pp_node.specs.Checking.{CheckEnds};
 
 use crate::built::read_built;
+use crate::checking::check;
 use crate::importing::import;
 use crate::refusing::refuse;
 use pp_outside::{Disk, Link, Sink, Source};
@@ -19,11 +22,11 @@ use pp_words::Command;
 use std::alloc::Global;
 
 /// Does what the words of a command line say, without the program's name, and answers the exit status: 0 done, 1 for
-/// words that are no command, 4 where the disk refused a call, 6 where the source refused a read, 7 where the sink
-/// refused a write, 8 for a store that isn't empty, 9 for a content of no swarm. The book is empty at entry, and `seed`
-/// are 32 bytes that nobody can guess.
+/// words that are no command, 2 for a file that is no store of the descriptor, 4 where the disk refused a call, 6 where
+/// the source refused a read, 7 where the sink refused a write, 8 for a store that isn't empty, 9 for a content of no
+/// swarm, 11 where memory ran out. The book is empty at entry, and `seed` are 32 bytes that nobody can guess.
 pub fn run<D: Disk, L: Link, S: Source, K: Sink>(
-    _alloc: Global,
+    alloc: Global,
     words: &[String],
     _seed: [u8; 32],
     disk: &mut D,
@@ -47,15 +50,25 @@ pub fn run<D: Disk, L: Link, S: Source, K: Sink>(
         → ImportEnds result chunk (S.state source.old) (S.state source.new) (K.state sink.old) (K.state sink.new)
         (D.state disk.old) (D.state disk.new) }
 
+    ensures check { (store : List ℕ) (descriptor : Descriptor) → IsOnStore (codes "check") (texts words.now) store descriptor
+        → CheckEnds result descriptor (S.state source.old) (S.state source.new) (K.state sink.old) (K.state sink.new)
+        (D.state disk.old) (D.state disk.new) (entry book.old) (entry book.new) }
+
     ensures link { L.seen link.new ≡ L.seen link.old }
-    ensures book { book.new ≡ book.old }
+    ensures book { ((store : List ℕ) (descriptor : Descriptor) → IsOnStore (codes "check") (texts words.now) store descriptor → ⊥)
+        → book.new ≡ book.old }
 {
     match read_built(words) {
         Ok(Command::Import { store, chunk }) => import(store, chunk, disk, source, sink).number(),
+        Ok(Command::Check {
+            store,
+            ref descriptor,
+        }) => {
+            check(alloc, store, descriptor, disk, sink, book).number()
+        }
         // These are not built, so they are never answered.
         Ok(Command::Seed { .. }) => unreachable!(),
         Ok(Command::Fetch { .. }) => unreachable!(),
-        Ok(Command::Check { .. }) => unreachable!(),
         Ok(Command::Export { .. }) => unreachable!(),
         Ok(Command::Replay) => unreachable!(),
         Ok(Command::Rehearse { .. }) => unreachable!(),
