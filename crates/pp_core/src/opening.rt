@@ -95,6 +95,7 @@ impl Peer {
         // It stands for no traffic yet.
         ensures stands { IfOk result (λ p. StandsFor (entry book.new) (moment_of (D.state disk.new).history) p []) }
         ensures begun { IfOk result (λ p. HasBegun descriptor.now seed p) }
+        ensures size { IfOk result (λ p. length p.committed ≡ chunks_of descriptor.now) }
         ensures found { HasOpened descriptor.now (D.state disk.old) (D.state disk.new) result }
         ensures opened { IsKnown (D.state disk.old)
             → OnOk result (IsOpened descriptor.now (D.state disk.old).history (D.state disk.new).history) }

@@ -4,7 +4,7 @@ use Rattle.pp_terms.specs.Disk.{DiskState, IsKnown, DoesAttach}
 use Rattle.pp_terms.specs.Stream.{SourceState, SinkState}
 use Rattle.pp_terms.proofs.Knowing.{known_on}
 use Rattle.pp_node.specs.declared.status.Status.{Status}
-use Rattle.pp_node.specs.declared.status.Status.TheVariants.{Done, Usage, NotAStore, Incomplete, DiskFault, SourceFault, SinkFault, NotEmpty, ContentSize, Memory, Damaged}
+use Rattle.pp_node.specs.declared.status.Status.TheVariants.{Done, Usage, NotAStore, Incomplete, DiskFault, LinkFault, SourceFault, SinkFault, NotEmpty, ContentSize, Memory, Damaged}
 use Rattle.pp_node.specs.Run.{IsStored, EndsIn, IsImportRun}
 
 module _ {E : Type 0} (chunk : ℕ) (source source' : SourceState) (sink sink' : SinkState) (old mid new : DiskState) (attached : DoesAttach {E = E} old (Ok tt) mid) where
@@ -34,6 +34,7 @@ module _ {E : Type 0} (chunk : ℕ) (source source' : SourceState) (sink sink' :
   ends_since ContentSize e = record { count = e.count; either = e.either; counted = e.counted; no_store = λ known. e.no_store (known_mid known); said = e.said }
   ends_since Usage e = e
   ends_since NotAStore e = e
+  ends_since LinkFault e = e
   ends_since Incomplete e = e
   ends_since Memory e = e
   ends_since Damaged e = e

@@ -7,3 +7,4 @@ pub mod Looks
 pub mod Readies
 pub mod Spans
 pub mod Checks
+pub mod Seeds

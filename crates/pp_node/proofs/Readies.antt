@@ -21,6 +21,7 @@ module _ (d : Descriptor) (random : List ℕ) (old mid new : DiskState) (seen se
   ready_since : (s : State) (room : ℕ) → IsReady d random mid new book s room → IsReady d random old new book s room
   ready_since s room r = record {
     begun = r.begun;
+    size = r.size;
     stands = r.stands;
     kept = λ known. r.kept (known_mid known);
     begins = λ known. r.begins (known_mid known);

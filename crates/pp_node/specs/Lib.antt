@@ -8,3 +8,4 @@ pub mod Counting
 pub mod Looking
 pub mod Held
 pub mod Checking
+pub mod Seeding

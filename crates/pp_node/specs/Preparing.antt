@@ -2,7 +2,7 @@
 use Rattle.std.specs.Prelude.{◌≡◌, ◌⊎◌, ℕ, ◌≤◌, List, [], length, Result, Ok, Err}
 use Rattle.pp_terms.specs.Book.{LookUp}
 use Rattle.pp_terms.specs.Count.{HasRisen}
-use Rattle.pp_terms.specs.Descriptor.{Descriptor}
+use Rattle.pp_terms.specs.Descriptor.{Descriptor, chunks_of}
 use Rattle.pp_terms.specs.Disk.{DiskState, IsKnown, moment_of}
 use Rattle.pp_terms.specs.Traffic.{LinkState}
 use Rattle.pp_store.specs.Store.{AllStand}
@@ -36,6 +36,7 @@ pub record IsUnsent (seen seen' : LinkState) : Type 0 where
 -- each chunk that it has stands in every image from now on.
 pub record IsReady (d : Descriptor) (random : List ℕ) (disk disk' : DiskState) (book : LookUp) (s : State) (room : ℕ) : Type 0 where
   pub begun : HasBegun d random s
+  pub size : length s.committed ≡ chunks_of d
   pub stands : StandsFor book (moment_of disk'.history) s []
   pub kept : IsKnown disk → AllStand d s.committed disk'.history
   pub begins : IsKnown disk → IsOf d disk'.history.found

@@ -1,7 +1,7 @@
 -- The numbers of the statuses.
 use Rattle.std.specs.Prelude.{ℕ}
 use Rattle.pp_node.specs.declared.status.Status.{Status}
-use Rattle.pp_node.specs.declared.status.Status.TheVariants.{Done, Usage, NotAStore, Incomplete, DiskFault, SourceFault, SinkFault, NotEmpty, ContentSize, Memory, Damaged}
+use Rattle.pp_node.specs.declared.status.Status.TheVariants.{Done, Usage, NotAStore, Incomplete, DiskFault, LinkFault, SourceFault, SinkFault, NotEmpty, ContentSize, Memory, Damaged}
 
 abbrev pub number_of : Status → ℕ
 number_of Done = 0
@@ -9,6 +9,7 @@ number_of Usage = 1
 number_of NotAStore = 2
 number_of Incomplete = 3
 number_of DiskFault = 4
+number_of LinkFault = 5
 number_of SourceFault = 6
 number_of SinkFault = 7
 number_of NotEmpty = 8

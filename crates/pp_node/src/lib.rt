@@ -10,6 +10,7 @@ mod preparing;
 mod printing;
 mod ranges;
 mod refusing;
+mod seeding;
 mod status;
 mod top;
 mod turning;

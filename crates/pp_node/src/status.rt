@@ -14,6 +14,8 @@ pub enum Status {
     Incomplete = 3,
     /// The disk refused a call.
     DiskFault = 4,
+    /// The link refused to listen.
+    LinkFault = 5,
     /// The source refused a read.
     SourceFault = 6,
     /// The sink refused a write.
