@@ -1,13 +1,13 @@
 -- The ranges of a set's numbers.
-use Rattle.std.proofs.Common.{◌≡◌, ◌⊎◌, inl, inr, ⊎_elim, ℕ, ◌+◌, ◌-◌, ◌<◌, ◌≤◌, nat_le, Bool, true, false, ◌&&◌, ◌||◌, List, [], ◌∷◌, ◌++◌, length, get_or, codes, decimal, refl, sym, ◌∙◌, ap, subst, arith, append_assoc}
-use Rattle.std.proofs.lemmas.Bool.{cases_lt, cases_Bool, false≢true}
+use Rattle.std.proofs.Common.{◌≡◌, ⊎_elim, ℕ, ◌+◌, ◌-◌, ◌<◌, ◌≤◌, Bool, true, false, ◌||◌, List, [], ◌∷◌, ◌++◌, length, get_or, codes, decimal, refl, sym, ◌∙◌, ap, subst, arith, append_assoc}
+use Rattle.std.proofs.lemmas.Bool.{cases_lt, false≢true}
 use Rattle.std.proofs.lemmas.Bool.Decides.{nat_tests}
 use mathlib.Core.Bool.{beq}
 use Rattle.std.specs.Prelude.{Result, Ok, Err, OnOk}
 use Rattle.std.proofs.lemmas.List.{get_or_past, append-nil}
 use Rattle.pp_terms.specs.Range.{Span, within, has, IsRunsFrom}
 use Rattle.pp_terms.specs.Stream.{SinkState, Gains}
-use Rattle.pp_node.specs.Held.{span_text, more_text, ranges_text, AreRanges, HasRanges, HasMore}
+use Rattle.pp_node.specs.Held.{span_text, more_text, HasRanges, HasMore}
 use Rattle.pp_node.proofs.Written.{gains-nil, gains_more}
 
 -- no range reaches the number before

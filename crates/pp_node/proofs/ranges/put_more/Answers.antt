@@ -1,4 +1,4 @@
-use Rattle.std.proofs.Common.{◌<◌, ◌≤◌, length, arith, refl}
+use Rattle.std.proofs.Common.{◌<◌, arith, refl}
 use Rattle.pp_node.proofs.Lines.{cause_later}
 use Rattle.pp_node.proofs.Spans.{put_none, put_one, put_all_of, beyond}
 use Rattle.pp_node.proofs.ranges.put_more.Goals as goal
