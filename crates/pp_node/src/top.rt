@@ -60,12 +60,12 @@ pub fn run<D: Disk, L: Link, S: Source, K: Sink>(
 {
     match read_built(words) {
         Ok(Command::Import { store, chunk }) => import(store, chunk, disk, source, sink).number(),
-        Ok(Command::Check {
-            store,
-            ref descriptor,
-        }) => {
-            check(alloc, store, descriptor, disk, sink, book).number()
-        }
+        Ok(
+            Command::Check {
+                store,
+                ref descriptor,
+            },
+        ) => { check(alloc, store, descriptor, disk, sink, book).number() }
         // These are not built, so they are never answered.
         Ok(Command::Seed { .. }) => unreachable!(),
         Ok(Command::Fetch { .. }) => unreachable!(),
