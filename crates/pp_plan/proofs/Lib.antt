@@ -1,0 +1,6 @@
+pub mod Least
+pub mod PeakTests
+pub mod Places
+pub mod Plans
+pub mod Stories
+pub mod Telling
