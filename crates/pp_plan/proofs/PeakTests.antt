@@ -1,11 +1,12 @@
 -- Peaks by arithmetic, and on the way up.
 use Rattle.std.proofs.Common.{◌≡◌, ◌⊎◌, inl, inr, ⊎_elim, ℕ, zero, suc, ◌+◌, ◌-◌, ◌*◌, ◌/◌, ◌%◌, ◌^◌, ◌<◌, ◌≤◌, eqb, ◌==◌, nat_lt, Bool, true, false, cond, ◌&&◌, ◌||◌, List, [], ◌∷◌, refl, sym, ◌∙◌, ap, subst, arith, add-one, pow-suc}
-use Rattle.std.proofs.lemmas.Bool.{and_parts, and_from, or_cases, or_left, or_right, or_from, cases_Bool, cases_eq, cases_lt, both_ways, eq-eqb, eqb-true, cond-true, cond-false}
+use Rattle.std.proofs.lemmas.Bool.{and_parts, and_from, or_cases, or_left, or_right, or_from, cases_Bool, cases_eq, cases_lt, both_ways, eq-eqb, eqb-true, cond-true, cond-false, false_from_ne_true}
 use Rattle.std.specs.List.{list_any}
 use Rattle.pp_terms.specs.Tree.{Node, height, peaks, peaks_below, above, IsHeight}
 use Rattle.pp_terms.specs.Bins.{parent_of}
 use Rattle.pp_terms.proofs.Heights.{height_is}
 use Rattle.pp_traffic.specs.Hashes.{same_node, is_peak}
+use Rattle.pp_tree.proofs.Halving.{above_is}
 
 pub same_is : (n : Node) → same_node n n ≡ true
 same_is n = and_from (eqb n.layer n.layer) (eqb n.offset n.offset) (eq-eqb n.layer n.layer refl) (eq-eqb n.offset n.offset refl)
@@ -88,3 +89,15 @@ pub peak_from : (chunks : ℕ) (n : Node) → n.layer < 21 → n.offset % 2 ≡ 
 peak_from chunks n low even last =
     subst (λ (o : ℕ). is_peak chunks (record { layer = n.layer; offset = o }) ≡ true) (omega (arith, last))
     (peak_in 21 chunks n.layer low (omega (arith, even, last)))
+
+-- the tests of a node, one by one
+pub too_high : (chunks : ℕ) (n : Node) → 21 ≤ n.layer → false ≡ is_peak chunks n
+too_high chunks n high = sym (false_from_ne_true (is_peak chunks n) (λ e. let at = peak_found chunks n e in omega (arith, at.0)))
+
+pub right_child : (chunks : ℕ) (n : Node) → n.offset % 2 ≡ 1 → false ≡ is_peak chunks n
+right_child chunks n odd = sym (false_from_ne_true (is_peak chunks n) (λ e. let at = peak_found chunks n e in omega (arith, at.1)))
+
+pub last_full : (chunks : ℕ) (n : Node) → n.layer < 21 → (n.offset % 2 ≡ 1 → ⊥) → eqb (chunks / 2 ^ n.layer) (n.offset + 1) ≡ is_peak chunks n
+last_full chunks n low even = same_bool (eqb (chunks / 2 ^ n.layer) (n.offset + 1)) (is_peak chunks n)
+    (λ e. peak_from chunks n low (omega (arith, even)) (above_is n.layer chunks ∙ eqb-true (chunks / 2 ^ n.layer) (n.offset + 1) e))
+    (λ e. eq-eqb (chunks / 2 ^ n.layer) (n.offset + 1) (let at = peak_found chunks n e in sym (above_is n.layer chunks) ∙ at.2))

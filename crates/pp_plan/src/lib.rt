@@ -5,8 +5,10 @@
 ghost use Rattle.pp_plan.specs.Law.{PlansAreLeast, StoriesTell};
 
 mod peak;
+mod planning;
 mod told;
 
+pub use planning::plan;
 pub use told::Told;
 
 /// What a plan is for.

@@ -6,11 +6,18 @@ ghost use Rattle.pp_tree.specs.Node.{node_of};
 
 use pp_tree::Node;
 
-// Whether the node is a peak of the tree over that many chunks.
+// Whether the node is a peak of the tree over that many chunks: the last full one of an odd number in its layer.
+#[tactic(auto, using(crate::proofs::PeakTests::too_high, crate::proofs::PeakTests::right_child, crate::proofs::PeakTests::last_full))]
 pub(crate) fn is_peak(node: Node, chunks: u32) -> bool
     ensures { result ≡ terms.is_peak chunks (node_of node) }
 {
-    node.layer < 21 && node.offset % 2 == 0 && chunks >> node.layer == node.offset + 1
+    if node.layer >= 21 {
+        return false;
+    }
+    if node.offset % 2 == 1 {
+        return false;
+    }
+    chunks >> node.layer == node.offset + 1
 }
 
 pub(crate) fn above(node: Node) -> Node

@@ -38,6 +38,15 @@ impl Model for Told {
         × (t.chunks ≤ 2 ^ t.height) × (length t.marks.items ≡ 2 ^ t.height) };
 }
 
+// How many nodes a layer has, by its distance from the root.
+fn width(down: u8) -> usize
+    requires { down ≤ 20 }
+    ensures value { result ≡ 2 ^ down }
+    ensures range { result ≤ 2 ^ 20 }
+{
+    1 << down
+}
+
 // Sets the marks from one place to another.
 fn fill_between(marks: &mut [bool], first: usize, last: usize)
     requires order { first ≤ last }
@@ -69,7 +78,7 @@ impl Told {
             chunks,
             height,
             some: false,
-            marks: vec![in alloc; false; 1 << height]?,
+            marks: vec![in alloc; false; width(height)]?,
         })
     }
 
@@ -101,6 +110,7 @@ impl Told {
 
     // Marks the nodes of a layer from one offset to another.
     fn mark(&mut self, layer: u8, first: u32, last: u32)
+        requires above { 0 < layer }
         requires low { layer ≤ terms.height self.old.chunks }
         requires order { first ≤ last }
         requires inside { last < 2 ^ (terms.height self.old.chunks - layer) }
@@ -108,7 +118,7 @@ impl Told {
         ensures some { self.new.some ≡ self.old.some }
         ensures marks { (n : terms.Node) → is_marked self.new n ≡ (is_marked self.old n || lies layer first last n) }
     {
-        let base: usize = 1 << (self.height - layer);
+        let base = width(self.height - layer);
         fill_between(&mut self.marks, base + first as usize, base + last as usize);
     }
 
@@ -119,15 +129,43 @@ impl Told {
         self.some && (is_peak(node, self.chunks) || self.is_marked_above(node))
     }
 
+    // Whether the way up ends at the node: it is told, or a peak.
+    pub(crate) fn ends(&self, node: Node) -> bool
+        ensures { result ≡ (knows self.now (node_of node) || hashes.is_peak self.now.chunks (node_of node)) }
+    {
+        self.has(node) || is_peak(node, self.chunks)
+    }
+
+    pub(crate) fn is_some(&self) -> bool
+        ensures { result ≡ self.now.some }
+    {
+        self.some
+    }
+
+    pub(crate) fn chunks(&self) -> u32
+        ensures value { result ≡ self.now.chunks }
+        ensures most { self.now.chunks ≤ 2 ^ 20 }
+    {
+        self.chunks
+    }
+
+    pub(crate) fn height(&self) -> u8
+        ensures value { result ≡ terms.height self.now.chunks }
+        ensures range { result ≤ 20 }
+        ensures most { self.now.chunks ≤ 2 ^ 20 }
+    {
+        self.height
+    }
+
     fn is_marked_above(&self, node: Node) -> bool
         ensures { result ≡ is_marked self.now (parent_of (node_of node)) }
     {
         if node.layer >= self.height {
             return false;
         }
-        let width: usize = 1 << (self.height - node.layer - 1);
+        let base = width(self.height - node.layer - 1);
         let offset = (node.offset / 2) as usize;
-        offset < width && self.marks[width + offset]
+        offset < base && self.marks[base + offset]
     }
 
     /// Nothing is told any more.
