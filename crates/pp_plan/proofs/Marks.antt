@@ -59,3 +59,7 @@ marked_more old new layer first last base same low in_layer base_is filled n =
     ∙ sym (outside (height old.chunks) layer first last n low in_layer out)
     ∙ ap (λ (b : Bool). (b && slice_index_or old.marks (place (height old.chunks) n) false) || lies layer first last n) (sym out))
     (cases_Bool (is_inside (height old.chunks) n))
+
+pub or_when : (k p : Bool) → k ≡ false → p ≡ (k || p)
+or_when true p e = absurd cc
+or_when false p e = refl

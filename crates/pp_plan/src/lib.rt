@@ -6,6 +6,8 @@ ghost use Rattle.pp_plan.specs.Law.{PlansAreLeast, StoriesTell};
 
 mod peak;
 mod planning;
+#[cfg(test)]
+mod tests;
 mod told;
 
 pub use planning::plan;

@@ -34,10 +34,11 @@ fn front(told: &Told) -> ArrayVec<Node, 48>
     ensures room { length result.items ≤ 21 }
 {
     let mut nodes = ArrayVec::new();
-    if !told.is_some() {
-        let peaks = peaks(told.chunks());
-        let _ = nodes.try_extend_from_slice(&peaks);
+    if told.is_some() {
+        return nodes;
     }
+    let peaks = peaks(told.chunks());
+    let _ = nodes.try_extend_from_slice(&peaks);
     nodes
 }
 
@@ -48,12 +49,16 @@ fn climb(nodes: &mut ArrayVec<Node, 48>, told: &Told, node: Node, layers: u8)
     ensures nodes { map node_of nodes.new.items ≡ map node_of nodes.old.items ++ uncles_from layers told.now.chunks (knows told.now) (node_of node) }
     ensures room { length nodes.new.items ≤ length nodes.old.items + layers }
 {
-    if layers == 0 || told.ends(node) {
+    if layers == 0 {
+        return;
+    }
+    if told.ends(node) {
         return;
     }
     climb(nodes, told, above(node), layers - 1);
     let sibling = sibling(node);
-    if !told.has(sibling) {
-        nodes.push(sibling);
+    if told.has(sibling) {
+        return;
     }
+    nodes.push(sibling);
 }
