@@ -32,8 +32,8 @@ marked_at t n h b tall low in_layer is =
     let down : h - n.layer - 1 ≡ height t.chunks - (n.layer + 1) = omega (arith, tall) in
     let wide : 2 ^ (h - n.layer - 1) ≡ 2 ^ (height t.chunks - (n.layer + 1)) = ap (λ (k : ℕ). 2 ^ k) down in
     let inside : is_inside (height t.chunks) (parent_of n) ≡ true =
-        and_from (nat_le (n.layer + 1) (height t.chunks)) (nat_lt (n.offset / 2) (2 ^ (height t.chunks - (n.layer + 1))))
-            (le-leb (n.layer + 1) (height t.chunks) (omega (arith, tall))) (lt-ltb (n.offset / 2) (2 ^ (height t.chunks - (n.layer + 1))) (omega (arith, wide))) in
+    and_from (nat_le (n.layer + 1) (height t.chunks)) (nat_lt (n.offset / 2) (2 ^ (height t.chunks - (n.layer + 1))))
+    (le-leb (n.layer + 1) (height t.chunks) (omega (arith, tall))) (lt-ltb (n.offset / 2) (2 ^ (height t.chunks - (n.layer + 1))) (omega (arith, wide))) in
     is ∙ ap (λ (w : ℕ). slice_index_or t.marks (w + n.offset / 2) false) wide
     ∙ sym (ap (λ (c : Bool). c && slice_index_or t.marks (place (height t.chunks) (parent_of n)) false) inside)
 

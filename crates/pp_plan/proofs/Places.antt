@@ -45,9 +45,9 @@ between h layer first last n low in_layer inside =
     let within : n.layer ≤ h = leb-true n.layer h parts.0 in
     let offset : n.offset < 2 ^ (h - n.layer) = ltb-true n.offset (2 ^ (h - n.layer)) parts.1 in
     apart (2 ^ (h - n.layer)) (2 ^ (h - layer)) first last n.offset n.layer layer offset in_layer
-        (λ e. ap (λ (k : ℕ). 2 ^ (h - k)) e)
-        (λ lt. halves (h - layer) (h - n.layer) (omega arith))
-        (λ gt. halves (h - n.layer) (h - layer) (omega arith))
+    (λ e. ap (λ (k : ℕ). 2 ^ (h - k)) e)
+    (λ lt. halves (h - layer) (h - n.layer) (omega arith))
+    (λ gt. halves (h - n.layer) (h - layer) (omega arith))
 
 -- nothing lies in a layer outside the tree
 pub outside : (h layer first last : ℕ) (n : Node) → layer ≤ h → last < 2 ^ (h - layer) → is_inside h n ≡ false → lies layer first last n ≡ false
@@ -68,22 +68,22 @@ offset_fits h layer i chunks low lt covers =
 pub meets_is : (chunks : ℕ) (span : Span) (n : Node) → span.last < chunks → meets chunks span n ≡ is_over span n
 meets_is chunks span n inside =
     same_bool (meets chunks span n) (is_over span n)
-        (λ e. let all = and_parts (nat_lt (first_leaf n) chunks && nat_le (first_leaf n) span.last) (nat_le span.first (last_leaf n)) e in
-        let front = and_parts (nat_lt (first_leaf n) chunks) (nat_le (first_leaf n) span.last) all.0 in
-        let low : n.offset * d ≤ span.last = leb-true (first_leaf n) span.last front.1 in
-        let high : span.first ≤ (n.offset + 1) * d - 1 = leb-true span.first (last_leaf n) all.1 in
-        let some : d ≤ (n.offset + 1) * d = grind arith in
-        and_from (nat_le (span.first / d) n.offset) (nat_le n.offset (span.last / d))
-        (le-leb (span.first / d) n.offset (let below : span.first / d < n.offset + 1 = div_below span.first d (n.offset + 1) positive (omega (arith, high, some, positive)) in omega arith))
-        (le-leb n.offset (span.last / d) (le-div n.offset span.last d positive low)))
-        (λ e. let all = and_parts (nat_le (span.first / d) n.offset) (nat_le n.offset (span.last / d)) e in
-        let first : span.first / d ≤ n.offset = leb-true (span.first / d) n.offset all.0 in
-        let last : n.offset ≤ span.last / d = leb-true n.offset (span.last / d) all.1 in
-        let low : n.offset * d ≤ span.last = (le-div_iff_mul-le positive).0 last in
-        let high : span.first < (n.offset + 1) * d = (div-lt_iff_lt-mul positive).0 (omega arith) in
-        and_from (nat_lt (first_leaf n) chunks && nat_le (first_leaf n) span.last) (nat_le span.first (last_leaf n))
-        (and_from (nat_lt (first_leaf n) chunks) (nat_le (first_leaf n) span.last) (lt-ltb (first_leaf n) chunks (omega arith)) (le-leb (first_leaf n) span.last low))
-        (le-leb span.first (last_leaf n) (omega arith)))
+    (λ e. let all = and_parts (nat_lt (first_leaf n) chunks && nat_le (first_leaf n) span.last) (nat_le span.first (last_leaf n)) e in
+    let front = and_parts (nat_lt (first_leaf n) chunks) (nat_le (first_leaf n) span.last) all.0 in
+    let low : n.offset * d ≤ span.last = leb-true (first_leaf n) span.last front.1 in
+    let high : span.first ≤ (n.offset + 1) * d - 1 = leb-true span.first (last_leaf n) all.1 in
+    let some : d ≤ (n.offset + 1) * d = grind arith in
+    and_from (nat_le (span.first / d) n.offset) (nat_le n.offset (span.last / d))
+    (le-leb (span.first / d) n.offset (let below : span.first / d < n.offset + 1 = div_below span.first d (n.offset + 1) positive (omega (arith, high, some, positive)) in omega arith))
+    (le-leb n.offset (span.last / d) (le-div n.offset span.last d positive low)))
+    (λ e. let all = and_parts (nat_le (span.first / d) n.offset) (nat_le n.offset (span.last / d)) e in
+    let first : span.first / d ≤ n.offset = leb-true (span.first / d) n.offset all.0 in
+    let last : n.offset ≤ span.last / d = leb-true n.offset (span.last / d) all.1 in
+    let low : n.offset * d ≤ span.last = (le-div_iff_mul-le positive).0 last in
+    let high : span.first < (n.offset + 1) * d = (div-lt_iff_lt-mul positive).0 (omega arith) in
+    and_from (nat_lt (first_leaf n) chunks && nat_le (first_leaf n) span.last) (nat_le span.first (last_leaf n))
+    (and_from (nat_lt (first_leaf n) chunks) (nat_le (first_leaf n) span.last) (lt-ltb (first_leaf n) chunks (omega arith)) (le-leb (first_leaf n) span.last low))
+    (le-leb span.first (last_leaf n) (omega arith)))
   where
     d : ℕ
     d = 2 ^ n.layer

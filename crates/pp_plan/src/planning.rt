@@ -24,7 +24,15 @@ pub fn plan(i: u32, told: &Told, chunks: u32) -> ArrayVec<Node, 48>
         → completes chunks brought (knows told.now) i ≡ list_all brought (map node_of result.items) }
 {
     let mut nodes = front(told);
-    climb(&mut nodes, told, Node { layer: 0, offset: i }, told.height() + 1);
+    climb(
+        &mut nodes,
+        told,
+        Node {
+            layer: 0,
+            offset: i,
+        },
+        told.height() + 1,
+    );
     nodes
 }
 

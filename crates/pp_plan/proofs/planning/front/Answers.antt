@@ -8,9 +8,9 @@ pub returns-clause-nodes : goal.returns-clause-nodes
 returns-clause-nodes c =
     let empty : length c.new-nodes.result.items ≡ 0 = ap (λ xs. length xs) c.new-nodes.ensures in
     let all : c.try_extend_from_slice.new.self.items ≡ c.new-nodes.result.items ++ c.deref.result.now =
-        ok_gives c.try_extend_from_slice.result (c.try_extend_from_slice.new.self.items ≡ c.new-nodes.result.items ++ c.deref.result.now)
-            (c.try_extend_from_slice.ensures.variant.1 (omega (arith, empty, c.deref.ensures.1))) c.try_extend_from_slice.ensures.ok in
+    ok_gives c.try_extend_from_slice.result (c.try_extend_from_slice.new.self.items ≡ c.new-nodes.result.items ++ c.deref.result.now)
+    (c.try_extend_from_slice.ensures.variant.1 (omega (arith, empty, c.deref.ensures.1))) c.try_extend_from_slice.ensures.ok in
     front_is c.args.told.now.some (terms.peaks c.args.told.now.chunks) (map node_of c.try_extend_from_slice.new.self.items)
-        (sym c.is_some.ensures ∙ c.if-is_some.false)
-        (ap (λ xs. map node_of xs) (all ∙ ap (λ xs. xs ++ c.deref.result.now) c.new-nodes.ensures ∙ c.deref.ensures.0)
-        ∙ c.peaks-peaks.ensures ∙ ap (λ k. terms.peaks k) c.chunks.ensures.value)
+    (sym c.is_some.ensures ∙ c.if-is_some.false)
+    (ap (λ xs. map node_of xs) (all ∙ ap (λ xs. xs ++ c.deref.result.now) c.new-nodes.ensures ∙ c.deref.ensures.0)
+    ∙ c.peaks-peaks.ensures ∙ ap (λ k. terms.peaks k) c.chunks.ensures.value)
