@@ -1,13 +1,13 @@
 -- Brought hashes complete a path exactly where all of its plan is among them.
-use Rattle.std.proofs.Common.{◌≡◌, ◌⊎◌, inl, inr, ⊎_elim, ℕ, zero, suc, ◌+◌, ◌-◌, ◌*◌, ◌/◌, ◌%◌, ◌^◌, ◌<◌, ◌≤◌, Bool, true, false, cond, not, ◌&&◌, ◌||◌, List, [], ◌∷◌, ◌++◌, refl, sym, ◌∙◌, ap, arith, add-one, pow-suc}
+use Rattle.std.proofs.Common.{◌≡◌, ⊎_elim, ℕ, zero, suc, ◌+◌, ◌*◌, ◌/◌, ◌^◌, ◌<◌, ◌≤◌, Bool, true, false, cond, not, ◌&&◌, ◌||◌, List, [], ◌∷◌, ◌++◌, refl, sym, ◌∙◌, ap, arith, add-one, pow-suc}
 use Rattle.std.proofs.lemmas.Bool.{cases_Bool, and_parts, and_from, or_right, or_parts, both_ways, cond-true, cond-false}
 use Rattle.std.proofs.lemmas.List.Folds.{list_all-append}
 use Rattle.std.specs.List.{list_all}
 use Rattle.pp_terms.specs.Tree.{Node, height, peaks, above}
 use Rattle.pp_terms.specs.Bins.{parent_of, sibling_of}
 use Rattle.pp_terms.proofs.Heights.{height_is}
-use Rattle.pp_traffic.specs.Hashes.{is_peak, leaf_at, completes_from, completes}
-use Rattle.pp_traffic.specs.Laws.{uncles_from, plan}
+use Rattle.pp_traffic.specs.Hashes.{is_peak, leaf_at, completes_from}
+use Rattle.pp_traffic.specs.Laws.{uncles_from}
 use Rattle.pp_plan.specs.Law.{IsTold, PlansAreLeast}
 use Rattle.pp_plan.proofs.PeakTests.{goes_on, no_last, above_up, fewer, height_bound}
 

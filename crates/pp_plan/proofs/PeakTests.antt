@@ -1,10 +1,8 @@
 -- Peaks by arithmetic, and on the way up.
-use Rattle.std.proofs.Common.{◌≡◌, ◌⊎◌, inl, inr, ⊎_elim, ℕ, zero, suc, ◌+◌, ◌-◌, ◌*◌, ◌/◌, ◌%◌, ◌^◌, ◌<◌, ◌≤◌, eqb, ◌==◌, nat_lt, Bool, true, false, cond, ◌&&◌, ◌||◌, List, [], ◌∷◌, refl, sym, ◌∙◌, ap, subst, arith, add-one, pow-suc}
-use Rattle.std.proofs.lemmas.Bool.{and_parts, and_from, or_cases, or_left, or_right, or_from, cases_Bool, cases_eq, cases_lt, both_ways, eq-eqb, eqb-true, cond-true, cond-false, false_from_ne_true}
+use Rattle.std.proofs.Common.{◌≡◌, ◌⊎◌, inl, inr, ⊎_elim, ℕ, zero, suc, ◌+◌, ◌-◌, ◌*◌, ◌/◌, ◌%◌, ◌^◌, ◌<◌, ◌≤◌, eqb, Bool, true, false, cond, List, ◌∷◌, refl, sym, ◌∙◌, ap, subst, arith, add-one, pow-suc}
+use Rattle.std.proofs.lemmas.Bool.{and_parts, and_from, or_cases, or_left, or_right, cases_Bool, cases_eq, cases_lt, both_ways, eq-eqb, eqb-true, cond-true, cond-false, false_from_ne_true}
 use Rattle.std.specs.List.{list_any}
-use Rattle.pp_terms.specs.Tree.{Node, height, peaks, peaks_below, above, IsHeight}
-use Rattle.pp_terms.specs.Bins.{parent_of}
-use Rattle.pp_terms.proofs.Heights.{height_is}
+use Rattle.pp_terms.specs.Tree.{Node, height, peaks_below, above, IsHeight}
 use Rattle.pp_traffic.specs.Hashes.{same_node, is_peak}
 use Rattle.pp_tree.proofs.Halving.{above_is}
 

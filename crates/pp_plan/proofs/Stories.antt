@@ -1,11 +1,11 @@
 -- What a story's messages tell is all peaks or nothing.
-use Rattle.std.proofs.Common.{◌≡◌, ◌⊎◌, inl, inr, ⊎_elim, ℕ, Bool, true, false, nat_le, nat_lt, ◌+◌, ◌&&◌, ◌||◌, List, [], ◌∷◌, refl}
+use Rattle.std.proofs.Common.{◌≡◌, inl, inr, ⊎_elim, ℕ, Bool, true, false, nat_le, nat_lt, ◌&&◌, ◌||◌, List, [], ◌∷◌, refl}
 use Rattle.std.proofs.lemmas.Bool.{cases_Bool, and_parts, and_from, or_right, or_left, or_from}
 use Rattle.std.specs.List.{list_any, list_all}
 use Rattle.pp_terms.specs.Tree.{Node, height, peaks}
 use Rattle.pp_terms.specs.Bins.{parent_of}
 use Rattle.pp_terms.specs.Messages.{Span, Message, Handshake, Data, Ack, Have, Integrity, Pex4, PexReq, Request, Cancel, Choke, Unchoke, Pex6}
-use Rattle.pp_traffic.specs.Story.{Line, Heard, Said, Taken}
+use Rattle.pp_traffic.specs.Story.{Heard, Said, Taken}
 use Rattle.pp_traffic.specs.Hashes.{same_node, is_peak, meets, tells, told_by, is_told}
 use Rattle.pp_plan.specs.Law.{IsTold, StoriesTell}
 use Rattle.pp_plan.proofs.PeakTests.{same_is}

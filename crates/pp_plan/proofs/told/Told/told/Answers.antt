@@ -1,4 +1,4 @@
-use Rattle.std.proofs.Common.{◌≡◌, ◌+◌, ◌-◌, ◌/◌, ◌^◌, ◌<◌, ◌≤◌, ◌&&◌, ◌||◌, arith, sym, ap, ◌∙◌, subst, refl}
+use Rattle.std.proofs.Common.{◌≡◌, ◌+◌, ◌-◌, ◌/◌, ◌^◌, ◌<◌, ◌≤◌, ◌&&◌, ◌||◌, arith, sym, ap, ◌∙◌, subst}
 use Rattle.pp_terms.specs.Tree.{height}
 use Rattle.pp_plan.specs.Told.{is_marked, lies, is_over_below, span_of}
 use Rattle.pp_plan.proofs.Places.{offset_fits}
