@@ -1,0 +1,2 @@
+pub mod Shakes
+pub mod Messages

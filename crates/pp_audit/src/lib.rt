@@ -1,0 +1,8 @@
+//! The plain, slow program that decides the promises of a peer on a recorded list of its traffic. It is the reference for
+//! whatever decides them faster. Nothing here takes memory.
+#![tactic(auto)]
+
+mod entry;
+mod reading;
+
+pub use entry::{Entry, Life};
