@@ -1,2 +1,3 @@
 pub mod Shakes
 pub mod Messages
+pub mod Pasts

@@ -57,7 +57,7 @@ pub none_at_end : (d : Descriptor) (bytes : List ℕ) (at : ℕ) → 0 < d.chunk
     → End ≡ moved at (next_message d.method d.chunk (drop at bytes)) → rest d bytes at ≡ []
 none_at_end d bytes at some fits e =
     ap (λ (x : Messages). x.read) ((one_by_one d.method d.chunk at (drop at bytes) some (IsBytes-drop at bytes fits)).1
-      (moved_end at (next_message d.method d.chunk (drop at bytes)) (sym e)))
+    (moved_end at (next_message d.method d.chunk (drop at bytes)) (sym e)))
 
 pub none_at_fault : (d : Descriptor) (bytes : List ℕ) (at place : ℕ) (kind : WireKind) → 0 < d.chunk → IsBytes bytes
     → Cut place kind ≡ moved at (next_message d.method d.chunk (drop at bytes)) → rest d bytes at ≡ []

@@ -13,52 +13,52 @@ use Rattle.pp_options.specs.declared.value.Options as written
 use Rattle.pp_audit.specs.Parts.{shake_of, first_shake, is_from}
 
 -- by the first message
-pub begins-shake : (ms : List Message) → begins ms ≡ is_some (first_shake ms)
-begins-shake [] = refl
-begins-shake (Handshake source options ∷ ms) = refl
-begins-shake (Data chunk sent_at bytes ∷ ms) = refl
-begins-shake (Ack span delay ∷ ms) = refl
-begins-shake (Have span ∷ ms) = refl
-begins-shake (Integrity span digest ∷ ms) = refl
-begins-shake (Pex4 address port ∷ ms) = refl
-begins-shake (PexReq ∷ ms) = refl
-begins-shake (Request span ∷ ms) = refl
-begins-shake (Cancel span ∷ ms) = refl
-begins-shake (Choke ∷ ms) = refl
-begins-shake (Unchoke ∷ ms) = refl
-begins-shake (Pex6 address port ∷ ms) = refl
+pub begins_shake : (ms : List Message) → begins ms ≡ is_some (first_shake ms)
+begins_shake [] = refl
+begins_shake (Handshake source options ∷ ms) = refl
+begins_shake (Data chunk sent_at bytes ∷ ms) = refl
+begins_shake (Ack span delay ∷ ms) = refl
+begins_shake (Have span ∷ ms) = refl
+begins_shake (Integrity span digest ∷ ms) = refl
+begins_shake (Pex4 address port ∷ ms) = refl
+begins_shake (PexReq ∷ ms) = refl
+begins_shake (Request span ∷ ms) = refl
+begins_shake (Cancel span ∷ ms) = refl
+begins_shake (Choke ∷ ms) = refl
+begins_shake (Unchoke ∷ ms) = refl
+begins_shake (Pex6 address port ∷ ms) = refl
 
 -- its source
-pub begins_as-shake : (number : ℕ) (ms : List Message) → begins_as number ms ≡ option_map_or (λ x. eqb x.0 number) (first_shake ms) false
-begins_as-shake number [] = refl
-begins_as-shake number (Handshake source options ∷ ms) = refl
-begins_as-shake number (Data chunk sent_at bytes ∷ ms) = refl
-begins_as-shake number (Ack span delay ∷ ms) = refl
-begins_as-shake number (Have span ∷ ms) = refl
-begins_as-shake number (Integrity span digest ∷ ms) = refl
-begins_as-shake number (Pex4 address port ∷ ms) = refl
-begins_as-shake number (PexReq ∷ ms) = refl
-begins_as-shake number (Request span ∷ ms) = refl
-begins_as-shake number (Cancel span ∷ ms) = refl
-begins_as-shake number (Choke ∷ ms) = refl
-begins_as-shake number (Unchoke ∷ ms) = refl
-begins_as-shake number (Pex6 address port ∷ ms) = refl
+pub begins_as_shake : (number : ℕ) (ms : List Message) → begins_as number ms ≡ option_map_or (λ x. eqb x.0 number) (first_shake ms) false
+begins_as_shake number [] = refl
+begins_as_shake number (Handshake source options ∷ ms) = refl
+begins_as_shake number (Data chunk sent_at bytes ∷ ms) = refl
+begins_as_shake number (Ack span delay ∷ ms) = refl
+begins_as_shake number (Have span ∷ ms) = refl
+begins_as_shake number (Integrity span digest ∷ ms) = refl
+begins_as_shake number (Pex4 address port ∷ ms) = refl
+begins_as_shake number (PexReq ∷ ms) = refl
+begins_as_shake number (Request span ∷ ms) = refl
+begins_as_shake number (Cancel span ∷ ms) = refl
+begins_as_shake number (Choke ∷ ms) = refl
+begins_as_shake number (Unchoke ∷ ms) = refl
+begins_as_shake number (Pex6 address port ∷ ms) = refl
 
 -- and its options
-pub begins_fitting-shake : (d : Descriptor) (is_reply : Bool) (number : ℕ) (ms : List Message) → begins_fitting d is_reply number ms ≡ option_map_or (λ x. eqb x.0 number && fits d is_reply x.1) (first_shake ms) false
-begins_fitting-shake d is_reply number [] = refl
-begins_fitting-shake d is_reply number (Handshake source options ∷ ms) = refl
-begins_fitting-shake d is_reply number (Data chunk sent_at bytes ∷ ms) = refl
-begins_fitting-shake d is_reply number (Ack span delay ∷ ms) = refl
-begins_fitting-shake d is_reply number (Have span ∷ ms) = refl
-begins_fitting-shake d is_reply number (Integrity span digest ∷ ms) = refl
-begins_fitting-shake d is_reply number (Pex4 address port ∷ ms) = refl
-begins_fitting-shake d is_reply number (PexReq ∷ ms) = refl
-begins_fitting-shake d is_reply number (Request span ∷ ms) = refl
-begins_fitting-shake d is_reply number (Cancel span ∷ ms) = refl
-begins_fitting-shake d is_reply number (Choke ∷ ms) = refl
-begins_fitting-shake d is_reply number (Unchoke ∷ ms) = refl
-begins_fitting-shake d is_reply number (Pex6 address port ∷ ms) = refl
+pub begins_fitting_shake : (d : Descriptor) (is_reply : Bool) (number : ℕ) (ms : List Message) → begins_fitting d is_reply number ms ≡ option_map_or (λ x. eqb x.0 number && fits d is_reply x.1) (first_shake ms) false
+begins_fitting_shake d is_reply number [] = refl
+begins_fitting_shake d is_reply number (Handshake source options ∷ ms) = refl
+begins_fitting_shake d is_reply number (Data chunk sent_at bytes ∷ ms) = refl
+begins_fitting_shake d is_reply number (Ack span delay ∷ ms) = refl
+begins_fitting_shake d is_reply number (Have span ∷ ms) = refl
+begins_fitting_shake d is_reply number (Integrity span digest ∷ ms) = refl
+begins_fitting_shake d is_reply number (Pex4 address port ∷ ms) = refl
+begins_fitting_shake d is_reply number (PexReq ∷ ms) = refl
+begins_fitting_shake d is_reply number (Request span ∷ ms) = refl
+begins_fitting_shake d is_reply number (Cancel span ∷ ms) = refl
+begins_fitting_shake d is_reply number (Choke ∷ ms) = refl
+begins_fitting_shake d is_reply number (Unchoke ∷ ms) = refl
+begins_fitting_shake d is_reply number (Pex6 address port ∷ ms) = refl
 
 -- one that closes
 pub closes-more : (m : Message) (ms : List Message) → closes (m ∷ ms) ≡ (is_from 0 m || closes ms)

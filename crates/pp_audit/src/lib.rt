@@ -3,6 +3,8 @@
 #![tactic(auto)]
 
 mod entry;
+mod lives;
 mod reading;
+mod records;
 
 pub use entry::{Entry, Life};

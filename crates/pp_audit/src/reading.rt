@@ -61,7 +61,10 @@ pub(crate) fn message_at<'a>(
 }
 
 /// The source channel and the options of the handshake with which it begins.
-pub(crate) fn first_shake<'a>(descriptor: &Descriptor, bytes: &'a [u8]) -> Option<(u32, Options<'a>)>
+pub(crate) fn first_shake<'a>(
+    descriptor: &Descriptor,
+    bytes: &'a [u8],
+) -> Option<(u32, Options<'a>)>
     ensures { option_map (λ x. (x.0, options_of x.1)) result ≡ first_shake (all descriptor.now bytes.now) }
 {
     match message_at(descriptor, bytes, first_place(bytes)) {
