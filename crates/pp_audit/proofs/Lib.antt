@@ -1,3 +1,4 @@
 pub mod Shakes
 pub mod Messages
 pub mod Pasts
+pub mod LifeTests
