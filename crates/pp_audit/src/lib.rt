@@ -2,9 +2,14 @@
 //! whatever decides them faster. Nothing here takes memory.
 #![tactic(auto)]
 
+mod asking;
 mod entry;
 mod lives;
+mod nodes;
 mod reading;
 mod records;
+mod standing;
 
+pub use asking::{is_asked, is_choked, is_heard, is_told};
 pub use entry::{Entry, Life};
+pub use lives::is_life;

@@ -43,6 +43,14 @@ pub(crate) fn first_place(bytes: &[u8]) -> usize
     bytes.len().min(4)
 }
 
+/// Where there are none.
+pub(crate) fn nowhere(bytes: &[u8]) -> usize
+    ensures within { result ≤ length bytes.now }
+    ensures none { (d : descriptors.Descriptor) → rest d bytes.now result ≡ [] }
+{
+    bytes.len()
+}
+
 /// The message at a place, and the place behind it; none at the end or before a fault.
 pub(crate) fn message_at<'a>(
     descriptor: &Descriptor,

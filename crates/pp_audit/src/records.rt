@@ -43,8 +43,8 @@ pub(crate) enum Kind {
     AsksAnew,
 }
 
-// Whether the datagram is for the channel number.
-fn is_for(number: u32, bytes: &[u8]) -> bool
+/// Whether the datagram is for the channel number.
+pub(crate) fn is_for(number: u32, bytes: &[u8]) -> bool
     ensures { (d : descriptors.Descriptor) → result ≡ terms.is_number number (messages.datagram d.method d.chunk bytes.now).channel }
 {
     match channel_of(bytes) {
