@@ -5,3 +5,4 @@ pub mod LifeTests
 pub mod Standings
 pub mod Peaks
 pub mod PeakLayers
+pub mod Climbs

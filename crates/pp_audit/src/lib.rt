@@ -6,6 +6,7 @@ mod asking;
 mod entry;
 mod lives;
 mod nodes;
+mod path;
 mod reading;
 mod records;
 mod standing;
