@@ -6,3 +6,5 @@ pub mod Standings
 pub mod Peaks
 pub mod PeakLayers
 pub mod Climbs
+pub mod Flights
+pub mod Searches

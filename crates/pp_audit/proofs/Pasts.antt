@@ -33,3 +33,6 @@ pub since_more : (test : Record → Bool) (from : ℕ) (xs : List Entry) (i : �
     → found ≡ some_since test from (first i xs) → ((leb from i && test (record_of x)) || found) ≡ some_since test from (first (i + 1) xs)
 since_more test from xs i x found lt is so_far =
     rw (one_more xs i x lt is, length_first xs i (omega arith), so_far) refl
+
+pub length_past : (xs : List Entry) → length (past xs) ≡ length xs
+length_past xs = length-reverse (map record_of xs) ∙ length-map xs record_of

@@ -3,3 +3,5 @@ pub mod Parts
 pub mod Tests
 pub mod Standing
 pub mod Paths
+pub mod Flying
+pub mod Search

@@ -4,6 +4,7 @@
 
 mod asking;
 mod entry;
+mod flying;
 mod lives;
 mod nodes;
 mod path;
@@ -13,4 +14,5 @@ mod standing;
 
 pub use asking::{is_asked, is_choked, is_heard, is_told};
 pub use entry::{Entry, Life};
+pub use flying::fewer_than_two;
 pub use lives::is_life;
