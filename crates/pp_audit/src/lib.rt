@@ -10,6 +10,7 @@ mod nodes;
 mod path;
 mod reading;
 mod records;
+mod searching;
 mod standing;
 
 pub use asking::{is_asked, is_choked, is_heard, is_told};
