@@ -17,3 +17,8 @@ pub use asking::{is_asked, is_choked, is_heard, is_told};
 pub use entry::{Entry, Life};
 pub use flying::fewer_than_two;
 pub use lives::is_life;
+pub use path::completes;
+pub use searching::answers_peer;
+
+#[cfg(test)]
+mod tests;
