@@ -169,6 +169,11 @@ fn unchoke(channel: u32) -> [u8; 5] {
     bytes
 }
 
+// Whether chunk 0 answers the peer.
+fn is_answer<'m>(d: &Descriptor, first: &[u8], entries: &'m [Entry<'m>]) -> bool {
+    answers_peer(d, entries, PEER, REMOTE, first, 5, 0)
+}
+
 #[test]
 fn ends_requests(rt: HostRuntime) -> Result<(), Fail> {
     let d = swarm(rt.alloc())?;
@@ -187,24 +192,14 @@ fn ends_requests(rt: HostRuntime) -> Result<(), Fail> {
     let unchoked = went(PEER, &unchoked_bytes);
     let closed_bytes = close(LOCAL);
     let closed = came(PEER, &closed_bytes);
-    let lists: [(&[Entry<'_>], bool); 8] = [
-        (&[hello, reply, ask], true),
-        (&[hello, reply, ask, cancel], false),
-        (&[hello, reply, ask, choked], false),
-        (&[hello, reply, ask, choked, unchoked], false),
-        (&[hello, reply, ask, choked, unchoked, ask], true),
-        (&[hello, reply, ask, hello], true),
-        (&[hello, reply, ask, closed], false),
-        (&[hello, reply, ask, closed, hello, reply, ask], true),
-    ];
-    for (entries, want) in lists {
-        assert_eq!(rt;
-            answers_peer(&d, entries, PEER, REMOTE, &first, 5, 0),
-            want,
-            "behind {} entries",
-            entries.len()
-        );
-    }
+    assert!(rt; is_answer(&d, &first, &[hello, reply, ask]));
+    assert!(rt; !is_answer(&d, &first, &[hello, reply, ask, cancel]));
+    assert!(rt; !is_answer(&d, &first, &[hello, reply, ask, choked]));
+    assert!(rt; !is_answer(&d, &first, &[hello, reply, ask, choked, unchoked]));
+    assert!(rt; is_answer(&d, &first, &[hello, reply, ask, choked, unchoked, ask]));
+    assert!(rt; is_answer(&d, &first, &[hello, reply, ask, hello]));
+    assert!(rt; !is_answer(&d, &first, &[hello, reply, ask, closed]));
+    assert!(rt; is_answer(&d, &first, &[hello, reply, ask, closed, hello, reply, ask]));
     Ok(())
 }
 
@@ -234,29 +229,40 @@ fn tells_channels_apart(rt: HostRuntime) -> Result<(), Fail> {
     let second_reply = went(PEER, &second_reply_bytes);
     let ask_second_bytes = spanned(6, 8, 0, 0);
     let ask_second = came(PEER, &ask_second_bytes);
-    let lists: [(&[Entry<'_>], bool); 8] = [
-        (&[dial, taken, ask_dialled], true),
-        // what came before the reply is on the channel too
-        (&[dial, ask_dialled, taken], true),
-        (&[dial, ask_dialled], false),
-        (&[dial, taken], false),
-        // a second channel from the same address
-        (&[hello, reply, second, second_reply, ask_second], false),
-        (&[hello, reply, second, second_reply, ask_second, ask], true),
-        // a dial that another channel shadows, with a choke on it and without
-        (
-            &[dial, hello, reply, choked, closed, taken, ask_dialled],
-            false,
-        ),
-        (&[dial, hello, reply, closed, taken, ask_dialled], true),
-    ];
-    for (entries, want) in lists {
-        assert_eq!(rt;
-            answers_peer(&d, entries, PEER, REMOTE, &first, 5, 0),
-            want,
-            "behind {} entries",
-            entries.len()
-        );
-    }
+    assert!(rt; is_answer(&d, &first, &[dial, taken, ask_dialled]));
+    // what came before the reply is on the channel too
+    assert!(rt; is_answer(&d, &first, &[dial, ask_dialled, taken]));
+    assert!(rt; !is_answer(&d, &first, &[dial, ask_dialled]));
+    assert!(rt; !is_answer(&d, &first, &[dial, taken]));
+    // a second channel from the same address
+    assert!(rt;
+        !is_answer(
+            &d,
+            &first,
+            &[hello, reply, second, second_reply, ask_second]
+        )
+    );
+    assert!(rt;
+        is_answer(
+            &d,
+            &first,
+            &[hello, reply, second, second_reply, ask_second, ask]
+        )
+    );
+    // a dial that another channel shadows, with a choke on it and without
+    assert!(rt;
+        !is_answer(
+            &d,
+            &first,
+            &[dial, hello, reply, choked, closed, taken, ask_dialled]
+        )
+    );
+    assert!(rt;
+        is_answer(
+            &d,
+            &first,
+            &[dial, hello, reply, closed, taken, ask_dialled]
+        )
+    );
     Ok(())
 }
