@@ -8,3 +8,4 @@ pub mod PeakLayers
 pub mod Climbs
 pub mod Flights
 pub mod Searches
+pub mod Books

@@ -3,6 +3,7 @@
 #![tactic(auto)]
 
 mod asking;
+mod carrying;
 mod entry;
 mod flying;
 mod lives;
