@@ -9,3 +9,4 @@ pub mod Climbs
 pub mod Flights
 pub mod Searches
 pub mod Books
+pub mod Sendings

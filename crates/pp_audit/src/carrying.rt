@@ -1,6 +1,6 @@
 //! Whether chunks and hashes that are sent are the book's (RFC 7574, sections 5.2 and 5.3).
 
-ghost use Rattle.std.specs.Prelude.{◌≡◌, ◌↔◌, ◌^◌, ◌≤◌, IsTrue, MatchOption, Some, take, true, length};
+ghost use Rattle.std.specs.Prelude.{◌≡◌, ◌↔◌, ◌^◌, ◌≤◌, ◌<◌, IsTrue, MatchOption, Some, take, true, length};
 ghost use Rattle.std.specs.List.{AllByRecursion};
 ghost use Rattle.pp_terms.specs.Tree as trees;
 ghost use Rattle.pp_terms.specs.Range.{leaves_of};
@@ -89,7 +89,8 @@ pub(crate) fn all_carry(descriptor: &Descriptor, book: &Book, bytes: &[u8], coun
 /// Whether the bytes are the chunk's, by the book.
 pub(crate) fn is_backed(descriptor: &Descriptor, book: &Book, chunk: u64, bytes: &[u8]) -> bool
     requires { IsRooted descriptor.now (entry book.now) }
-    ensures { IsTrue result ↔ IsBacked descriptor.now (entry book.now) chunk bytes.now }
+    ensures exact { IsTrue result ↔ IsBacked descriptor.now (entry book.now) chunk bytes.now }
+    ensures few { IsTrue result → chunk < 2 ^ 32 }
 {
     if chunk >= u64::from(descriptor.chunks()) {
         return false;

@@ -12,6 +12,7 @@ mod path;
 mod reading;
 mod records;
 mod searching;
+mod serving;
 mod standing;
 
 pub use asking::{is_asked, is_choked, is_heard, is_told};
@@ -20,6 +21,7 @@ pub use flying::fewer_than_two;
 pub use lives::is_life;
 pub use path::completes;
 pub use searching::answers_peer;
+pub use serving::serves;
 
 #[cfg(test)]
 mod tests;
