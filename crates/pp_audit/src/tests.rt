@@ -1,8 +1,11 @@
-ghost use Rattle.std.specs.Prelude.{◌≡◌, IfOk, vec_len};
+ghost use Rattle.std.specs.Prelude.{◌≡◌, ◌<◌, IfOk, vec_len};
+ghost use Rattle.pp_terms.specs.Descriptor as descriptors;
+ghost use Rattle.pp_terms.specs.Book.{IsRooted};
+ghost use Rattle.pp_tree.specs.Book.{entry};
 
 use super::*;
 use pp_outside::Address;
-use pp_tree::{Descriptor, Digest, Method, Node, root_of};
+use pp_tree::{Book, Descriptor, Digest, Method, Node, leaf, parent, root_of};
 use std::alloc::{AllocError, Global};
 use std::test::Fail;
 
@@ -264,5 +267,149 @@ fn tells_channels_apart(rt: HostRuntime) -> Result<(), Fail> {
             &[dial, hello, reply, closed, taken, ask_dialled]
         )
     );
+    Ok(())
+}
+
+/// A chunk of the content.
+fn chunk_at(content: &[u8], i: usize) -> &[u8]
+    requires { i < 7 }
+{
+    let end = content.len().min((i + 1) * 1024);
+    match content.get(i * 1024..end) {
+        Some(chunk) => chunk,
+        None => &[],
+    }
+}
+
+/// Enters the children of a node, where the pair is the node's.
+fn adopt(book: &mut Book, layer: u8, offset: u32, left: Digest, right: Digest)
+    requires low { offset < 4 }
+    ensures rooted { (d : descriptors.Descriptor) → IsRooted d (entry book.old) → IsRooted d (entry book.new) }
+{
+    if layer == 0 {
+        return;
+    }
+    let below = layer - 1;
+    let lower = 2 * offset;
+    if book
+        .get(Node {
+            layer: below,
+            offset: lower,
+        })
+        .is_some()
+    {
+        return;
+    }
+    if book
+        .get(Node {
+            layer: below,
+            offset: lower + 1,
+        })
+        .is_some()
+    {
+        return;
+    }
+    match book.get(Node { layer, offset }) {
+        Some(digest) => {
+            if digest == parent(&left, &right) {
+                book.adopt_pair(Node { layer, offset }, left, right);
+            }
+        }
+        None => {}
+    }
+}
+
+/// The book of the content, by the digests of its chunks.
+fn book_of(alloc: Global, d: &Descriptor, l: &[Digest; 7]) -> Result<Book, AllocError>
+    ensures { IfOk result (λ b. IsRooted d.now (entry b)) }
+{
+    let mut book = Book::empty(alloc);
+    book.prepare(alloc, d)?;
+    let first = parent(&l[0], &l[1]);
+    let second = parent(&l[2], &l[3]);
+    let third = parent(&l[4], &l[5]);
+    let last = parent(&l[6], &Digest::new([0; 32]));
+    adopt(
+        &mut book,
+        3,
+        0,
+        parent(&first, &second),
+        parent(&third, &last),
+    );
+    adopt(&mut book, 2, 0, first, second);
+    adopt(&mut book, 2, 1, third, last);
+    adopt(&mut book, 1, 0, l[0], l[1]);
+    adopt(&mut book, 1, 3, l[6], Digest::new([0; 32]));
+    Ok(book)
+}
+
+/// An INTEGRITY.
+fn put_hash(bytes: &mut Vec<u8>, first: u32, last: u32, digest: Digest) -> Result<(), AllocError> {
+    bytes.extend_from_slice(&spanned(0, 4, first, last)[4..])?;
+    bytes.extend_from_slice(digest.bytes())?;
+    Ok(())
+}
+
+/// DATA 0 behind its hashes.
+fn first_chunk(alloc: Global, l: &[Digest; 7], content: &[u8]) -> Result<Vec<u8>, AllocError> {
+    let mut bytes = Vec::from_slice(alloc, &REMOTE.to_be_bytes())?;
+    let second = parent(&l[2], &l[3]);
+    put_hash(&mut bytes, 0, 3, parent(&parent(&l[0], &l[1]), &second))?;
+    put_hash(&mut bytes, 4, 5, parent(&l[4], &l[5]))?;
+    put_hash(&mut bytes, 6, 6, l[6])?;
+    put_hash(&mut bytes, 2, 3, second)?;
+    put_hash(&mut bytes, 1, 1, l[1])?;
+    bytes.extend_from_slice(&spanned(0, 1, 0, 0)[4..])?;
+    bytes.extend_from_slice(&[0; 8])?;
+    bytes.extend_from_slice(chunk_at(content, 0))?;
+    Ok(bytes)
+}
+
+/// The digests of the chunks.
+fn leaves(content: &[u8]) -> [Digest; 7] {
+    [
+        leaf(chunk_at(content, 0)),
+        leaf(chunk_at(content, 1)),
+        leaf(chunk_at(content, 2)),
+        leaf(chunk_at(content, 3)),
+        leaf(chunk_at(content, 4)),
+        leaf(chunk_at(content, 5)),
+        leaf(chunk_at(content, 6)),
+    ]
+}
+
+/// The bytes with one changed.
+fn with_change(alloc: Global, bytes: &[u8], at: usize) -> Result<Vec<u8>, AllocError> {
+    let mut changed = Vec::from_slice(alloc, bytes)?;
+    if let Some(byte) = changed.get_mut(at) {
+        *byte ^= 1;
+    }
+    Ok(changed)
+}
+
+#[test]
+fn serves_by_the_book(rt: HostRuntime) -> Result<(), Fail> {
+    let d = swarm(rt.alloc())?;
+    let content = content(rt.alloc())?;
+    let l = leaves(&content);
+    let book = book_of(rt.alloc(), &d, &l)?;
+    let first = first_chunk(rt.alloc(), &l, &content)?;
+    let hash_changed = with_change(rt.alloc(), &first, 13)?;
+    let byte_changed = with_change(rt.alloc(), &first, 300)?;
+    let mut more = Vec::from_slice(rt.alloc(), &first)?;
+    more.extend_from_slice(&[11])?;
+    let hello_bytes = handshake(0, REMOTE, &d.root());
+    let hello = came(PEER, &hello_bytes);
+    let reply_bytes = handshake(REMOTE, LOCAL, &d.root());
+    let reply = went(PEER, &reply_bytes);
+    let ask_bytes = spanned(LOCAL, 8, 0, 0);
+    let ask = came(PEER, &ask_bytes);
+    let sent = went(PEER, &first);
+    assert!(rt; serves(&d, &book, &[hello, reply, ask, sent]));
+    assert!(rt; !serves(&d, &book, &[hello, reply, sent, ask]));
+    assert!(rt; !serves(&d, &book, &[hello, reply, ask, sent, sent]));
+    assert!(rt; !serves(&d, &book, &[hello, reply, ask, went(PEER, &hash_changed)]));
+    assert!(rt; !serves(&d, &book, &[hello, reply, ask, went(PEER, &byte_changed)]));
+    assert!(rt; !serves(&d, &book, &[hello, reply, ask, went(PEER, &more)]));
     Ok(())
 }
