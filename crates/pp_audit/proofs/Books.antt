@@ -1,18 +1,18 @@
 -- Nodes of a book, and the spans over them.
-use Rattle.std.proofs.Common.{◌≡◌, ◌↔◌, ◌⊎◌, ⊎_elim, ℕ, zero, suc, ◌+◌, ◌-◌, ◌*◌, ◌/◌, ◌^◌, ◌<◌, ◌≤◌, eqb, Bool, true, false, ◌&&◌, Option, Some, None, List, [], ◌∷◌, length, get_or, take, refl, sym, ◌∙◌, ap, subst, arith}
+use Rattle.std.proofs.Common.{◌≡◌, ◌↔◌, ⊎_elim, ℕ, zero, suc, ◌+◌, ◌*◌, ◌/◌, ◌^◌, ◌<◌, ◌≤◌, eqb, Bool, true, false, Option, Some, List, [], ◌∷◌, length, take, refl, sym, ◌∙◌, ap, subst, arith}
 use Rattle.std.specs.List.{AllByRecursion}
 use Rattle.std.proofs.lemmas.Bool.{and_parts, and_from, eqb-true, eq-eqb}
 use Rattle.std.proofs.lemmas.Nat.{pow_pos}
 use Rattle.std.proofs.Math.Nat.{mul-le-mul_right}
 use Rattle.pp_terms.specs.Tree.{Node}
-use Rattle.pp_terms.specs.Bins.{first_leaf, last_leaf, bin_number}
+use Rattle.pp_terms.specs.Bins.{first_leaf, last_leaf}
 use Rattle.pp_terms.specs.Book.{LookUp, IsRooted}
 use Rattle.pp_terms.specs.Descriptor.{Descriptor, height_of}
 use Rattle.pp_terms.specs.Messages.{Span, Message}
 use Rattle.pp_terms.proofs.Binning.{one_bin, leaves}
 use Rattle.pp_terms.specs.Range as ranges
 use Rattle.pp_terms.specs.Range.{leaves_of}
-use Rattle.pp_traffic.specs.Hashes.{is_span_of, Carries}
+use Rattle.pp_traffic.specs.Hashes.{is_span_of}
 use Rattle.pp_tree.specs.Book.{in_cells, cell_of}
 use Rattle.pp_tree.proofs.BinNumbers.{cell_in}
 

@@ -1,11 +1,9 @@
 -- Channels that are open, by tests.
-use Rattle.std.proofs.Common.{◌≡◌, ◌↔◌, ◌<◌, ltb, Bool, true, not, ◌&&◌, ◌||◌, List, arith}
+use Rattle.std.proofs.Common.{ltb, not, ◌&&◌, ◌||◌}
 use Rattle.std.proofs.lemmas.Bool.{and_parts, and_from, not-true, not_from_false, ltb-true, lt-ltb}
-use Rattle.pp_terms.specs.Traffic.{Record}
-use Rattle.pp_terms.specs.Descriptor.{Descriptor}
 use Rattle.pp_traffic.specs.Past.{some_since, is_at}
-use Rattle.pp_traffic.specs.Life.{Life, greets, answers, is_closed, IsLife}
-use Rattle.pp_audit.specs.Tests.{is_life, LivesAreTested}
+use Rattle.pp_traffic.specs.Life.{greets, answers, is_closed}
+use Rattle.pp_audit.specs.Tests.{LivesAreTested}
 
 pub lives_are_tested : LivesAreTested
 lives_are_tested d life past =

@@ -1,10 +1,10 @@
 -- A datagram read message by message.
-use Rattle.std.proofs.Common.{◌≡◌, ⊎_elim, ℕ, suc, ◌+◌, ◌<◌, ◌≤◌, min, Option, Some, None, List, [], ◌∷◌, length, take, drop, refl, sym, ◌∙◌, ap, subst, arith}
+use Rattle.std.proofs.Common.{◌≡◌, ⊎_elim, ℕ, ◌+◌, ◌<◌, ◌≤◌, min, Some, None, List, [], ◌∷◌, length, take, drop, refl, sym, ◌∙◌, ap, arith}
 use Rattle.std.proofs.lemmas.List.{length-take, length-drop, drop-drop, drop_all}
 use Rattle.std.proofs.lemmas.Bool.{le-ltb, lt-ltb, cases_lt}
 use Rattle.pp_terms.specs.Descriptor.{Descriptor}
 use Rattle.pp_terms.specs.Options.{IsBytes}
-use Rattle.pp_terms.specs.Messages.{Message, WireKind, Step, Read, End, Cut, next_message, moved, Messages, messages_at, with_first, messages_from, datagram}
+use Rattle.pp_terms.specs.Messages.{Message, WireKind, Step, Read, End, Cut, next_message, moved, Messages, messages_at, messages_from, datagram}
 use Rattle.pp_terms.proofs.MessageLaws.{IsBytes-drop, read_is_spelt, spelt_some}
 use Rattle.pp_terms.proofs.DatagramLaws.{one_by_one}
 use Rattle.std.specs.Int.{w32, from_be_bytes}

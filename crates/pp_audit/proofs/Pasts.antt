@@ -1,11 +1,9 @@
 -- A recorded list, one entry more.
-use Rattle.std.proofs.Common.{◌≡◌, ⊎_elim, ℕ, suc, ◌+◌, ◌<◌, ◌≤◌, max, ltb, leb, eqb, Bool, true, false, cond, not, ◌&&◌, ◌||◌, List, [], ◌∷◌, ◌++◌, length, get_or, take, map, reverse, refl, sym, ◌∙◌, ap, subst, arith, add-one}
+use Rattle.std.proofs.Common.{◌≡◌, ℕ, ◌+◌, ◌<◌, ◌≤◌, leb, Bool, ◌&&◌, ◌||◌, List, [], ◌∷◌, length, get_or, take, map, reverse, refl, sym, ◌∙◌, ap, arith, add-one}
 use Rattle.std.proofs.Math.Seq.{take-suc}
 use Rattle.std.proofs.lemmas.List.{reverse-append, map-append, length-reverse, length-map, length-take, take_all}
 use Rattle.pp_terms.specs.Traffic.{Record}
-use Rattle.pp_terms.specs.Descriptor.{Descriptor}
-use Rattle.pp_traffic.specs.Past.{some_since, some_until, is_at}
-use Rattle.pp_traffic.specs.Life.{Life, greets, answers, closes_on, shakes_on, is_closed}
+use Rattle.pp_traffic.specs.Past.{some_since}
 use Rattle.pp_audit.specs.declared.entry.Entry.{Entry}
 use Rattle.pp_audit.specs.Entries.{record_of, past}
 

@@ -1,5 +1,5 @@
 -- Tests of the peaks, without looking into them.
-use Rattle.std.proofs.Common.{◌≡◌, ℕ, Bool, ◌&&◌, ◌||◌, List, [], ◌∷◌, map, refl, sym, ◌∙◌, ap}
+use Rattle.std.proofs.Common.{◌≡◌, ℕ, Bool, ◌&&◌, ◌||◌, List, [], ◌∷◌, map, refl, ◌∙◌, ap}
 use Rattle.std.specs.List.{list_any, list_all}
 use Rattle.pp_terms.specs.Tree.{Node, peaks}
 use Rattle.pp_traffic.specs.Hashes.{same_node, is_peak}

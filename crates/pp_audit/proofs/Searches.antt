@@ -1,5 +1,5 @@
 -- A search finds a channel exactly where there is one.
-use Rattle.std.proofs.Common.{◌≡◌, ◌⊎◌, ⊎_elim, ℕ, zero, suc, ◌+◌, ◌<◌, ◌≤◌, eqb, Bool, true, false, cond, not, ◌&&◌, ◌||◌, Option, Some, None, List, [], ◌∷◌, ◌++◌, length, refl, sym, ◌∙◌, ap, subst, arith}
+use Rattle.std.proofs.Common.{◌≡◌, ⊎_elim, ℕ, zero, suc, ◌<◌, eqb, Bool, true, false, cond, not, ◌&&◌, ◌||◌, Option, Some, None, List, [], ◌∷◌, ◌++◌, length, refl, sym, ◌∙◌, ap, subst, arith}
 use Rattle.std.specs.Option.{option_map_or}
 use Rattle.std.proofs.lemmas.Bool.{and_parts, and_from, or_cases, or_left, or_right, not-true, not_from_false, eqb-true, cases_eq}
 use Rattle.pp_terms.specs.Traffic.{Address, Record}
@@ -7,12 +7,11 @@ use Rattle.pp_terms.specs.Options.{Options}
 use Rattle.pp_terms.specs.Descriptor.{Descriptor, chunks_of}
 use Rattle.pp_terms.specs.Messages.{Message}
 use Rattle.pp_traffic.specs.Past.{read, goes_to, is_number}
-use Rattle.pp_traffic.specs.Life.{Life, IsLife, answers, begins_as}
+use Rattle.pp_traffic.specs.Life.{Life, answers, begins_as}
 use Rattle.pp_traffic.specs.Story.{story}
 use Rattle.pp_traffic.specs.Asking.{choked, asked, is_heard}
 use Rattle.pp_traffic.specs.Hashes.{is_told, completes, brings}
 use Rattle.pp_traffic.specs.Serving.{Window, AnswersOn, AnswersPeer}
-use Rattle.pp_traffic.specs.Places.{StandsFrom}
 use Rattle.pp_traffic.proofs.Standing.{found_since}
 use Rattle.pp_traffic.proofs.OneMore.{lives_began}
 use Rattle.pp_audit.specs.Parts.{first_shake}

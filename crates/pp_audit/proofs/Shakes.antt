@@ -1,5 +1,5 @@
 -- What the handshakes of a datagram say of it, message by message.
-use Rattle.std.proofs.Common.{◌≡◌, ℕ, eqb, Bool, true, false, cond, ◌&&◌, ◌||◌, Option, Some, None, List, [], ◌∷◌, refl}
+use Rattle.std.proofs.Common.{◌≡◌, ℕ, eqb, Bool, false, cond, ◌&&◌, ◌||◌, None, List, [], ◌∷◌, refl}
 use Rattle.std.specs.Prelude.{is_some}
 use Rattle.std.specs.Option.{option_map_or}
 use Rattle.pp_terms.specs.Descriptor.{Descriptor}

@@ -1,5 +1,5 @@
 -- A question on a story, line by line.
-use Rattle.std.proofs.Common.{◌≡◌, ℕ, ◌+◌, ◌<◌, ◌≤◌, leb, eqb, Bool, true, false, cond, List, [], ◌∷◌, length, get_or, refl, sym, ◌∙◌, ap, arith}
+use Rattle.std.proofs.Common.{◌≡◌, ℕ, ◌+◌, ◌<◌, leb, eqb, Bool, true, false, cond, List, [], ◌∷◌, length, get_or, refl, sym, ◌∙◌, ap, arith}
 use Rattle.pp_terms.specs.Traffic.{Record, Received, Quiet, Sent}
 use Rattle.pp_terms.specs.Descriptor.{Descriptor, chunks_of}
 use Rattle.pp_terms.specs.Messages.{Message}
@@ -10,7 +10,7 @@ use Rattle.pp_audit.specs.declared.entry.Entry.{Entry}
 use Rattle.pp_audit.specs.declared.standing.Question.{Question}
 use Rattle.pp_audit.specs.declared.standing.Question.TheVariants as q
 use Rattle.pp_audit.specs.declared.standing.Standing.{Standing}
-use Rattle.pp_audit.specs.Entries.{record_of, past}
+use Rattle.pp_audit.specs.Entries.{record_of}
 use Rattle.pp_audit.specs.Standing.{standing_of, heard_by, said_by, hear_all, say_all, after_told, after_record, none, story_since}
 use Rattle.pp_audit.proofs.Pasts.{first, one_more, length_first}
 

@@ -5,7 +5,6 @@ use Rattle.pp_terms.specs.Traffic.{Record}
 use Rattle.pp_terms.specs.Tree.{Node, peaks}
 use Rattle.pp_terms.specs.Bins.{sibling_of}
 use Rattle.pp_terms.specs.Descriptor.{Descriptor, chunks_of}
-use Rattle.pp_terms.specs.Messages.{Message}
 use Rattle.pp_traffic.specs.Life.{Life}
 use Rattle.pp_traffic.specs.Story.{story}
 use Rattle.pp_traffic.specs.Hashes as terms

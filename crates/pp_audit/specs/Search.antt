@@ -1,6 +1,6 @@
 -- The search for a channel on which a chunk was served: over every source of a handshake that was sent to its receiver,
 -- every place of an opening, and both kinds of opening.
-use Rattle.std.specs.Prelude.{◌≡◌, ◌↔◌, ℕ, zero, suc, Bool, true, false, not, ◌&&◌, ◌||◌, Option, Some, None, List, [], ◌∷◌, length}
+use Rattle.std.specs.Prelude.{◌≡◌, ◌↔◌, ℕ, zero, suc, Bool, true, false, not, ◌&&◌, ◌||◌, Some, List, [], ◌∷◌, length}
 use Rattle.std.specs.Option.{option_map_or}
 use Rattle.pp_terms.specs.Traffic.{Address, Record}
 use Rattle.pp_terms.specs.Descriptor.{Descriptor, chunks_of}

@@ -1,8 +1,8 @@
 -- One question on a channel's story, with whether a choke stands, told from one line to the next.
-use Rattle.std.specs.Prelude.{◌≡◌, ℕ, ◌==◌, nat_le, Bool, true, false, not, ◌&&◌, ◌||◌, if◌then◌else◌, List, [], ◌∷◌, length}
+use Rattle.std.specs.Prelude.{ℕ, ◌==◌, nat_le, Bool, false, ◌||◌, if◌then◌else◌, List, [], ◌∷◌, length}
 use Rattle.pp_terms.specs.Traffic.{Record, Received, Quiet, Sent}
 use Rattle.pp_terms.specs.Descriptor.{Descriptor, chunks_of}
-use Rattle.pp_terms.specs.Messages.{Message, Handshake, Data, Ack, Have, Integrity, Pex4, PexReq, Request, Cancel, Choke, Unchoke, Pex6}
+use Rattle.pp_terms.specs.Messages.{Message, Ack}
 use Rattle.pp_traffic.specs.Past.{now}
 use Rattle.pp_traffic.specs.Life.{Life}
 use Rattle.pp_traffic.specs.Story.{Line, Heard, Said, Taken, heard_in, said_in, told, story}

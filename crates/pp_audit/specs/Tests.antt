@@ -1,5 +1,5 @@
 -- Tests on records, as they are asked of a channel; and what they decide of it.
-use Rattle.std.specs.Prelude.{◌≡◌, ◌↔◌, ℕ, ◌==◌, nat_lt, Bool, true, not, ◌&&◌, ◌||◌, List, length}
+use Rattle.std.specs.Prelude.{◌≡◌, ◌↔◌, nat_lt, Bool, true, not, ◌&&◌, ◌||◌, List}
 use Rattle.pp_terms.specs.Traffic.{Record}
 use Rattle.pp_terms.specs.Descriptor.{Descriptor}
 use Rattle.pp_traffic.specs.Past as terms

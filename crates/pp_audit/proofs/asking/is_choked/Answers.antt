@@ -1,9 +1,6 @@
 use Rattle.std.proofs.Common.{List, ◌∙◌, ap}
-use Rattle.pp_terms.specs.Descriptor.{chunks_of}
 use Rattle.pp_traffic.specs.Asking as asking
-use Rattle.pp_traffic.specs.Hashes as hashes
 use Rattle.pp_traffic.specs.Story.{Line}
-use Rattle.pp_tree.specs.Node.{node_of}
 use Rattle.pp_audit.specs.declared.standing.Standing.{Standing}
 use Rattle.pp_audit.specs.Entries.{past, life_of}
 use Rattle.pp_audit.proofs.Standings.{since_opening}

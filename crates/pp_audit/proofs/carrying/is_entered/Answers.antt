@@ -1,4 +1,4 @@
-use Rattle.std.proofs.Common.{◌<◌, refl, arith}
+use Rattle.std.proofs.Common.{refl, arith}
 use Rattle.pp_tree.specs.Node.{node_of}
 use Rattle.pp_tree.specs.Book.{entry}
 use Rattle.pp_tree.proofs.BinNumbers.{shifted}

@@ -1,4 +1,4 @@
-use Rattle.std.proofs.Common.{◌≡◌, ◌<◌, ◌≤◌, ◌-◌, length, refl, arith}
+use Rattle.std.proofs.Common.{◌<◌, ◌-◌, length, refl, arith}
 use Rattle.std.proofs.lemmas.List.{get_or_default}
 use Rattle.pp_audit.specs.Entries.{life_of}
 use Rattle.pp_audit.proofs.Flights.{counts_none, counts_more, few_counted}

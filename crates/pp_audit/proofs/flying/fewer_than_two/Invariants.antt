@@ -1,7 +1,5 @@
-use Rattle.std.proofs.Common.{◌≡◌, ◌≤◌, ◌-◌, ◌^◌, min, length}
-use Rattle.pp_traffic.specs.Flight.{in_flight}
-use Rattle.pp_audit.specs.Entries.{past, life_of}
-use Rattle.pp_audit.specs.Standing.{story_since}
+use Rattle.std.proofs.Common.{◌≤◌, length}
+use Rattle.pp_audit.specs.Entries.{life_of}
 use Rattle.pp_audit.proofs.Flights.{Counts}
 use Rattle.pp_audit.proofs.flying.fewer_than_two.Given as goal
 

@@ -1,4 +1,4 @@
-use Rattle.std.proofs.Common.{◌≡◌, ◌≤◌, ◌+◌, ◌-◌, suc, Some, None, Option, Bool, refl, sym, ◌∙◌, ap, arith}
+use Rattle.std.proofs.Common.{◌≡◌, ◌+◌, ◌-◌, suc, Some, Option, Bool, refl, sym, ◌∙◌, ap, arith}
 use Rattle.pp_terms.specs.Tree.{Node}
 use Rattle.pp_terms.specs.Bins.{parent_of}
 use Rattle.pp_terms.specs.Descriptor.{chunks_of}

@@ -1,5 +1,4 @@
 use Rattle.std.proofs.Common.{◌≡◌, ◌≤◌, ◌+◌}
-use Rattle.pp_terms.specs.Tree.{height}
 use Rattle.pp_terms.specs.Descriptor.{chunks_of}
 use Rattle.pp_traffic.specs.Hashes.{completes, completes_from}
 use Rattle.pp_tree.specs.Node.{node_of}

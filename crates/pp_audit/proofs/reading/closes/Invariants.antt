@@ -1,8 +1,5 @@
 use Rattle.std.proofs.Common.{◌≡◌, ◌≤◌, ◌-◌, length}
-use Rattle.std.specs.List.{list_any}
-use Rattle.pp_traffic.specs.Story as stories
 use Rattle.pp_traffic.specs.Life as lives
-use Rattle.pp_traffic.specs.Plain.{is_handshake}
 use Rattle.pp_audit.specs.Parts.{all, rest}
 use Rattle.pp_audit.proofs.reading.closes.Given as goal
 

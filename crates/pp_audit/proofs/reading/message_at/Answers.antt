@@ -1,4 +1,4 @@
-use Rattle.std.proofs.Common.{◌<◌, arith}
+use Rattle.std.proofs.Common.{arith}
 use Rattle.pp_audit.proofs.Messages.{stands, none_at_end, none_at_fault}
 use Rattle.pp_audit.proofs.reading.message_at.Goals as goal
 

@@ -1,4 +1,4 @@
-use Rattle.std.proofs.Common.{◌≡◌, ◌∙◌, Bool, true, sym, take}
+use Rattle.std.proofs.Common.{◌∙◌, sym, take}
 use Rattle.pp_traffic.specs.Flight.{fewer_than_two}
 use Rattle.pp_outside.specs.Outside.{address_of}
 use Rattle.pp_audit.specs.Entries.{past}

@@ -1,7 +1,6 @@
 use Rattle.std.proofs.Common.{◌≡◌, ◌≤◌, ◌-◌, length}
-use Rattle.pp_terms.specs.Descriptor.{chunks_of}
 use Rattle.pp_audit.specs.Parts.{rest}
-use Rattle.pp_audit.specs.Standing.{hear_all, say_all}
+use Rattle.pp_audit.specs.Standing.{say_all}
 use Rattle.pp_audit.proofs.standing.say.Given as goal
 
 abbrev pub invariant-messages : goal.invariant-messages
