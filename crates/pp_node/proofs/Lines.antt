@@ -88,7 +88,7 @@ pub not_a_store_said : {T E : Type 0} (at found want at' found' want' : ℕ) (ol
     → OnOk result (Gains b (decimal want' ++ 10 ∷ []) new) → OnOk result (Gains old (not_a_store_line at found want) new)
 not_a_store_said at found want at' found' want' old a b new result at_is found_is want_is one two three =
     let same : not_a_store_line at' found' want' ≡ not_a_store_line at found want =
-        ap (λ (n : ℕ). not_a_store_line n found' want') at_is ∙ ap (λ (n : ℕ). not_a_store_line at n want') found_is ∙ ap (λ (n : ℕ). not_a_store_line at found n) want_is in
+    ap (λ (n : ℕ). not_a_store_line n found' want') at_is ∙ ap (λ (n : ℕ). not_a_store_line at n want') found_is ∙ ap (λ (n : ℕ). not_a_store_line at found n) want_is in
     subst (λ (t : List ℕ). OnOk result (Gains old t new)) same (not_a_store_put at' found' want' old a b new result one two three)
 
 pub held_said : {T E : Type 0} (set : List Bool) (held chunks : ℕ) (old a b c new : SinkState) (result : Result T E)
@@ -108,6 +108,6 @@ held_said set held chunks old a b c new (Ok x) held_is chunks_is one two ranges 
           ∙ ap (λ (n : ℕ). codes "held " ++ decimal n ++ codes " of " ++ decimal chunks ++ codes " " ++ shown ++ 10 ∷ []) held_is
           ∙ ap (λ (n : ℕ). codes "held " ++ decimal (count_by (λ b. b) set) ++ codes " of " ++ decimal n ++ codes " " ++ shown ++ 10 ∷ []) chunks_is)
           (gains_more old.taken c.taken new.taken (front ++ middle ++ shown) (10 ∷ [])
-            (gains_more old.taken b.taken c.taken (front ++ middle) shown (gains_more old.taken a.taken b.taken front middle one two) ranges.gained) end);
+          (gains_more old.taken b.taken c.taken (front ++ middle) shown (gains_more old.taken a.taken b.taken front middle one two) ranges.gained) end);
     }
 held_said set held chunks old a b c new (Err e) held_is chunks_is one two ranges end = tt

@@ -1,24 +1,20 @@
 -- What is found in a store that was attached.
-use Rattle.std.proofs.Common.{◌≡◌, ◌⊎◌, inl, inr, ⊎_elim, ℕ, ◌<◌, ◌≤◌, ◌==◌, Bool, true, false, List, [], length, get_or, Result, Ok, Err, refl, sym, ◌∙◌, ap, subst, arith}
-use Rattle.std.specs.Prelude.{◌&&◌, is_some}
+use Rattle.std.proofs.Common.{◌≡◌, ⊎_elim, ℕ, ◌<◌, ◌≤◌, Bool, true, false, List, length, get_or, Result, Ok, Err, sym, ◌∙◌, ap, subst, arith}
 use Rattle.std.proofs.lemmas.Bool.{cases_lt, false≢true}
 use Rattle.std.proofs.lemmas.List.{get_or_past}
-use Rattle.pp_terms.specs.Content.{chunk_length}
 use Rattle.pp_terms.specs.Book.{LookUp}
 use Rattle.pp_terms.specs.Descriptor.{Descriptor, chunks_of}
-use Rattle.pp_terms.specs.Store.{chunk_place}
-use Rattle.pp_terms.specs.Image.{slice, known, matches, has_peaks, holds}
-use Rattle.pp_terms.specs.Disk.{DiskState, History, IsKnown, DoesAttach}
+use Rattle.pp_terms.specs.Image.{known, holds}
+use Rattle.pp_terms.specs.Disk.{DiskState, History, IsKnown}
 use Rattle.pp_terms.proofs.Knowing.{known_on}
 use Rattle.pp_scan.specs.declared.scanning.ScanFault.{ScanFault}
 use Rattle.pp_scan.specs.declared.scanning.ScanFault.TheVariants.{NotAStore, Disk, Memory}
-use Rattle.pp_scan.specs.Look.{KeepsAll, OnlySyncs, synced}
-use Rattle.pp_scan.specs.Layers.{HasKnown}
+use Rattle.pp_scan.specs.Look.{KeepsAll, OnlySyncs}
 use Rattle.pp_scan.specs.Holding.{is_there}
 use Rattle.pp_scan.specs.Scan as scan
 use Rattle.pp_scan.proofs.Holds.{held_there}
 use Rattle.pp_node.specs.Run.{IsFreshlyAttached}
-use Rattle.pp_node.specs.Looking.{IsOf, IsFound, IsOther, HasLooked, IsUnwritten}
+use Rattle.pp_node.specs.Looking.{IsOf, IsFound, HasLooked, IsUnwritten}
 
 in_set : (set : List Bool) (i : ℕ) → get_or set i false ≡ true → i < length set
 in_set set i is = ⊎_elim (λ lt. lt) (λ past. absurd (false≢true (sym (get_or_past set i false past) ∙ is))) (cases_lt i (length set))

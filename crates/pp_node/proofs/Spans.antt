@@ -1,13 +1,13 @@
 -- The ranges of a set's numbers.
-use Rattle.std.proofs.Common.{◌≡◌, ◌⊎◌, inl, inr, ⊎_elim, ℕ, ◌+◌, ◌-◌, ◌<◌, ◌≤◌, nat_le, Bool, true, false, ◌&&◌, ◌||◌, List, [], ◌∷◌, ◌++◌, length, get_or, codes, decimal, refl, sym, ◌∙◌, ap, subst, arith, append_assoc}
-use Rattle.std.proofs.lemmas.Bool.{cases_lt, cases_Bool, false≢true}
+use Rattle.std.proofs.Common.{◌≡◌, ⊎_elim, ℕ, ◌+◌, ◌-◌, ◌<◌, ◌≤◌, Bool, true, false, ◌||◌, List, [], ◌∷◌, ◌++◌, length, get_or, codes, decimal, refl, sym, ◌∙◌, ap, subst, arith, append_assoc}
+use Rattle.std.proofs.lemmas.Bool.{cases_lt, false≢true}
 use Rattle.std.proofs.lemmas.Bool.Decides.{nat_tests}
 use mathlib.Core.Bool.{beq}
 use Rattle.std.specs.Prelude.{Result, Ok, Err, OnOk}
 use Rattle.std.proofs.lemmas.List.{get_or_past, append-nil}
 use Rattle.pp_terms.specs.Range.{Span, within, has, IsRunsFrom}
 use Rattle.pp_terms.specs.Stream.{SinkState, Gains}
-use Rattle.pp_node.specs.Held.{span_text, more_text, ranges_text, AreRanges, HasRanges, HasMore}
+use Rattle.pp_node.specs.Held.{span_text, more_text, HasRanges, HasMore}
 use Rattle.pp_node.proofs.Written.{gains-nil, gains_more}
 
 -- no range reaches the number before
@@ -107,15 +107,15 @@ above_end set end first free low within held = ⊎_elim (λ lt. lt) (λ ge.
     absurd (false≢true (sym (free (omega arith)) ∙ ap (λ (k : ℕ). get_or set k false) (sym e) ∙ held))) (cases_lt end first)
 
 module _ (set : List Bool) (from end first next : ℕ) (old mid new : SinkState) (put : IsPut set from end old mid)
-  (low : end ≤ first) (within_first : first < length set)
-  (unheld : (k : ℕ) → end ≤ k → k < first → get_or set k false ≡ true → ⊥)
-  (held_first : get_or set first false ≡ true)
-  (order : first < next)
-  (within_next : next ≤ length set)
-  (held : (k : ℕ) → first ≤ k → k < next → get_or set k false ≡ false → ⊥)
-  (free_next : next < length set → get_or set next false ≡ false)
-  (later : mid.faults ≤ new.faults)
-  (gained : Gains mid.taken (codes "," ++ decimal first ++ codes "-" ++ decimal (next - 1)) new.taken) where
+    (low : end ≤ first) (within_first : first < length set)
+    (unheld : (k : ℕ) → end ≤ k → k < first → get_or set k false ≡ true → ⊥)
+    (held_first : get_or set first false ≡ true)
+    (order : first < next)
+    (within_next : next ≤ length set)
+    (held : (k : ℕ) → first ≤ k → k < next → get_or set k false ≡ false → ⊥)
+    (free_next : next < length set → get_or set next false ≡ false)
+    (later : mid.faults ≤ new.faults)
+    (gained : Gains mid.taken (codes "," ++ decimal first ++ codes "-" ++ decimal (next - 1)) new.taken) where
   above : end < first
   above = above_end set end first put.free low within_first held_first
 
@@ -123,10 +123,10 @@ module _ (set : List Bool) (from end first next : ℕ) (old mid new : SinkState)
   same_now i from_low lt = has_more put.ranges (from_to first next) i ∙ ⊎_elim
       (λ (below : i < end). ap (λ (b : Bool). has put.ranges i || b) (within_low (from_to first next) i (omega (arith, above))) ∙ or_false (has put.ranges i) ∙ put.same i from_low below)
       (λ past. let none : has put.ranges i ≡ false = has_past end i put.ranges put.ends past in
-        ap (λ (b : Bool). b || within (from_to first next) i) none ∙ ⊎_elim
-        (λ (between : i < first). within_low (from_to first next) i between ∙ sym (is_false (get_or set i false) (unheld i past between)))
-        (λ on. within_in (from_to first next) i on (omega arith) ∙ sym (is_true (get_or set i false) (held i on lt)))
-        (cases_lt i first))
+      ap (λ (b : Bool). b || within (from_to first next) i) none ∙ ⊎_elim
+      (λ (between : i < first). within_low (from_to first next) i between ∙ sym (is_false (get_or set i false) (unheld i past between)))
+      (λ on. within_in (from_to first next) i on (omega arith) ∙ sym (is_true (get_or set i false) (held i on lt)))
+      (cases_lt i first))
       (cases_lt i end)
 
   pub put_one : IsPut set from next old new
@@ -183,9 +183,9 @@ all_ranges set first end old mid new unheld order held one more = record {
     same_at : (i : ℕ) → (within (from_to first end) i || has more.ranges i) ≡ get_or set i false
     same_at i = ⊎_elim
         (λ (below : i < end). ap (λ (b : Bool). within (from_to first end) i || b) (has_below (end + 1) i more.ranges more.runs (omega arith)) ∙ or_false (within (from_to first end) i) ∙ ⊎_elim
-          (λ (before : i < first). within_low (from_to first end) i before ∙ sym (is_false (get_or set i false) (unheld i (omega arith) before)))
-          (λ on. within_in (from_to first end) i on (omega arith) ∙ sym (is_true (get_or set i false) (held i on below)))
-          (cases_lt i first))
+        (λ (before : i < first). within_low (from_to first end) i before ∙ sym (is_false (get_or set i false) (unheld i (omega arith) before)))
+        (λ on. within_in (from_to first end) i on (omega arith) ∙ sym (is_true (get_or set i false) (held i on below)))
+        (cases_lt i first))
         (λ past. ap (λ (b : Bool). b || has more.ranges i) (within_past (from_to first end) i (omega arith)) ∙ more.same i past)
         (cases_lt i end)
 

@@ -14,24 +14,32 @@ fn is_built(name: &str) -> bool
     matches!(name, "import" | "seed" | "check")
 }
 
-/// The command that the words spell, if it is built and served, or the first wrong word. The name of a command that isn't
-/// built is no command's.
+/// The command that the words spell, if it is built and served, or the first wrong word.
 pub(crate) fn read_built(words: &[String]) -> Result<Command<'_>, Usage>
-    ensures ok { IfOk result (λ c. Spells (texts words.now) (command_of c) × IsOneOf built (command_of c) × IsServed (command_of c)) }
+    ensures ok { IfOk result (λ c. Spells (texts words.now) (command_of c) × IsOneOf built (command_of c)) }
+    ensures served { IfOk result (λ c. IsServed (command_of c)) }
     ensures err { IfErr result (λ u. IsFirstWrong built (texts words.now) (usage_of u) ⊎ IsTooLarge (texts words.now) (usage_of u)) }
+{
+    match read_named(words) {
+        Ok(command) => match unserved(&command) {
+            Some(usage) => Err(usage),
+            None => Ok(command),
+        },
+        Err(usage) => Err(usage),
+    }
+}
+
+// The command that the words spell, if it is built. The name of a command that isn't built is no command's.
+fn read_named(words: &[String]) -> Result<Command<'_>, Usage>
+    ensures ok { IfOk result (λ c. Spells (texts words.now) (command_of c) × IsOneOf built (command_of c)) }
+    ensures err { IfErr result (λ u. IsFirstWrong built (texts words.now) (usage_of u)) }
 {
     match words {
         [name, ..] if !is_built(name.as_str()) => Err(Usage {
             word: 0,
             kind: UsageKind::Command,
         }),
-        _ => match read_words(words) {
-            Ok(command) => match unserved(&command) {
-                Some(usage) => Err(usage),
-                None => Ok(command),
-            },
-            Err(usage) => Err(usage),
-        },
+        _ => read_words(words),
     }
 }
 

@@ -9,11 +9,7 @@ use pp_outside::{Sink, SinkFault};
 use pp_tree::ChunkSet;
 
 /// Prints `held H of N RANGES`: how many chunks are in the set of the first N, and their ranges in rising order.
-pub(crate) fn put_held<K: Sink>(
-    set: &ChunkSet,
-    chunks: u32,
-    sink: &mut K,
-) -> Result<(), SinkFault>
+pub(crate) fn put_held<K: Sink>(set: &ChunkSet, chunks: u32, sink: &mut K) -> Result<(), SinkFault>
     requires { chunks ≡ length set.now }
     ensures said { OnOk result (SaysHeld set.now (K.state sink.old) (K.state sink.new)) }
     ensures cause { HasCause (K.state sink.old).faults (K.state sink.new).faults result }
@@ -40,12 +36,7 @@ fn put_ranges<K: Sink>(set: &ChunkSet, chunks: u32, sink: &mut K) -> Result<(), 
 }
 
 // The ranges from a number on that isn't in the set.
-fn put_more<K: Sink>(
-    set: &ChunkSet,
-    chunks: u32,
-    from: u32,
-    sink: &mut K,
-) -> Result<(), SinkFault>
+fn put_more<K: Sink>(set: &ChunkSet, chunks: u32, from: u32, sink: &mut K) -> Result<(), SinkFault>
     requires size { chunks ≡ length set.now }
     requires within { from ≤ chunks }
     requires free { from < chunks → slice_index_or set.now from false ≡ false }
@@ -64,12 +55,7 @@ fn put_more<K: Sink>(
 }
 
 // One range, given by its first number and the one behind its last.
-fn put_range<K: Sink>(
-    sink: &mut K,
-    before: &[u8],
-    first: u32,
-    end: u32,
-) -> Result<(), SinkFault>
+fn put_range<K: Sink>(sink: &mut K, before: &[u8], first: u32, end: u32) -> Result<(), SinkFault>
     requires { first < end }
     ensures gained { OnOk result (Gains (K.state sink.old).taken
         (before.now ++ decimal first ++ codes "-" ++ decimal (end - 1)) (K.state sink.new).taken) }

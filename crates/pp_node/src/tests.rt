@@ -159,7 +159,10 @@ fn names_the_first_byte_of_another_file(rt: HostRuntime) -> Result<(), Fail> {
     image[11] = 1;
     let ran = check_of(alloc, DESCRIPTOR_OF_ABC, &image)?;
     assert_eq!(rt; ran.status, 2);
-    assert_eq!(rt; ran.sink.bytes(), b"not a store: byte 11 is 1, wanted 0\n".as_slice());
+    assert_eq!(rt;
+        ran.sink.bytes(),
+        b"not a store: byte 11 is 1, wanted 0\n".as_slice()
+    );
     Ok(())
 }
 

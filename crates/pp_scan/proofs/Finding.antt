@@ -1,9 +1,8 @@
 -- What a scan finds, step by step.
-use Rattle.std.proofs.Common.{◌≡◌, ◌⊎◌, inl, inr, ⊎_elim, ℕ, ◌+◌, ◌-◌, ◌*◌, ◌<◌, ◌≤◌, min, Bool, true, false, not, List, [], length, get_or, replicate, Result, Ok, Err, OnOk, refl, sym, ◌∙◌, ap, subst, arith}
+use Rattle.std.proofs.Common.{◌≡◌, ◌⊎◌, inl, inr, ℕ, ◌<◌, ◌≤◌, Bool, true, false, not, List, [], length, get_or, replicate, Result, Ok, Err, refl, sym, ◌∙◌, ap, subst, arith}
 use Rattle.std.specs.Prelude.{is_some}
 use Rattle.std.proofs.lemmas.Bool.{false≢true}
 use Rattle.std.proofs.lemmas.List.{length-replicate}
-use Rattle.pp_terms.specs.Count.{HasRisen}
 use Rattle.pp_terms.specs.Content.{chunk_length}
 use Rattle.pp_terms.specs.Book.{LookUp}
 use Rattle.pp_terms.specs.Descriptor.{Descriptor, chunks_of, IsDescriptor}
@@ -14,11 +13,11 @@ use Rattle.pp_tree.proofs.Sizes.{chunk_size_range, chunk_begins}
 use Rattle.pp_tree.specs.Book.{HasRootAlone}
 use Rattle.pp_scan.specs.declared.scanning.ScanFault.{ScanFault}
 use Rattle.pp_scan.specs.declared.scanning.ScanFault.TheVariants.{NotAStore, Disk, Memory}
-use Rattle.pp_scan.specs.Look.{KeepsAll, OnlyReads, OnlySyncs, synced}
+use Rattle.pp_scan.specs.Look.{KeepsAll, OnlySyncs, synced}
 use Rattle.pp_scan.specs.Header.{HasHeader}
 use Rattle.pp_scan.specs.Layers.{HasKnown, HasOnlyKnown}
 use Rattle.pp_scan.specs.Holding.{is_there}
-use Rattle.pp_scan.specs.Scan.{IsScanned, IsOther, HasFound}
+use Rattle.pp_scan.specs.Scan.{IsScanned, HasFound}
 use Rattle.pp_scan.proofs.Reading.{known_after}
 use Rattle.pp_scan.proofs.Holds.{held_there, none_held, empty_none, empty_known, none_in}
 

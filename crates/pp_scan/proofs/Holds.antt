@@ -1,6 +1,6 @@
 -- The chunks that a file holds, by its book.
-use Rattle.std.proofs.Common.{◌≡◌, ◌⊎◌, inl, inr, ⊎_elim, ℕ, zero, suc, ◌+◌, ◌-◌, ◌*◌, ◌/◌, ◌%◌, ◌<◌, ◌≤◌, ◌==◌, ◌||◌, nat_eq, nat_le, Bool, true, false, cond, Option, Some, None, List, [], length, get_or, take, drop, replicate, refl, sym, ◌∙◌, ap, subst, arith}
-use Rattle.std.specs.Prelude.{◌&&◌, is_some}
+use Rattle.std.proofs.Common.{◌≡◌, ⊎_elim, ℕ, suc, ◌-◌, ◌/◌, ◌<◌, ◌==◌, nat_eq, nat_le, Bool, true, false, cond, Option, Some, None, List, [], length, get_or, drop, replicate, refl, sym, ◌∙◌, ap, arith}
+use Rattle.std.specs.Prelude.{◌&&◌}
 use Rattle.std.specs.Cmp.Lexicographic.{pointwise}
 use Rattle.std.proofs.lemmas.Bool.{cases_lt}
 use Rattle.std.proofs.lemmas.Bool.Decides.{nat_tests}
@@ -9,12 +9,11 @@ use Rattle.sha2.specs.Sha256.{sha256}
 use Rattle.pp_terms.specs.Content.{chunk_length}
 use Rattle.pp_terms.specs.Book.{LookUp}
 use Rattle.pp_terms.specs.Descriptor.{Descriptor, chunks_of, height_of}
-use Rattle.pp_terms.specs.Image.{slice, child, known, known_below, matches, has_peaks, holds}
+use Rattle.pp_terms.specs.Image.{slice, known, known_below, matches, has_peaks, holds}
 use Rattle.pp_terms.specs.Store.{chunk_place, pair_place}
 use Rattle.pp_tree.specs.Book.{HasRootAlone}
 use Rattle.pp_scan.specs.Layers.{HasKnown, HasOnlyKnown}
 use Rattle.pp_scan.specs.Holding.{is_there}
-use Rattle.pp_scan.proofs.Reading.{read_slice}
 use Rattle.pp_scan.proofs.Children.{child_short}
 
 -- the bytes that were read have the digest that the book has

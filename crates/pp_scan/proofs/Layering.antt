@@ -1,11 +1,10 @@
 -- A layer of a tree, node by node, and one layer after the other.
-use Rattle.std.proofs.Common.{◌≡◌, ◌⊎◌, inl, inr, ⊎_elim, ℕ, zero, suc, ◌+◌, ◌-◌, ◌*◌, ◌/◌, ◌%◌, ◌^◌, ◌<◌, ◌≤◌, ◌==◌, nat_le, Bool, true, false, cond, Option, Some, None, List, [], length, take, drop, refl, sym, ◌∙◌, ap, subst, arith}
+use Rattle.std.proofs.Common.{◌≡◌, ⊎_elim, ℕ, zero, suc, ◌+◌, ◌-◌, ◌*◌, ◌/◌, ◌%◌, ◌^◌, ◌<◌, ◌≤◌, ◌==◌, nat_le, Bool, true, false, cond, Option, Some, None, List, sym, ◌∙◌, ap, arith}
 use Rattle.std.proofs.Math.Nat.{mul-le-mul_left, mod-eq_of_lt}
 use Rattle.std.proofs.Math.Pow.{pow_mono, pow-lt}
-use Rattle.std.proofs.lemmas.Nat.{pow_pos}
 use Rattle.std.proofs.lemmas.Bool.{cases_lt, cases_eq}
 use Rattle.std.proofs.lemmas.Bool.Decides.{nat_tests}
-use Rattle.pp_terms.specs.Book.{LookUp, IsRooted}
+use Rattle.pp_terms.specs.Book.{LookUp}
 use Rattle.pp_terms.specs.Descriptor.{Descriptor, height_of}
 use Rattle.pp_terms.specs.Image.{slice, child, known, known_below}
 use Rattle.pp_terms.specs.Store.{chunk_place, pair_place}

@@ -1,8 +1,7 @@
 -- Calls that only read, one after the other, and what they read.
-use Rattle.std.proofs.Common.{◌≡◌, ℕ, ◌+◌, ◌-◌, ◌<◌, ◌≤◌, min, List, [], ◌∷◌, length, get_or, take, drop, Result, Ok, Err, refl, sym, ◌∙◌, ap, arith}
+use Rattle.std.proofs.Common.{◌≡◌, ℕ, ◌+◌, ◌<◌, ◌≤◌, List, [], ◌∷◌, length, get_or, take, drop, Result, Ok, Err, refl, sym, ◌∙◌, arith}
 use Rattle.std.proofs.lemmas.Grind.{same_number_lists}
 use Rattle.std.proofs.lemmas.List.{places, length-take, length-drop}
-use Rattle.pp_terms.specs.Count.{HasCause}
 use Rattle.pp_terms.specs.Disk.{DiskState, IsKnown, IsRead, DoesRead, DoesLen}
 use Rattle.pp_terms.specs.Image.{slice}
 use Rattle.pp_terms.proofs.Knowing.{known_on}

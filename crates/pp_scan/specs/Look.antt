@@ -1,5 +1,5 @@
 -- Calls that only read a disk, and a sync before them.
-use Rattle.std.specs.Prelude.{◌≡◌, ◌⊎◌, ℕ, ◌≤◌, Result}
+use Rattle.std.specs.Prelude.{◌≡◌, ◌⊎◌, ◌≤◌, Result}
 use Rattle.pp_terms.specs.Count.{HasCause}
 use Rattle.pp_terms.specs.Disk.{DiskState, History, IsKnown, moment_of, settled}
 

@@ -1,5 +1,5 @@
 use Rattle.pp_tree.specs.Book.{entry}
-use Rattle.pp_node.proofs.Looks.{looked_scan, unwritten_scan}
+use Rattle.pp_node.proofs.Looks.{looked_scan}
 use Rattle.pp_node.proofs.looking.look_into.Goals as goal
 
 pub returns-in-Ok-clause-looked : goal.returns-in-Ok-clause-looked

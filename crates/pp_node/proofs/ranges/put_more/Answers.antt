@@ -1,4 +1,4 @@
-use Rattle.std.proofs.Common.{◌<◌, ◌≤◌, length, arith, refl}
+use Rattle.std.proofs.Common.{◌<◌, arith, refl}
 use Rattle.pp_node.proofs.Lines.{cause_later}
 use Rattle.pp_node.proofs.Spans.{put_none, put_one, put_all_of, beyond}
 use Rattle.pp_node.proofs.ranges.put_more.Goals as goal
@@ -25,7 +25,7 @@ loop-chunks-smaller g c =
     let other = c.if-first-chunks.false in
     let within : c.next_with-first.result < c.args.chunks = omega (arith, first.within, other) in
     let past : c.next_with-first.result < c.next_with-end.result = beyond c.args.set.now c.next_with-first.result c.next_with-end.result end.from (omega (arith, end.within, c.requires.size))
-        (omega (arith, within, c.requires.size)) (first.here within) (λ lt. end.here (omega (arith, lt, c.requires.size))) in
+    (omega (arith, within, c.requires.size)) (first.here within) (λ lt. end.here (omega (arith, lt, c.requires.size))) in
     omega (arith, first.from, past, within)
 
 pub loop-chunks-preserved : goal.loop-chunks-preserved
@@ -35,7 +35,7 @@ loop-chunks-preserved g c =
     let other = c.if-first-chunks.false in
     let within : c.next_with-first.result < c.args.chunks = omega (arith, first.within, other) in
     let past : c.next_with-first.result < c.next_with-end.result = beyond c.args.set.now c.next_with-first.result c.next_with-end.result end.from (omega (arith, end.within, c.requires.size))
-        (omega (arith, within, c.requires.size)) (first.here within) (λ lt. end.here (omega (arith, lt, c.requires.size))) in
+    (omega (arith, within, c.requires.size)) (first.here within) (λ lt. end.here (omega (arith, lt, c.requires.size))) in
     put_one c.args.set.now c.args.from c.loop-chunks.end c.next_with-first.result c.next_with-end.result
     (g.K.Sink.state c.args.sink.now) (g.K.Sink.state c.loop-chunks.sink) (g.K.Sink.state c.put_range.new.sink) c.loop-chunks.invariant
     first.from (omega (arith, within, c.requires.size)) first.before (first.here within) past (omega (arith, end.within, c.requires.size))

@@ -14,6 +14,6 @@ returns-clause-said g c =
     let other = c.if-first-chunks.false in
     let within : c.next_with-first.result < c.args.chunks = omega (arith, first.within, other) in
     let past : c.next_with-first.result < c.next_with-end.result = beyond c.args.set.now c.next_with-first.result c.next_with-end.result end.from (omega (arith, end.within, c.requires))
-        (omega (arith, within, c.requires)) (first.here within) (λ lt. end.here (omega (arith, lt, c.requires))) in
+    (omega (arith, within, c.requires)) (first.here within) (λ lt. end.here (omega (arith, lt, c.requires))) in
     all_ranges_of c.args.set.now c.next_with-first.result c.next_with-end.result (g.K.Sink.state c.args.sink.now) (g.K.Sink.state c.put_range.new.sink) (g.K.Sink.state c.put_more.new.sink)
     c.put_more.result first.before past end.before c.in_ok-put_range.ensures.gained c.put_more.ensures.said

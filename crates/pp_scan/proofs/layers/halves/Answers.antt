@@ -1,4 +1,4 @@
-use Rattle.std.proofs.Common.{List, length, drop, ◌≤◌, arith, ◌∙◌}
+use Rattle.std.proofs.Common.{length, drop, ◌≤◌, arith, ◌∙◌}
 use Rattle.std.proofs.lemmas.List.{take_all, length-drop}
 use Rattle.pp_scan.proofs.layers.halves.Goals as goal
 

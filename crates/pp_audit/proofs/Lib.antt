@@ -1,0 +1,12 @@
+pub mod Shakes
+pub mod Messages
+pub mod Pasts
+pub mod LifeTests
+pub mod Standings
+pub mod Peaks
+pub mod PeakLayers
+pub mod Climbs
+pub mod Flights
+pub mod Searches
+pub mod Books
+pub mod Sendings

@@ -1,0 +1,13 @@
+use Rattle.std.proofs.Common.{◌∙◌, sym, take}
+use Rattle.pp_traffic.specs.Flight.{fewer_than_two}
+use Rattle.pp_outside.specs.Outside.{address_of}
+use Rattle.pp_audit.specs.Entries.{past}
+use Rattle.pp_audit.specs.Parts.{all}
+use Rattle.pp_audit.proofs.Searches.{search_is_exact}
+use Rattle.pp_audit.proofs.searching.answers_peer.Goals as goal
+
+pub returns : goal.returns
+returns c =
+    let exact = search_is_exact c.args.descriptor.now fewer_than_two (past c.args.entries.now) (address_of c.args.to) c.args.remote c.args.chunk
+    (take c.args.count (all c.args.descriptor.now c.args.bytes.now)) in
+    (λ e. exact.0 (sym c.some_life.ensures ∙ e), λ is. c.some_life.ensures ∙ exact.1 is)

@@ -1,0 +1,7 @@
+pub mod Entries
+pub mod Parts
+pub mod Tests
+pub mod Standing
+pub mod Paths
+pub mod Flying
+pub mod Search

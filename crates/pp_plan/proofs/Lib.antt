@@ -1,0 +1,7 @@
+pub mod Least
+pub mod Marks
+pub mod PeakTests
+pub mod Places
+pub mod Plans
+pub mod Stories
+pub mod Telling

@@ -1,0 +1,20 @@
+//! The hashes of a content's tree that a peer has told it knows, and those to send it before a chunk (RFC 7574, sections
+//! 5.2 to 5.5).
+#![tactic(auto)]
+
+ghost use Rattle.pp_plan.specs.Law.{PlansAreLeast, StoriesTell};
+
+mod peak;
+mod planning;
+#[cfg(test)]
+mod tests;
+mod told;
+
+pub use planning::plan;
+pub use told::Told;
+
+/// What a plan is for.
+pub fn laws_of_plans()
+    ensures least { PlansAreLeast }
+    ensures stories { StoriesTell }
+{}

@@ -1,0 +1,178 @@
+// What a peer has told that it knows.
+ghost use Rattle.std.specs.Prelude.{◌≡◌, ℕ, ◌-◌, ◌^◌, ◌<◌, ◌≤◌, ◌&&◌, ◌||◌, nat_le, true, false, length, slice_index_or, IfOk};
+ghost use Rattle.std.specs.List.{list_all};
+ghost use Rattle.pp_terms.specs.Tree as terms;
+ghost use Rattle.pp_terms.specs.Bins.{parent_of};
+ghost use Rattle.pp_traffic.specs.Hashes as hashes;
+ghost use Rattle.pp_traffic.specs.Hashes.{tells};
+ghost use Rattle.pp_tree.specs.Node.{node_of};
+ghost use Rattle.pp_plan.specs.Told.{knows, is_marked, lies, span_of};
+
+use crate::peak::is_peak;
+use pp_ranges::ChunkRange;
+use pp_tree::{Node, height};
+use std::alloc::{AllocError, Global};
+use std::marker::Model;
+
+/// The nodes of a content's tree whose hashes a peer has told it knows, by HAVE and ACK (RFC 7574, section 5.3): all
+/// peaks, once it told of any chunk, and both children of each node above such a chunk.
+#[derive(Drop)]
+pub struct Told {
+    chunks: u32,
+    height: u8,
+    some: bool,
+    // For each node above the leaves, whether a chunk under it was told of. They count only where `some` is true.
+    marks: Vec<bool>,
+}
+
+impl Model for Told {
+    ghost use Rattle.std.specs.Prelude.{◌≡◌, ◌^◌, ◌<◌, ◌≤◌, length};
+    ghost use Rattle.pp_terms.specs.Tree as terms;
+    ghost use Rattle.pp_plan.specs.Told.{ToldNodes};
+
+    ghost Value = { ToldNodes };
+
+    ghost view = { λ t. record { chunks = t.chunks; some = t.some; marks = t.marks.items } };
+
+    ghost invariant = { λ t. (0 < t.chunks) × (t.chunks ≤ 2 ^ 20) × (t.height ≡ terms.height t.chunks) × (t.height ≤ 20)
+        × (t.chunks ≤ 2 ^ t.height) × (length t.marks.items ≡ 2 ^ t.height) };
+}
+
+// How many nodes a layer has, by its distance from the root.
+fn width(down: u8) -> usize
+    requires { down ≤ 20 }
+    ensures value { result ≡ 2 ^ down }
+    ensures range { result ≤ 2 ^ 20 }
+{
+    1 << down
+}
+
+// Sets the marks from one place to another.
+fn fill_between(marks: &mut [bool], first: usize, last: usize)
+    requires order { first ≤ last }
+    requires inside { last < length marks.old }
+    ensures len { length marks.new ≡ length marks.old }
+    ensures marks { (i : ℕ) → slice_index_or marks.new i false
+        ≡ (slice_index_or marks.old i false || (nat_le first i && nat_le i last)) }
+{
+    marks[first..=last].fill(true);
+}
+
+fn clear(marks: &mut [bool])
+    ensures len { length marks.new ≡ length marks.old }
+    ensures marks { (i : ℕ) → slice_index_or marks.new i false ≡ false }
+{
+    marks.fill(false);
+}
+
+impl Told {
+    /// Nothing is told yet, of a content of that many chunks, from 1 to 2^20.
+    pub fn none(alloc: Global, chunks: u32) -> Result<Told, AllocError>
+        requires some { 0 < chunks }
+        requires most { chunks ≤ 2 ^ 20 }
+        ensures chunks { IfOk result (λ t. t.chunks ≡ chunks) }
+        ensures nothing { IfOk result (λ t. (n : terms.Node) → knows t n ≡ false) }
+    {
+        let height = height(chunks);
+        Ok(Told {
+            chunks,
+            height,
+            some: false,
+            marks: vec![in alloc; false; width(height)]?,
+        })
+    }
+
+    /// The peer has the chunks of a range, which lies in the content.
+    pub fn told(&mut self, range: ChunkRange)
+        requires { range.last < self.old.chunks }
+        ensures chunks { self.new.chunks ≡ self.old.chunks }
+        ensures more { (n : terms.Node) → knows self.new n ≡ (knows self.old n || tells self.old.chunks (span_of range) n) }
+    {
+        self.begin();
+        let first = range.first();
+        let last = range.last();
+        for layer in 1..self.height + 1 {
+            self.mark(layer, first >> layer, last >> layer);
+        }
+    }
+
+    // The marks count from now on.
+    fn begin(&mut self)
+        ensures chunks { self.new.chunks ≡ self.old.chunks }
+        ensures some { self.new.some ≡ true }
+        ensures marks { (n : terms.Node) → is_marked self.new n ≡ (self.old.some && is_marked self.old n) }
+    {
+        if !self.some {
+            clear(&mut self.marks);
+            self.some = true;
+        }
+    }
+
+    // Marks the nodes of a layer from one offset to another.
+    fn mark(&mut self, layer: u8, first: u32, last: u32)
+        requires above { 0 < layer }
+        requires low { layer ≤ terms.height self.old.chunks }
+        requires order { first ≤ last }
+        requires inside { last < 2 ^ (terms.height self.old.chunks - layer) }
+        ensures chunks { self.new.chunks ≡ self.old.chunks }
+        ensures some { self.new.some ≡ self.old.some }
+        ensures marks { (n : terms.Node) → is_marked self.new n ≡ (is_marked self.old n || lies layer first last n) }
+    {
+        let base = width(self.height - layer);
+        fill_between(&mut self.marks, base + first as usize, base + last as usize);
+    }
+
+    /// Whether the peer told that it knows the node.
+    pub fn has(&self, node: Node) -> bool
+        ensures { result ≡ knows self.now (node_of node) }
+    {
+        self.some && (is_peak(node, self.chunks) || self.is_marked_above(node))
+    }
+
+    // Whether the way up ends at the node: it is told, or a peak.
+    pub(crate) fn ends(&self, node: Node) -> bool
+        ensures { result ≡ (knows self.now (node_of node) || hashes.is_peak self.now.chunks (node_of node)) }
+    {
+        self.has(node) || is_peak(node, self.chunks)
+    }
+
+    pub(crate) fn is_some(&self) -> bool
+        ensures { result ≡ self.now.some }
+    {
+        self.some
+    }
+
+    pub(crate) fn chunks(&self) -> u32
+        ensures value { result ≡ self.now.chunks }
+        ensures most { self.now.chunks ≤ 2 ^ 20 }
+    {
+        self.chunks
+    }
+
+    pub(crate) fn height(&self) -> u8
+        ensures value { result ≡ terms.height self.now.chunks }
+        ensures range { result ≤ 20 }
+        ensures most { self.now.chunks ≤ 2 ^ 20 }
+    {
+        self.height
+    }
+
+    fn is_marked_above(&self, node: Node) -> bool
+        ensures { result ≡ is_marked self.now (parent_of (node_of node)) }
+    {
+        if node.layer >= self.height {
+            return false;
+        }
+        let base = width(self.height - node.layer - 1);
+        let offset = (node.offset / 2) as usize;
+        offset < base && self.marks[base + offset]
+    }
+
+    /// Nothing is told any more.
+    pub fn forget(&mut self)
+        ensures chunks { self.new.chunks ≡ self.old.chunks }
+        ensures nothing { (n : terms.Node) → knows self.new n ≡ false }
+    {
+        self.some = false;
+    }
+}
