@@ -35,9 +35,9 @@ pub first_either : (which test : Record → Bool) (place : ℕ) (r : Record) (pa
 first_either which test place r past e = ⊎_elim
     (λ some. inl (sym (cond-true (some_since which place past) (first_since which test place past) (leb place (length past) && which r && test r) some) ∙ e))
     (λ none.
-      let outer = and_parts (leb place (length past) && which r) (test r) (sym (cond-false (some_since which place past) (first_since which test place past) (leb place (length past) && which r && test r) none) ∙ e) in
-      let inner = and_parts (leb place (length past)) (which r) outer.0 in
-      inr (none, leb-true place (length past) inner.0, inner.1, outer.1))
+    let outer = and_parts (leb place (length past) && which r) (test r) (sym (cond-false (some_since which place past) (first_since which test place past) (leb place (length past) && which r && test r) none) ∙ e) in
+    let inner = and_parts (leb place (length past)) (which r) outer.0 in
+    inr (none, leb-true place (length past) inner.0, inner.1, outer.1))
     (cases_Bool (some_since which place past))
 
 -- ---- an answered channel
@@ -70,7 +70,11 @@ pub plain_answered : (d : Descriptor) (life : Life) (past : List Record) → lif
 plain_answered d life past answered is =
     let begins = subst (λ (b : Bool). MatchBool b (IsPlainDial d life past past) (IsPlainAnswer d life past)) answered is.begins in
     record {
-      local_some = is.local_some; remote_some = is.remote_some; answered = answered; opened = begins.opened; replied = begins.replied;
+      local_some = is.local_some;
+      remote_some = is.remote_some;
+      answered = answered;
+      opened = begins.opened;
+      replied = begins.replied;
       rest = record { only_one = begins.only_one; fresh = is.fresh; open_still = is.open_still; timely = is.timely };
     }
 
@@ -108,14 +112,14 @@ greets_comes d life r e =
 pub answered_before : (d : Descriptor) (life : Life) (r : Record) (past : List Record) → IsAnswered d life (r ∷ past) → IsAnswered d life past ⊎ IsReplyTo d life r past
 answered_before d life r past is = ⊎_elim
     (λ here. absurd (⊎_elim
-      (λ first. both_ways (some_since (goes_to life.address) life.opening past) (none_from_end (goes_to life.address) life.opening past (omega (arith, here.0)))
-        (some_first (goes_to life.address) (answers d life) life.opening past first))
-      (λ new. no_goes life.address r (greets_comes d life r here.1) new.2)
-      (first_either (goes_to life.address) (answers d life) life.opening r past is.replied)))
+    (λ first. both_ways (some_since (goes_to life.address) life.opening past) (none_from_end (goes_to life.address) life.opening past (omega (arith, here.0)))
+    (some_first (goes_to life.address) (answers d life) life.opening past first))
+    (λ new. no_goes life.address r (greets_comes d life r here.1) new.2)
+    (first_either (goes_to life.address) (answers d life) life.opening r past is.replied)))
     (λ opened. ⊎_elim
-      (λ first. inl (record { local_some = is.local_some; remote_some = is.remote_some; answered = is.answered; opened = opened; replied = first; rest = rest_before d life r past is.rest }))
-      (λ new. inr (record { answered = is.answered; opened = opened; none_sent = new.0; goes = new.2; is_answer = new.3; rest = rest_before d life r past is.rest }))
-      (first_either (goes_to life.address) (answers d life) life.opening r past is.replied))
+    (λ first. inl (record { local_some = is.local_some; remote_some = is.remote_some; answered = is.answered; opened = opened; replied = first; rest = rest_before d life r past is.rest }))
+    (λ new. inr (record { answered = is.answered; opened = opened; none_sent = new.0; goes = new.2; is_answer = new.3; rest = rest_before d life r past is.rest }))
+    (first_either (goes_to life.address) (answers d life) life.opening r past is.replied))
     (at_either (greets_once d life) life.opening r past is.opened)
   where
     some_first : (which test : Record → Bool) (place : ℕ) (xs : List Record) → first_since which test place xs ≡ true → some_since which place xs ≡ true
@@ -148,24 +152,24 @@ NoneDialled d past = (life : Life) (place : ℕ) → life.is_dialled ≡ true �
 pub plain_before : (d : Descriptor) (life : Life) (r : Record) (past : List Record) → NoneDialled d past → is_event r ≡ true → IsPlainNow d life (r ∷ past) → IsPlainNow d life past
 plain_before d life r past undialled event is = ⊎_elim
     (λ dialled. absurd (
-      let begins = subst (λ (b : Bool). MatchBool b (IsPlainDial d life (r ∷ past) (r ∷ past)) (IsPlainAnswer d life (r ∷ past))) dialled is.begins in
-      ⊎_elim (λ here. no_answer d life r event here.1) (λ before. undialled life life.opening dialled before) (at_either (answers d life) life.opening r past begins.opened)))
+    let begins = subst (λ (b : Bool). MatchBool b (IsPlainDial d life (r ∷ past) (r ∷ past)) (IsPlainAnswer d life (r ∷ past))) dialled is.begins in
+    ⊎_elim (λ here. no_answer d life r event here.1) (λ before. undialled life life.opening dialled before) (at_either (answers d life) life.opening r past begins.opened)))
     (λ answered. ⊎_elim
-      (λ before. answered_plain d life past before)
-      (λ reply. absurd (no_goes_event life.address r event reply.goes))
-      (answered_before d life r past (plain_answered d life (r ∷ past) answered is)))
+    (λ before. answered_plain d life past before)
+    (λ reply. absurd (no_goes_event life.address r event reply.goes))
+    (answered_before d life r past (plain_answered d life (r ∷ past) answered is)))
     (cases_Bool life.is_dialled)
 
 -- a plain channel before a datagram was sent, or one to which the datagram is the reply
 pub plain_before_sent : (d : Descriptor) (life : Life) (r : Record) (past : List Record) → NoneDialled d (r ∷ past) → IsPlainNow d life (r ∷ past) → IsPlainNow d life past ⊎ IsReplyTo d life r past
 plain_before_sent d life r past undialled is = ⊎_elim
     (λ dialled. absurd (
-      let begins = subst (λ (b : Bool). MatchBool b (IsPlainDial d life (r ∷ past) (r ∷ past)) (IsPlainAnswer d life (r ∷ past))) dialled is.begins in
-      undialled life life.opening dialled begins.opened))
+    let begins = subst (λ (b : Bool). MatchBool b (IsPlainDial d life (r ∷ past) (r ∷ past)) (IsPlainAnswer d life (r ∷ past))) dialled is.begins in
+    undialled life life.opening dialled begins.opened))
     (λ answered. ⊎_elim
-      (λ before. inl (answered_plain d life past before))
-      (λ reply. inr reply)
-      (answered_before d life r past (plain_answered d life (r ∷ past) answered is)))
+    (λ before. inl (answered_plain d life past before))
+    (λ reply. inr reply)
+    (answered_before d life r past (plain_answered d life (r ∷ past) answered is)))
     (cases_Bool life.is_dialled)
 
 -- ---- one opening
@@ -192,8 +196,8 @@ greets_anew d life other r answered same e =
     let inner = and_parts (comes_from life.address r) (is_number (cond life.is_dialled life.local 0) (read d r).channel) outer.0 in
     and_from (comes_from other.address r && is_number 0 (read d r).channel) (list_any is_handshake (read d r).messages.read)
     (and_from (comes_from other.address r) (is_number 0 (read d r).channel)
-      (subst (λ (a : Address). comes_from a r ≡ true) (sym same) inner.0)
-      (subst (λ (b : Bool). is_number (cond b life.local 0) (read d r).channel ≡ true) answered inner.1))
+    (subst (λ (a : Address). comes_from a r ≡ true) (sym same) inner.0)
+    (subst (λ (b : Bool). is_number (cond b life.local 0) (read d r).channel ≡ true) answered inner.1))
     (greets_handshake d life.is_dialled life.remote (read d r).messages.read outer.1)
 
 pub greets_from : (d : Descriptor) (life : Life) (r : Record) → greets d life r ≡ true → comes_from life.address r ≡ true
@@ -207,25 +211,33 @@ pub one_opening : (d : Descriptor) (life other : Life) (r : Record) (past : List
 one_opening d life other r past answered same opened reply = ⊎_elim
     (λ e. e)
     (λ apart. ⊎_elim
-      (λ earlier.
-        let s = found_at (greets d life) life.opening past opened in
-        let later : other.opening < length s.before = omega (arith, s.place, earlier) in
-        let behind = only_from (goes_to other.address) (asks_anew d other) other.opening s.after s.here s.before
-            (subst (λ (xs : List Record). none_until_first (goes_to other.address) (asks_anew d other) other.opening xs ≡ true) s.split reply.rest.only_one)
-            later (greets_anew d life other s.here answered same s.passes) in
-        absurd (both_ways (some_since (goes_to other.address) other.opening past) reply.none_sent (goes_since other.address other.opening past s.after s.here s.before s.split behind)))
-      (λ later.
-        let s = found_at (greets d life) life.opening past opened in
-        let stands : StandsBefore (concerns other.address) other.opening past = record {
-          after = s.after; here = s.here; before = s.before; split = s.split; place = omega (arith, s.place, later);
-          passes = or_left (comes_from other.address s.here) (goes_to other.address s.here) (subst (λ (a : Address). comes_from a s.here ≡ true) (sym same) (greets_from d life s.here s.passes));
-        } in
-        absurd (both_ways (some_until (concerns other.address) other.opening past) reply.rest.fresh (stands_until (concerns other.address) other.opening past stands)))
-      apart)
+    (λ earlier.
+    let s = found_at (greets d life) life.opening past opened in
+    let later : other.opening < length s.before = omega (arith, s.place, earlier) in
+    let behind = only_from (goes_to other.address) (asks_anew d other) other.opening s.after s.here s.before
+    (subst (λ (xs : List Record). none_until_first (goes_to other.address) (asks_anew d other) other.opening xs ≡ true) s.split reply.rest.only_one)
+    later (greets_anew d life other s.here answered same s.passes) in
+    absurd (both_ways (some_since (goes_to other.address) other.opening past) reply.none_sent (goes_since other.address other.opening past s.after s.here s.before s.split behind)))
+    (λ later.
+    let s = found_at (greets d life) life.opening past opened in
+    let stands : StandsBefore (concerns other.address) other.opening past = record {
+      after = s.after;
+      here = s.here;
+      before = s.before;
+      split = s.split;
+      place = omega (arith, s.place, later);
+      passes = or_left (comes_from other.address s.here) (goes_to other.address s.here) (subst (λ (a : Address). comes_from a s.here ≡ true) (sym same) (greets_from d life s.here s.passes));
+    } in
+    absurd (both_ways (some_until (concerns other.address) other.opening past) reply.rest.fresh (stands_until (concerns other.address) other.opening past stands)))
+    apart)
     (cases_order other.opening life.opening)
   where
     goes_since : (a : Address) (place : ℕ) (xs after : List Record) (here : Record) (before : List Record) → xs ≡ after ++ here ∷ before → StandsFrom (goes_to a) place before → some_since (goes_to a) place xs ≡ true
     goes_since a place xs after here before split s = stands_since (goes_to a) place xs (record {
-      after = after ++ here ∷ s.after; here = s.here; before = s.before;
+      after = after ++ here ∷ s.after;
+      here = s.here;
+      before = s.before;
       split = split ∙ ap (λ (ys : List Record). after ++ here ∷ ys) s.split ∙ sym (append_assoc after (here ∷ s.after) (s.here ∷ s.before));
-      place = s.place; passes = s.passes })
+      place = s.place;
+      passes = s.passes;
+    })
