@@ -18,8 +18,8 @@ use crate::built::read_built;
 use crate::checking::check;
 use crate::importing::import;
 use crate::refusing::refuse;
-use pp_outside::{Disk, Link, Sink, Source};
-use pp_tree::Book;
+use pp_outside::{Address, Disk, Link, Sink, Source};
+use pp_tree::{Book, Descriptor};
 use pp_words::Command;
 use std::alloc::Global;
 
@@ -72,17 +72,17 @@ pub fn run<D: Disk, L: Link, S: Source, K: Sink>(
         Ok(Command::Import { store, chunk }) => import(store, chunk, disk, source, sink).number(),
         Ok(Command::Check {
             store,
-            ref descriptor,
+            descriptor,
         }) => {
-            check(alloc, store, descriptor, disk, sink, book).number()
+            check(alloc, store, &descriptor, disk, sink, book).number()
         }
         Ok(Command::Seed {
             store,
-            ref descriptor,
-            ref listen,
+            descriptor,
+            listen,
             turns,
         }) => {
-            let status = crate::seeding::seed(alloc, store, descriptor, listen, turns, seed, disk, link, sink, book);
+            let status = crate::seeding::seed(alloc, store, &descriptor, &listen, turns, seed, disk, link, sink, book);
             status.number()
         }
         // These are not built, so they are never answered.
