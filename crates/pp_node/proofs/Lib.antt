@@ -8,4 +8,3 @@ pub mod Readies
 pub mod Spans
 pub mod Checks
 pub mod Seeds
-pub mod Commanding

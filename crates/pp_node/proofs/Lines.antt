@@ -60,6 +60,7 @@ reports fault other status old new is reported = subst (λ (f : ImportFault). Re
 pub said_more : {T E : Type 0} (old mid new : Option (List ℕ)) (a b : List ℕ) (result : Result T E) → Gains old a mid → OnOk result (Gains mid b new) → OnOk result (Gains old (a ++ b) new)
 said_more old mid new a b (Ok x) first second = gains_more old mid new a b first second
 said_more old mid new a b (Err e) first second = tt
+
 pub reports_scan : (fault other : ScanFault) (status : Status) (old new : SinkState) → fault ≡ other → ReportsScan other status old new → ReportsScan fault status old new
 reports_scan fault other status old new is reported = subst (λ (f : ScanFault). ReportsScan f status old new) (sym is) reported
 

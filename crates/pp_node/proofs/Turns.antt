@@ -250,16 +250,20 @@ module _ (n : ℕ) (disk half disk' : DiskState) (seen seen1 seen' : LinkState) 
       let before = ends_none (LetsInFirst s.descriptor) q.added (q.lets (calm_before calm) book since le st) in
       let done : OwesNone u = ⊎_elim (λ none. none) (λ risen. absurd (calm_send calm risen)) p.flushed.replied in
       let here = w.lets (calm_wait calm) book since q.added sends.added (q.stands book since le st) (subst (λ (d : Descriptor). LetsInFirst d q.added) (sym q.descriptor) before.0) sends.all_sent (sends.answered done) in
-      inl (subst (λ (d : Descriptor). LetsInFirst d all_added) q.descriptor here,
-      ends_sent (LetsInFirst s.descriptor) sends.added (w.came ++ q.added) sends.all_sent (w.ends (LetsInFirst s.descriptor) q.added (calm_wait calm) before.0 before.1))
+      inl (
+        subst (λ (d : Descriptor). LetsInFirst d all_added) q.descriptor here,
+        ends_sent (LetsInFirst s.descriptor) sends.added (w.came ++ q.added) sends.all_sent (w.ends (LetsInFirst s.descriptor) q.added (calm_wait calm) before.0 before.1),
+      )
 
   serves_now : IsSmooth s.descriptor (holds_first s) disk disk' seen seen' → (book : LookUp) (since : ℕ) → since ≤ moment_of disk.history → StandsFor book since s [] → IsWhole s.counts
       → AtEndsBut 0 (ServesAsked s.descriptor fewer_than_two 0) all_added
   serves_now smooth book since le st whole =
       let before = ends_none (ServesAsked s.descriptor fewer_than_two 0) q.added (q.serves (smooth_before smooth) book since le st whole) in
       let here = serves_turn book since u all_added (stands_now book since le st) (whole_now smooth book since le st whole) p.flushed.served in
-      inl (subst (λ (d : Descriptor). ServesAsked d fewer_than_two 0 all_added) (sends.core.descriptor ∙ taken_descriptor) here,
-      ends_sent (ServesAsked s.descriptor fewer_than_two 0) sends.added (w.came ++ q.added) sends.all_sent (w.ends (ServesAsked s.descriptor fewer_than_two 0) q.added (calm_wait smooth.link) before.0 before.1))
+      inl (
+        subst (λ (d : Descriptor). ServesAsked d fewer_than_two 0 all_added) (sends.core.descriptor ∙ taken_descriptor) here,
+        ends_sent (ServesAsked s.descriptor fewer_than_two 0) sends.added (w.came ++ q.added) sends.all_sent (w.ends (ServesAsked s.descriptor fewer_than_two 0) q.added (calm_wait smooth.link) before.0 before.1),
+      )
 
   pub turns_more : TakesTurns (n + 1) disk disk' seen seen' s u
   turns_more = record {

@@ -58,7 +58,12 @@ fn report<K: Sink>(fault: ScanFault, sink: &mut K) -> Status
 }
 
 /// Says which byte of the file isn't the header's.
-pub(crate) fn put_not_a_store<K: Sink>(at: u8, found: u8, want: u8, sink: &mut K) -> Result<(), SinkFault>
+pub(crate) fn put_not_a_store<K: Sink>(
+    at: u8,
+    found: u8,
+    want: u8,
+    sink: &mut K,
+) -> Result<(), SinkFault>
     ensures gained { OnOk result (Gains (K.state sink.old).taken (not_a_store_line at found want) (K.state sink.new).taken) }
     ensures cause { HasCause (K.state sink.old).faults (K.state sink.new).faults result }
 {

@@ -29,7 +29,12 @@ fn put_first<K: Sink>(counts: &Counts, sink: &mut K) -> Result<(), SinkFault>
     put_counted(sink, b"keepalives ", counts.keepalives, b"\n")?;
     put_counted(sink, b"short ", counts.short, b"\n")?;
     put_counted(sink, b"stranger ", counts.stranger, b"\n")?;
-    put_counted(sink, b"refused_handshakes ", counts.refused_handshakes, b"\n")?;
+    put_counted(
+        sink,
+        b"refused_handshakes ",
+        counts.refused_handshakes,
+        b"\n",
+    )?;
     put_counted(sink, b"no_seat ", counts.no_seat, b"\n")?;
     put_counted(sink, b"cut ", counts.cut, b"\n")?;
     put_counted(sink, b"outside ", counts.outside, b"\n")

@@ -2,8 +2,8 @@
 #![tactic(auto)]
 
 mod built;
-mod counting;
 mod checking;
+mod counting;
 mod importing;
 mod looking;
 mod preparing;
@@ -15,6 +15,8 @@ mod status;
 mod top;
 mod turning;
 
+pub use seeding::seed;
+pub use status::Status;
 pub use top::run;
 
 #[cfg(test)]

@@ -18,9 +18,11 @@ use pp_outside::{Address, Disk, Link, Sink, SinkFault};
 use pp_tree::{Book, Descriptor};
 use std::alloc::Global;
 
-/// Serves the named store for so many turns, closes the channels and prints what the peer has and what it counted. Channel
-/// numbers are drawn from `random`.
-pub(crate) fn seed<D: Disk, L: Link, K: Sink>(
+/// Does what `seed STORE DESCRIPTOR LISTEN TURNS` will do, which the words of a command line can't ask for yet: attaches the
+/// named store, listens, serves the content's one chunk for `turns` turns of at most 100,000 microseconds each, closes the
+/// channels, and prints which chunks the peer has and 22 lines of what it counted. The book is empty at entry; channel
+/// numbers are drawn from `random`, 32 bytes that nobody can guess.
+pub fn seed<D: Disk, L: Link, K: Sink>(
     alloc: Global,
     store: &str,
     descriptor: &Descriptor,
@@ -38,9 +40,7 @@ pub(crate) fn seed<D: Disk, L: Link, K: Sink>(
         (L.seen link.old) (L.seen link.new) (entry book.new) }
     ensures rooted { (book.new ≡ book.old) ⊎ IsRooted descriptor.now (entry book.new) }
 {
-    match prepare(
-        alloc, store, descriptor, listen, random, disk, link, book,
-    ) {
+    match prepare(alloc, store, descriptor, listen, random, disk, link, book) {
         Ok(ready) => serve(ready, turns, descriptor.chunks(), disk, link, sink, book),
         Err(fault) => report(fault, sink),
     }
