@@ -105,3 +105,6 @@ fn report<K: Sink>(fault: SeedFault, sink: &mut K) -> Status
         SeedFault::Memory => Status::Memory,
     }
 }
+
+#[cfg(test)]
+mod tests;
