@@ -48,22 +48,22 @@ rooted_as B view d book book' (inr rooted) = inr rooted
 module _ (words : List (List ℕ)) (command : Command) (status : Status) (result : ℕ) (random : List ℕ) (source source' : SourceState) (sink sink' : SinkState) (disk disk' : DiskState)
     (seen seen' : LinkState) (book book' : LookUp) (read : Spells words command) (number : result ≡ number_of status)
     (ended : HasEnded command status random source source' sink sink' disk disk' seen seen' book book') where
-  as : (c : Command) → Spells words c → HasEnded c status random source source' sink sink' disk disk' seen seen' book book'
-  as c spelled = subst (λ (x : Command). HasEnded x status random source source' sink sink' disk disk' seen seen' book book') (one_command words command c read spelled) ended
+  ended_as : (c : Command) → Spells words c → HasEnded c status random source source' sink sink' disk disk' seen seen' book book'
+  ended_as c spelled = subst (λ (x : Command). HasEnded x status random source source' sink sink' disk disk' seen seen' book book') (one_command words command c read spelled) ended
 
   pub import_ends : (store : List ℕ) (chunk : ℕ) → IsImport words store chunk → ImportEnds result chunk source source' sink sink' disk disk'
-  import_ends store chunk spelled = let end = as (Import store chunk) spelled in record { status = status; number = number; ends = end.0; run = end.1 }
+  import_ends store chunk spelled = let end = ended_as (Import store chunk) spelled in record { status = status; number = number; ends = end.0; run = end.1 }
 
   pub seed_ends : (store : List ℕ) (descriptor : Descriptor) (listen : Address) (turns : ℕ) → IsSeed words store descriptor listen turns → chunks_of descriptor ≡ 1
       → SeedEnds result descriptor random turns source source' sink sink' disk disk' seen seen' book book'
   seed_ends store descriptor listen turns spelled one =
-      let end = as (Seed store descriptor listen turns) spelled in
+      let end = ended_as (Seed store descriptor listen turns) spelled in
       record { status = status; number = number; ends = end.0; unread = end.1; rooted = end.2 }
 
   pub check_ends : (store : List ℕ) (descriptor : Descriptor) → IsOnStore (codes "check") words store descriptor
       → CheckEnds result descriptor source source' sink sink' disk disk' book book'
   check_ends store descriptor spelled =
-      let end = as (Check store descriptor) spelled in
+      let end = ended_as (Check store descriptor) spelled in
       record { status = status; number = number; ends = end.0; unwritten = end.1; unread = end.2; rooted = end.3 }
 
   never : (c : Command) → HasEnded c Usage random source source' sink sink' disk disk' seen seen' book book' → ⊥

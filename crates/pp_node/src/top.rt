@@ -87,6 +87,7 @@ fn obey<D: Disk, L: Link, S: Source, K: Sink>(
     book: &mut Book,
 ) -> Status
     requires empty { book.old ≡ empty_book }
+    requires spelled { (words : List (List ℕ)) × Spells words (command_of command.now) }
     requires built { IsOneOf built (command_of command.now) }
     requires served { IsServed (command_of command.now) }
     ensures ended { HasEnded (command_of command.now) result random (S.state source.old) (S.state source.new) (K.state sink.old) (K.state sink.new)
