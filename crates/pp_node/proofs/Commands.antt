@@ -1,6 +1,5 @@
 -- How a run ended, from how the command ended that its words spell.
-use Rattle.std.proofs.Common.{◌≡◌, ◌⊎◌, inl, inr, ℕ, List, Result, Ok, Err, codes, refl, sym, ◌∙◌, ap, subst}
-use Rattle.std.specs.Prelude.{IfOk, IfErr}
+use Rattle.std.proofs.Common.{◌≡◌, ◌⊎◌, inl, inr, ℕ, List, codes, refl, sym, ◌∙◌, ap, subst}
 use Rattle.pp_terms.specs.Book.{LookUp, IsRooted}
 use Rattle.pp_terms.specs.Commands.{Command, Import, Seed, Fetch, Check, Export, Replay, Rehearse}
 use Rattle.pp_terms.specs.CommandLine.{Spells, IsImport, IsSeed, IsOnStore, IsOneOf, IsFirstWrong}
@@ -14,7 +13,7 @@ use Rattle.pp_words.proofs.OneReading.{command_not_wrong}
 use Rattle.pp_node.specs.Built.{built}
 use Rattle.pp_node.specs.Run.{ImportEnds}
 use Rattle.pp_node.specs.Checking.{CheckEnds}
-use Rattle.pp_node.specs.Seeding.{SeedEnds}
+use Rattle.pp_node.specs.Promising.{SeedEnds}
 use Rattle.pp_node.specs.Commanding.{IsServed, IsTooLarge, IsUnserved, HasEnded}
 use Rattle.pp_node.specs.Status.{number_of}
 use Rattle.pp_node.specs.declared.status.Status.{Status}
@@ -58,7 +57,7 @@ module _ (words : List (List ℕ)) (command : Command) (status : Status) (result
       → SeedEnds result descriptor random turns source source' sink sink' disk disk' seen seen' book book'
   seed_ends store descriptor listen turns spelled one =
       let end = ended_as (Seed store descriptor listen turns) spelled in
-      record { status = status; number = number; ends = end.0; unread = end.1; rooted = end.2 }
+      record { status = status; number = number; ends = end.0; promises = end.1; unread = end.2; rooted = end.3 }
 
   pub check_ends : (store : List ℕ) (descriptor : Descriptor) → IsOnStore (codes "check") words store descriptor
       → CheckEnds result descriptor source source' sink sink' disk disk' book book'

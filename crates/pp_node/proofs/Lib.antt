@@ -6,5 +6,6 @@ pub mod Turns
 pub mod Looks
 pub mod Readies
 pub mod Spans
+pub mod Promises
 pub mod Commands
 pub mod Seeds

@@ -1,9 +1,5 @@
 -- A run of an import, from what the import does.
-use Rattle.std.proofs.Common.{◌≡◌, ◌⊎◌, inl, inr, ℕ, ◌+◌, ◌<◌, ◌^◌, ◌≤◌, List, [], length, decimal, Some, Err, sym, ◌∙◌, ap, subst, arith}
-use Rattle.std.proofs.Math.Pow.{pow_mono}
-use Rattle.std.proofs.lemmas.Fmt.{decimal_injective}
-use Rattle.pp_terms.specs.Content.{IsChunkSize}
-use Rattle.pp_terms.specs.CommandLine.{IsImport}
+use Rattle.std.proofs.Common.{◌≡◌, ◌⊎◌, inl, inr, ℕ, ◌+◌, ◌<◌, List, [], length, Some, Err, sym, ◌∙◌, ap, subst, arith}
 use Rattle.pp_terms.specs.Descriptor.{Descriptor}
 use Rattle.pp_terms.specs.Store.{IsNoStore}
 use Rattle.pp_terms.specs.Disk.{DiskState, History, IsKnown, moment_of}
@@ -14,8 +10,7 @@ use Rattle.pp_store.specs.Keep.{KeepsDisk}
 use Rattle.pp_store.specs.Import.{most_bytes, HasAnswer, IsUntouched, LeavesWholeStores, TakesAtMost, IsImported}
 use Rattle.pp_node.specs.declared.status.Status.{Status}
 use Rattle.pp_node.specs.declared.status.Status.TheVariants.{NotEmpty, DiskFault}
-use Rattle.pp_node.specs.Status.{number_of}
-use Rattle.pp_node.specs.Run.{IsImportRun, IsFreshlyAttached, Reports, EndsIn, ImportEnds}
+use Rattle.pp_node.specs.Run.{IsImportRun, IsFreshlyAttached, Reports}
 
 module _ (status : Status) (chunk : ℕ) (source source' : SourceState) (old new : DiskState) (fresh : IsKnown old → IsFreshlyAttached old.history) (keeps : KeepsDisk old new) where
   start_is : IsKnown old → new.history.start ≡ moment_of old.history

@@ -1,7 +1,7 @@
 -- The commands that words may ask for, and how each of them ends.
 use Rattle.std.specs.Prelude.{◌≡◌, ◌⊎◌, ℕ, ◌+◌, List, length, decimal}
 use Rattle.pp_terms.specs.Book.{LookUp, IsRooted}
-use Rattle.pp_terms.specs.Commands.{Command, Import, Seed, Fetch, Check, Export, Replay, Rehearse}
+use Rattle.pp_terms.specs.Commands.{Command, Import, Seed, Check}
 use Rattle.pp_terms.specs.CommandLine.{IsSeed}
 use Rattle.pp_terms.specs.Descriptor.{Descriptor, chunks_of}
 use Rattle.pp_terms.specs.DescriptorFault as fault
@@ -14,6 +14,7 @@ use Rattle.pp_node.specs.Checking.{ChecksIn}
 use Rattle.pp_node.specs.Looking.{IsUnwritten}
 use Rattle.pp_node.specs.Run.{EndsIn, IsImportRun}
 use Rattle.pp_node.specs.Seeding.{SeedsIn}
+use Rattle.pp_node.specs.Promising.{SeedPromises}
 
 -- what is asked for is served: until whole trees are, `seed` serves contents of one chunk
 abbrev pub IsServed : Command → Type 0
@@ -57,5 +58,5 @@ HasEnded (Import store chunk) status random source source' sink sink' disk disk'
 HasEnded (Check store descriptor) status random source source' sink sink' disk disk' seen seen' book book' =
     ChecksIn status descriptor sink sink' disk disk' × IsUnwritten disk disk' × (source' ≡ source) × ((book' ≡ book) ⊎ IsRooted descriptor book')
 HasEnded (Seed store descriptor listen turns) status random source source' sink sink' disk disk' seen seen' book book' =
-    SeedsIn status descriptor random turns sink sink' disk disk' seen seen' book' × (source' ≡ source) × ((book' ≡ book) ⊎ IsRooted descriptor book')
+    SeedsIn status descriptor random turns sink sink' disk disk' seen seen' book' × SeedPromises status descriptor turns sink sink' disk disk' seen seen' book' × (source' ≡ source) × ((book' ≡ book) ⊎ IsRooted descriptor book')
 HasEnded _ status random source source' sink sink' disk disk' seen seen' book book' = ⊥

@@ -9,4 +9,5 @@ pub mod Looking
 pub mod Held
 pub mod Checking
 pub mod Seeding
+pub mod Promising
 pub mod Commanding

@@ -12,7 +12,7 @@ ghost use Rattle.pp_node.specs.Built.{built};
 ghost use Rattle.pp_node.specs.Text.{Says};
 ghost use Rattle.pp_node.specs.Run.{ImportEnds};
 ghost use Rattle.pp_node.specs.Checking.{CheckEnds};
-ghost use Rattle.pp_node.specs.Seeding.{SeedEnds};
+ghost use Rattle.pp_node.specs.Promising.{SeedEnds};
 ghost use Rattle.pp_node.specs.Commanding.{IsServed, IsTooLarge, FillsBook, UsesLink, HasEnded};
 
 use crate::built::read_built;

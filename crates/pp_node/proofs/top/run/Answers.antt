@@ -1,7 +1,6 @@
 use Rattle.std.proofs.Common.{rules, refl}
 use Rattle.pp_terms.specs.Commands.{Check, Seed}
 use Rattle.pp_words.specs.Views.{texts, command_of, usage_of}
-use Rattle.pp_words.proofs.OneReading.{command_not_wrong}
 use Rattle.pp_tree.specs.Book.{entry}
 use Rattle.pp_node.proofs.Commands.{none_spelled, import_ends, seed_ends, check_ends}
 use Rattle.pp_node.proofs.top.run.Goals as goal
