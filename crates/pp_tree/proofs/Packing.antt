@@ -193,6 +193,9 @@ full_bits words summary w i is full here =
 shifted : (v from j : ℕ) → bit_at (v / 2 ^ from) j ≡ bit_at v (from + j)
 shifted v from j = ap (λ (q : ℕ). q % 2) (div-div-eq-div-mul v (2 ^ from) (2 ^ j) ∙ ap (λ (d : ℕ). v / d) (sym (pow-add 2 from j)))
 
+pub all_ones : (v from j : ℕ) → v ≡ 2 ^ 64 - 1 → j < 64 - from → bit_at (v / 2 ^ from) j ≡ 1
+all_ones v from j all lt = shifted v from j ∙ ap (λ (n : ℕ). bit_at n (from + j)) all ∙ bit_at_ones 64 (from + j) (omega (arith, lt))
+
 -- words in a row that are full
 pub run_full : (words summary : List ℕ) (v w run i : ℕ) → IsSummary summary words → v ≡ slice_index summary (w / 64) → v < 2 ^ 64
     → ((j : ℕ) → j < run → bit_at (v / 2 ^ (w % 64)) j ≡ 1)

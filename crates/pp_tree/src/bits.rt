@@ -145,7 +145,11 @@ impl Bits {
         ensures most { length self.now < 2 ^ 64 }
         ensures full { (i : ℕ) → 64 * w ≤ i → i < 64 * (w + result) → i < length self.now → slice_index_or self.now i false ≡ true }
     {
-        (self.summary[w / 64] >> (w % 64)).trailing_ones() as usize
+        let summary = self.summary[w / 64];
+        if summary == u64::MAX {
+            return 64 - w % 64;
+        }
+        (summary >> (w % 64)).trailing_ones() as usize
     }
 
     /// Leaves none of them set.
