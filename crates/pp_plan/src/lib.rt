@@ -5,6 +5,8 @@
 ghost use Rattle.pp_plan.specs.Law.{PlansAreLeast, StoriesTell};
 
 mod peak;
+#[cfg(test)]
+mod plain;
 mod planning;
 #[cfg(test)]
 mod tests;

@@ -1,6 +1,5 @@
 use Rattle.std.proofs.Common.{◌≡◌, ◌+◌, ◌-◌, ◌/◌, ◌^◌, ◌<◌, length, false, arith, ap, ◌∙◌, subst}
 use Rattle.std.specs.Prelude.{slice_index_or}
-use Rattle.std.proofs.lemmas.List.{get_or_default}
 use Rattle.pp_terms.specs.Bins.{parent_of}
 use Rattle.pp_tree.specs.Node.{node_of}
 use Rattle.pp_plan.specs.Told.{is_marked}
