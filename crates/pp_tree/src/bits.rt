@@ -68,6 +68,7 @@ impl Bits {
         })
     }
 
+    /// Whether a bit is set.
     pub fn has(&self, i: usize) -> bool
         requires { i < length self.now }
         ensures { result ≡ slice_index_or self.now i false }
