@@ -10,3 +10,4 @@ pub mod Flights
 pub mod Searches
 pub mod Books
 pub mod Sendings
+pub mod PlainParts

@@ -5,3 +5,4 @@ pub mod Standing
 pub mod Paths
 pub mod Flying
 pub mod Search
+pub mod PlainTests

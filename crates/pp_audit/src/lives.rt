@@ -11,8 +11,8 @@ use crate::entry::{Entry, Life};
 use crate::records::{Kind, answers, greets, is_kind};
 use pp_tree::Descriptor;
 
-// Whether the entry at a place, from another one on, is of that kind.
-fn is_since<'m>(
+/// Whether the entry at a place, from another one on, is of that kind.
+pub(crate) fn is_since<'m>(
     kind: Kind,
     descriptor: &Descriptor,
     life: Life,

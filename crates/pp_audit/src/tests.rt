@@ -413,3 +413,122 @@ fn serves_by_the_book(rt: HostRuntime) -> Result<(), Fail> {
     assert!(rt; !serves(&d, &book, &[hello, reply, ask, went(PEER, &more)]));
     Ok(())
 }
+
+// A datagram at a moment, in microseconds.
+fn came_at<'m>(at: u64, from: Address, bytes: &'m [u8]) -> Entry<'m> {
+    Entry::Received { at, from, bytes }
+}
+
+fn quiet<'m>(at: u64) -> Entry<'m> {
+    Entry::Quiet { at }
+}
+
+// The channel that the peer opened, by the place of its opening.
+fn answered(opening: usize) -> Life {
+    Life {
+        address: PEER,
+        local: LOCAL,
+        remote: REMOTE,
+        is_dialled: false,
+        opening,
+    }
+}
+
+#[test]
+fn knows_plain_channels(rt: HostRuntime) -> Result<(), Fail> {
+    let d = swarm(rt.alloc())?;
+    let hello_bytes = handshake(0, REMOTE, &d.root());
+    let hello = came(PEER, &hello_bytes);
+    let reply_bytes = handshake(REMOTE, LOCAL, &d.root());
+    let reply = went(PEER, &reply_bytes);
+    let ask_bytes = spanned(LOCAL, 8, 0, 0);
+    let ask = came(PEER, &ask_bytes);
+    let first_bytes = delivery(rt.alloc(), REMOTE, &PATH, 0)?;
+    let first = went(PEER, &first_bytes);
+    let next_bytes = acknowledges(LOCAL, 0, 1);
+    let next = came(PEER, &next_bytes);
+    let closed_bytes = close(LOCAL);
+    let closed = came(PEER, &closed_bytes);
+    let again_bytes = handshake(0, 5, &d.root());
+    let again = came(PEER, &again_bytes);
+    let mut twice_bytes = Vec::from_slice(rt.alloc(), &hello_bytes)?;
+    twice_bytes.extend_from_slice(&hello_bytes[4..])?;
+    let twice = came(PEER, &twice_bytes);
+    assert!(rt; is_plain(&d, answered(0), &[hello, reply, ask, first, next]));
+    assert!(rt; is_plain(&d, answered(0), &[hello, reply]));
+    assert!(rt; !is_plain(&d, answered(0), &[hello]));
+    assert!(rt; !is_plain(&d, answered(1), &[hello, reply]));
+    assert!(rt; !is_plain(&d, answered(0), &[twice, reply]));
+    assert!(rt; !is_plain(&d, answered(0), &[hello, reply, ask, closed]));
+    // another handshake for channel 0, before the reply and after it
+    assert!(rt; !is_plain(&d, answered(0), &[hello, again, reply]));
+    assert!(rt; is_plain(&d, answered(0), &[hello, reply, again]));
+    // something came from the address before, or from another one
+    assert!(rt; !is_plain(&d, answered(1), &[ask, hello, reply]));
+    assert!(rt; is_plain(&d, answered(1), &[came(OTHER, &ask_bytes), hello, reply]));
+    // the first that is sent to it isn't the reply
+    assert!(rt; !is_plain(&d, answered(0), &[hello, first, reply]));
+    Ok(())
+}
+
+#[test]
+fn knows_channels_in_time(rt: HostRuntime) -> Result<(), Fail> {
+    let d = swarm(rt.alloc())?;
+    let hello_bytes = handshake(0, REMOTE, &d.root());
+    let reply_bytes = handshake(REMOTE, LOCAL, &d.root());
+    let ask_bytes = spanned(LOCAL, 8, 0, 0);
+    let hello = came_at(5_000_000, PEER, &hello_bytes);
+    let reply = went(PEER, &reply_bytes);
+    let ask = came_at(14_999_999, PEER, &ask_bytes);
+    let late = came_at(194_999_998, PEER, &ask_bytes);
+    // ten seconds from the opening while nothing is heard
+    assert!(rt; is_plain(&d, answered(0), &[hello, reply, quiet(14_999_999)]));
+    assert!(rt; !is_plain(&d, answered(0), &[hello, reply, quiet(15_000_000)]));
+    assert!(rt; !is_plain(&d, answered(0), &[hello, reply, quiet(15_000_000), ask]));
+    // 180 seconds from the latest datagram
+    assert!(rt; is_plain(&d, answered(0), &[hello, reply, ask, quiet(194_999_998)]));
+    assert!(rt; !is_plain(&d, answered(0), &[hello, reply, ask, quiet(194_999_999)]));
+    assert!(rt;
+        is_plain(
+            &d,
+            answered(0),
+            &[hello, reply, ask, late, quiet(374_999_997)]
+        )
+    );
+    assert!(rt;
+        !is_plain(
+            &d,
+            answered(0),
+            &[hello, reply, ask, late, quiet(374_999_998)]
+        )
+    );
+    // what another one sends is not heard on it
+    let other = came_at(14_000_000, OTHER, &ask_bytes);
+    assert!(rt; !is_plain(&d, answered(0), &[hello, reply, other, quiet(15_000_000)]));
+    Ok(())
+}
+
+#[test]
+fn knows_plain_dials(rt: HostRuntime) -> Result<(), Fail> {
+    let d = swarm(rt.alloc())?;
+    let dial_bytes = handshake(0, 9, &d.root());
+    let dial = went(PEER, &dial_bytes);
+    let taken_bytes = handshake(9, REMOTE, &d.root());
+    let taken = came(PEER, &taken_bytes);
+    let ask_bytes = spanned(9, 8, 0, 0);
+    let ask = came(PEER, &ask_bytes);
+    let life = Life {
+        local: 9,
+        is_dialled: true,
+        ..answered(0)
+    };
+    assert!(rt; is_plain(&d, life, &[dial, taken]));
+    assert!(rt; is_plain(&d, life, &[dial, taken, ask]));
+    assert!(rt; is_plain(&d, life, &[dial, dial, taken]));
+    assert!(rt; is_plain(&d, life, &[dial, came(OTHER, &ask_bytes), taken]));
+    assert!(rt; !is_plain(&d, life, &[dial]));
+    assert!(rt; !is_plain(&d, life, &[taken, dial]));
+    assert!(rt; !is_plain(&d, life, &[dial, ask, taken]));
+    assert!(rt; !is_plain(&d, answered(0), &[dial, taken]));
+    Ok(())
+}

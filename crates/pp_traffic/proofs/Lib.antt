@@ -7,3 +7,4 @@ pub mod OneMore
 pub mod Paths
 pub mod Served
 pub mod Plains
+pub mod Awaited

@@ -219,7 +219,7 @@ places_dial d life reach past by = record {
   replied = found_first (comes_from life.address) (greets d life) 0 reach by.replied;
 }
 
-each_way : (b : Bool) (A B X Y : Type 0) → (A → X) → (B → Y) → MatchBool b A B → MatchBool b X Y
+pub each_way : (b : Bool) (A B X Y : Type 0) → (A → X) → (B → Y) → MatchBool b A B → MatchBool b X Y
 each_way true A B X Y f g h = f h
 each_way false A B X Y f g h = g h
 

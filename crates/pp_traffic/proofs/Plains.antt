@@ -40,6 +40,14 @@ first_either which test place r past e = ⊎_elim
     inr (none, leb-true place (length past) inner.0, inner.1, outer.1))
     (cases_Bool (some_since which place past))
 
+-- where the first passes, there is one
+pub some_first : (which test : Record → Bool) (place : ℕ) (xs : List Record) → first_since which test place xs ≡ true → some_since which place xs ≡ true
+some_first which test place [] e = absurd cc
+some_first which test place (x ∷ xs) e = ⊎_elim
+    (λ first. or_right (leb place (length xs) && which x) (some_since which place xs) (some_first which test place xs first))
+    (λ new. or_left (leb place (length xs) && which x) (some_since which place xs) (and_from (leb place (length xs)) (which x) (le-leb place (length xs) new.1) new.2))
+    (first_either which test place x xs e)
+
 -- ---- an answered channel
 
 -- What an answered plain channel has, apart from its reply.
@@ -98,7 +106,7 @@ pub record IsReplyTo (d : Descriptor) (life : Life) (r : Record) (past : List Re
   pub is_answer : answers d life r ≡ true
   pub rest : IsRest d life past
 
-no_goes : (a : Address) (r : Record) → comes_from a r ≡ true → goes_to a r ≡ true → ⊥
+pub no_goes : (a : Address) (r : Record) → comes_from a r ≡ true → goes_to a r ≡ true → ⊥
 no_goes a (Received at sender bytes) c g = cc
 no_goes a (Quiet at) c g = cc
 no_goes a (Sent moment receiver bytes) c g = cc
@@ -121,13 +129,6 @@ answered_before d life r past is = ⊎_elim
     (λ new. inr (record { answered = is.answered; opened = opened; none_sent = new.0; goes = new.2; is_answer = new.3; rest = rest_before d life r past is.rest }))
     (first_either (goes_to life.address) (answers d life) life.opening r past is.replied))
     (at_either (greets_once d life) life.opening r past is.opened)
-  where
-    some_first : (which test : Record → Bool) (place : ℕ) (xs : List Record) → first_since which test place xs ≡ true → some_since which place xs ≡ true
-    some_first which test place [] e = absurd cc
-    some_first which test place (x ∷ xs) e = ⊎_elim
-        (λ first. or_right (leb place (length xs) && which x) (some_since which place xs) (some_first which test place xs first))
-        (λ new. or_left (leb place (length xs) && which x) (some_since which place xs) (and_from (leb place (length xs)) (which x) (le-leb place (length xs) new.1) new.2))
-        (first_either which test place x xs e)
 
 -- ---- dialled channels, and records that are events
 
@@ -135,7 +136,7 @@ answered_before d life r past is = ⊎_elim
 pub at_later : (test : Record → Bool) (place : ℕ) (r : Record) (past : List Record) → is_at test place past ≡ true → is_at test place (r ∷ past) ≡ true
 at_later test place r past e = or_right (eqb place (length past) && test r) (is_at test place past) e
 
-no_answer : (d : Descriptor) (life : Life) (r : Record) → is_event r ≡ true → answers d life r ≡ true → ⊥
+pub no_answer : (d : Descriptor) (life : Life) (r : Record) → is_event r ≡ true → answers d life r ≡ true → ⊥
 no_answer d life (Received at sender bytes) event e = cc
 no_answer d life (Quiet at) event e = cc
 no_answer d life (Sent moment receiver bytes) event e = cc

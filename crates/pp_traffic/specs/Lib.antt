@@ -6,6 +6,7 @@ pub mod Hashes
 pub mod Serving
 pub mod Keeping
 pub mod Plain
+pub mod Awaiting
 pub mod Turns
 pub mod Places
 pub mod Laws

@@ -5,6 +5,7 @@
 #![tactic(auto)]
 
 ghost use Rattle.pp_traffic.specs.Places.{LivesByPlaces, AskedByPlaces, ChokedByPlaces, HeardByPlaces, PathsByPlaces, PlainByPlaces, MomentsByPlaces};
+ghost use Rattle.pp_traffic.specs.Awaiting.{PlainGrows};
 ghost use Rattle.pp_traffic.specs.Laws.{LivesStay, LivesBegan, StoriesGrow, ToldStays, PathsGrow, PlansComplete, ServedStays};
 
 /// The definitions in words by places, which say the same.
@@ -27,4 +28,5 @@ pub fn laws_of_traffic()
     ensures paths { PathsGrow }
     ensures plans { PlansComplete }
     ensures served { ServedStays }
+    ensures plain { PlainGrows }
 {}

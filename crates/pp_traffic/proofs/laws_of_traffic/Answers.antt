@@ -1,6 +1,7 @@
 use Rattle.pp_traffic.proofs.OneMore.{lives_stay, lives_began, stories_grow, told_stays}
 use Rattle.pp_traffic.proofs.Paths.{paths_grow, plans_complete}
 use Rattle.pp_traffic.proofs.Served.{served_stays}
+use Rattle.pp_traffic.proofs.Awaited.{plain_grows}
 use Rattle.pp_traffic.proofs.laws_of_traffic.Goals as goal
 
 pub returns : goal.returns
@@ -12,4 +13,5 @@ returns c = record {
   paths = paths_grow;
   plans = plans_complete;
   served = served_stays;
+  plain = plain_grows;
 }
