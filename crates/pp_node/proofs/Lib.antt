@@ -8,3 +8,4 @@ pub mod Readies
 pub mod Spans
 pub mod Checks
 pub mod Seeds
+pub mod Exports

@@ -9,3 +9,4 @@ pub mod Looking
 pub mod Held
 pub mod Checking
 pub mod Seeding
+pub mod Exporting

@@ -4,6 +4,7 @@
 mod built;
 mod checking;
 mod counting;
+mod exporting;
 mod importing;
 mod looking;
 mod preparing;
@@ -15,6 +16,7 @@ mod status;
 mod top;
 mod turning;
 
+pub use exporting::export;
 pub use seeding::seed;
 pub use status::Status;
 pub use top::run;

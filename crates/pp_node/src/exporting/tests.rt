@@ -1,0 +1,1 @@
+// The content of 7,000 bytes.
