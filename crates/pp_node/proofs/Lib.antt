@@ -9,3 +9,4 @@ pub mod Spans
 pub mod Checks
 pub mod Seeds
 pub mod Exports
+pub mod ExportRuns

@@ -40,9 +40,9 @@ impl PutFault {
     }
 }
 
-/// Does what `export STORE DESCRIPTOR` will do, which the words of a command line can't ask for yet: attaches the named store,
-/// scans it and, where it holds every chunk, writes the content to the sink, each chunk read again and its digest compared with
-/// the book's. It says nothing of a fault. The book is empty at entry.
+/// Attaches the named store, scans it and, where it holds every chunk, writes the content to the sink. Each chunk is read
+/// again, and its digest compared with the book's, before it is written. Nothing is said of a fault, and nothing is written to
+/// the disk. The book is empty at entry.
 pub fn export<D: Disk, K: Sink>(
     alloc: Global,
     store: &str,
