@@ -9,4 +9,3 @@ pub mod Spans
 pub mod Checks
 pub mod Seeds
 pub mod Exports
-pub mod ExportRuns
