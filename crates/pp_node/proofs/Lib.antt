@@ -6,6 +6,6 @@ pub mod Turns
 pub mod Looks
 pub mod Readies
 pub mod Spans
-pub mod Checks
+pub mod Commands
 pub mod Seeds
 pub mod Exports

@@ -10,3 +10,4 @@ pub mod Held
 pub mod Checking
 pub mod Seeding
 pub mod Exporting
+pub mod Commanding
