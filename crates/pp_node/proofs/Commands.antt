@@ -13,6 +13,7 @@ use Rattle.pp_words.proofs.OneReading.{command_not_wrong}
 use Rattle.pp_node.specs.Built.{built}
 use Rattle.pp_node.specs.Run.{ImportEnds}
 use Rattle.pp_node.specs.Checking.{CheckEnds}
+use Rattle.pp_node.specs.Exporting.{ExportEnds}
 use Rattle.pp_node.specs.Promising.{SeedEnds}
 use Rattle.pp_node.specs.Commanding.{IsServed, IsTooLarge, IsUnserved, HasEnded}
 use Rattle.pp_node.specs.Status.{number_of}
@@ -65,12 +66,18 @@ module _ (words : List (List ℕ)) (command : Command) (status : Status) (result
       let end = ended_as (Check store descriptor) spelled in
       record { status = status; number = number; ends = end.0; unwritten = end.1; unread = end.2; rooted = end.3 }
 
+  pub export_ends : (store : List ℕ) (descriptor : Descriptor) → IsOnStore (codes "export") words store descriptor
+      → ExportEnds result descriptor source source' sink sink' disk disk' book book'
+  export_ends store descriptor spelled =
+      let end = ended_as (Export store descriptor) spelled in
+      record { status = status; number = number; ends = end.0; unwritten = end.1; unread = end.2; rooted = end.3 }
+
   never : (c : Command) → HasEnded c Usage random source source' sink sink' disk disk' seen seen' book book' → ⊥
   never (Import store chunk) end = end.0
   never (Seed store descriptor listen turns) end = end.0
   never (Check store descriptor) end = end.0
   never (Fetch store descriptor listen turns order peers) end = end
-  never (Export store descriptor) end = end
+  never (Export store descriptor) end = end.0
   never Replay end = end
   never (Rehearse n) end = end
 

@@ -9,3 +9,4 @@ pub mod Spans
 pub mod Promises
 pub mod Commands
 pub mod Seeds
+pub mod Exports

@@ -1,7 +1,7 @@
 -- The commands that words may ask for, and how each of them ends.
 use Rattle.std.specs.Prelude.{◌≡◌, ◌⊎◌, ℕ, ◌+◌, List, length, decimal}
 use Rattle.pp_terms.specs.Book.{LookUp, IsRooted}
-use Rattle.pp_terms.specs.Commands.{Command, Import, Seed, Check}
+use Rattle.pp_terms.specs.Commands.{Command, Import, Seed, Check, Export}
 use Rattle.pp_terms.specs.CommandLine.{IsSeed}
 use Rattle.pp_terms.specs.Descriptor.{Descriptor, chunks_of}
 use Rattle.pp_terms.specs.DescriptorFault as fault
@@ -11,6 +11,7 @@ use Rattle.pp_terms.specs.Traffic.{Address, LinkState}
 use Rattle.pp_terms.specs.Usage as wrong
 use Rattle.pp_node.specs.declared.status.Status.{Status}
 use Rattle.pp_node.specs.Checking.{ChecksIn}
+use Rattle.pp_node.specs.Exporting.{ExportsIn}
 use Rattle.pp_node.specs.Looking.{IsUnwritten}
 use Rattle.pp_node.specs.Run.{EndsIn, IsImportRun}
 use Rattle.pp_node.specs.Seeding.{SeedsIn}
@@ -44,6 +45,7 @@ pub record IsTooLarge (words : List (List ℕ)) (u : wrong.Usage) : Type 0 where
 -- the commands that fill the book, and those that use the link
 abbrev pub FillsBook : Command → Type 0
 FillsBook (Check store descriptor) = Unit {0}
+FillsBook (Export store descriptor) = Unit {0}
 FillsBook (Seed store descriptor listen turns) = Unit {0}
 FillsBook _ = ⊥
 
@@ -59,4 +61,6 @@ HasEnded (Check store descriptor) status random source source' sink sink' disk d
     ChecksIn status descriptor sink sink' disk disk' × IsUnwritten disk disk' × (source' ≡ source) × ((book' ≡ book) ⊎ IsRooted descriptor book')
 HasEnded (Seed store descriptor listen turns) status random source source' sink sink' disk disk' seen seen' book book' =
     SeedsIn status descriptor random turns sink sink' disk disk' seen seen' book' × SeedPromises status descriptor turns sink sink' disk disk' seen seen' book' × (source' ≡ source) × ((book' ≡ book) ⊎ IsRooted descriptor book')
+HasEnded (Export store descriptor) status random source source' sink sink' disk disk' seen seen' book book' =
+    ExportsIn status descriptor sink sink' disk disk' book' × IsUnwritten disk disk' × (source' ≡ source) × ((book' ≡ book) ⊎ IsRooted descriptor book')
 HasEnded _ status random source source' sink sink' disk disk' seen seen' book book' = ⊥

@@ -10,4 +10,5 @@ pub mod Held
 pub mod Checking
 pub mod Seeding
 pub mod Promising
+pub mod Exporting
 pub mod Commanding

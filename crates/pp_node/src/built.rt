@@ -13,7 +13,7 @@ use pp_words::{Command, Usage, UsageKind, read_words};
 fn is_built(name: &str) -> bool
     ensures { MatchBool result (named name.now built ≡ named name.now commands) (named name.now built ≡ None) }
 {
-    matches!(name, "import" | "seed" | "check")
+    matches!(name, "import" | "seed" | "check" | "export")
 }
 
 // The same, whatever content it is on.

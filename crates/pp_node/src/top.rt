@@ -12,11 +12,13 @@ ghost use Rattle.pp_node.specs.Built.{built};
 ghost use Rattle.pp_node.specs.Text.{Says};
 ghost use Rattle.pp_node.specs.Run.{ImportEnds};
 ghost use Rattle.pp_node.specs.Checking.{CheckEnds};
+ghost use Rattle.pp_node.specs.Exporting.{ExportEnds};
 ghost use Rattle.pp_node.specs.Promising.{SeedEnds};
 ghost use Rattle.pp_node.specs.Commanding.{IsServed, IsTooLarge, FillsBook, UsesLink, HasEnded};
 
 use crate::built::read_built;
 use crate::checking::check;
+use crate::exporting::export;
 use crate::importing::import;
 use crate::refusing::refuse;
 use crate::seeding::seed;
@@ -27,10 +29,11 @@ use pp_words::Command;
 use std::alloc::Global;
 
 /// Does what the words of a command line say, without the program's name, and answers the exit status: 0 done, 1 for
-/// words that are no command, 2 for a file that is no store of the descriptor, 4 where the disk refused a call, 5 where the
-/// link refused to listen, 6 where the source refused a read, 7 where the sink refused a write, 8 for a store that isn't
-/// empty, 9 for a content of no swarm, 11 where memory ran out. The book is empty at entry, and `random` are 32 bytes that
-/// nobody can guess, from which channel numbers are drawn.
+/// words that are no command, 2 for a file that is no store of the descriptor, 3 where some chunk isn't held, 4 where the
+/// disk refused a call, 5 where the link refused to listen, 6 where the source refused a read, 7 where the sink refused a
+/// write, 8 for a store that isn't empty, 9 for a content of no swarm, 11 where memory ran out, 12 where a chunk was read
+/// back with another digest. The book is empty at entry, and `random` are 32 bytes that nobody can guess, from which
+/// channel numbers are drawn.
 pub fn run<D: Disk, L: Link, S: Source, K: Sink>(
     alloc: Global,
     words: &[String],
@@ -65,7 +68,11 @@ pub fn run<D: Disk, L: Link, S: Source, K: Sink>(
         → CheckEnds result descriptor (S.state source.old) (S.state source.new) (K.state sink.old) (K.state sink.new)
         (D.state disk.old) (D.state disk.new) (entry book.old) (entry book.new) }
 
-    // Only `seed` uses the link, and only it and `check` fill the book.
+    ensures export { (store : List ℕ) (descriptor : Descriptor) → IsOnStore (codes "export") (texts words.now) store descriptor
+        → ExportEnds result descriptor (S.state source.old) (S.state source.new) (K.state sink.old) (K.state sink.new)
+        (D.state disk.old) (D.state disk.new) (entry book.old) (entry book.new) }
+
+    // Only `seed` uses the link, and only it, `check` and `export` fill the book.
     ensures link { ((c : terms.Command) → Spells (texts words.now) c → UsesLink c → ⊥) → L.seen link.new ≡ L.seen link.old }
     ensures book { ((c : terms.Command) → Spells (texts words.now) c → FillsBook c → ⊥) → book.new ≡ book.old }
 {
@@ -106,9 +113,11 @@ fn obey<D: Disk, L: Link, S: Source, K: Sink>(
             alloc, store, descriptor, listen, *turns, random, disk, link, sink, book,
         ),
         Command::Check { store, descriptor } => check(alloc, store, descriptor, disk, sink, book),
+        Command::Export { store, descriptor } => {
+            export(alloc, store, descriptor, disk, sink, book)
+        }
         // These are not built, so they are never asked for.
         Command::Fetch { .. } => unreachable!(),
-        Command::Export { .. } => unreachable!(),
         Command::Replay => unreachable!(),
         Command::Rehearse { .. } => unreachable!(),
     }

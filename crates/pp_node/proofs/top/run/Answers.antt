@@ -1,8 +1,8 @@
 use Rattle.std.proofs.Common.{rules, refl}
-use Rattle.pp_terms.specs.Commands.{Check, Seed}
+use Rattle.pp_terms.specs.Commands.{Check, Export, Seed}
 use Rattle.pp_words.specs.Views.{texts, command_of, usage_of}
 use Rattle.pp_tree.specs.Book.{entry}
-use Rattle.pp_node.proofs.Commands.{none_spelled, import_ends, seed_ends, check_ends}
+use Rattle.pp_node.proofs.Commands.{none_spelled, import_ends, seed_ends, check_ends, export_ends}
 use Rattle.pp_node.proofs.top.run.Goals as goal
 
 pub returns-in-Ok-clause-import : goal.returns-in-Ok-clause-import
@@ -23,6 +23,12 @@ returns-in-Ok-clause-check g c =
     (g.K.Sink.state c.args.sink.now) (g.K.Sink.state c.obey.new.sink) (g.D.Disk.state c.args.disk.now) (g.D.Disk.state c.obey.new.disk) (g.L.Link.seen c.args.link.now) (g.L.Link.seen c.obey.new.link)
     (entry c.args.book.now) (entry c.obey.new.book) c.in-Ok.ensures.ok.0 c.number.ensures c.obey.ensures.ended
 
+pub returns-in-Ok-clause-export : goal.returns-in-Ok-clause-export
+returns-in-Ok-clause-export g c =
+    export_ends (texts c.args.words.now) (command_of c.in-Ok.command) c.obey.result c.number.result c.args.random (g.S.Source.state c.args.source.now) (g.S.Source.state c.obey.new.source)
+    (g.K.Sink.state c.args.sink.now) (g.K.Sink.state c.obey.new.sink) (g.D.Disk.state c.args.disk.now) (g.D.Disk.state c.obey.new.disk) (g.L.Link.seen c.args.link.now) (g.L.Link.seen c.obey.new.link)
+    (entry c.args.book.now) (entry c.obey.new.book) c.in-Ok.ensures.ok.0 c.number.ensures c.obey.ensures.ended
+
 -- words that are wrong spell no command that is built and served
 pub returns-in-Err-clause-usage : goal.returns-in-Err-clause-usage
 returns-in-Err-clause-usage g c = (
@@ -37,3 +43,7 @@ returns-in-Err-clause-seed g c = λ store descriptor listen turns spelled one.
 pub returns-in-Err-clause-check : goal.returns-in-Err-clause-check
 returns-in-Err-clause-check g c = λ store descriptor spelled.
     absurd (none_spelled (texts c.args.words.now) (usage_of c.in-Err.usage) c.in-Err.ensures.err (Check store descriptor) refl tt spelled)
+
+pub returns-in-Err-clause-export : goal.returns-in-Err-clause-export
+returns-in-Err-clause-export g c = λ store descriptor spelled.
+    absurd (none_spelled (texts c.args.words.now) (usage_of c.in-Err.usage) c.in-Err.ensures.err (Export store descriptor) refl tt spelled)
