@@ -4,6 +4,10 @@
 //! Its functions do nothing. Their contracts are laws on those words, and worked examples of them.
 #![tactic(auto)]
 
+mod entries;
+
+pub use entries::{Entry, Minute};
+
 ghost use Rattle.pp_traffic.specs.Places.{LivesByPlaces, AskedByPlaces, ChokedByPlaces, HeardByPlaces, PathsByPlaces, PlainByPlaces, MomentsByPlaces};
 ghost use Rattle.pp_traffic.specs.Awaiting.{PlainGrows};
 ghost use Rattle.pp_traffic.specs.Laws.{LivesStay, LivesBegan, StoriesGrow, ToldStays, PathsGrow, PlansComplete, ServedStays};
