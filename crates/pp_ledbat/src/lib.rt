@@ -13,3 +13,6 @@ pub use gain::gained;
 pub use sending::Window;
 pub use settling::{Settled, alone, covers, hits, oldest, settle};
 pub use trips::RoundTrips;
+
+#[cfg(test)]
+mod tests;
