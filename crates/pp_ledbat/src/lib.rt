@@ -4,12 +4,14 @@
 
 mod delays;
 mod gain;
+mod laws;
 mod sending;
 mod settling;
 mod trips;
 
 pub use delays::DelayHistory;
 pub use gain::gained;
+pub use laws::laws_of_windows;
 pub use sending::Window;
 pub use settling::{Settled, alone, covers, hits, oldest, settle};
 pub use trips::RoundTrips;

@@ -1,0 +1,5 @@
+pub mod Samples
+pub mod Bases
+pub mod Bounds
+pub mod Timeouts
+pub mod Openings

@@ -1,0 +1,12 @@
+//! Laws on the window.
+
+ghost use Rattle.pp_ledbat.specs.Laws.{SamplesAreSigned, BaseIsLeast, WindowsAreBounded, TimeoutsSettle, OpeningsAreAlike};
+
+/// What is so of every window, whatever its story (RFC 6817, section 2.4). It does nothing.
+pub fn laws_of_windows()
+    ensures samples { SamplesAreSigned }
+    ensures base { BaseIsLeast }
+    ensures bounds { WindowsAreBounded }
+    ensures timeouts { TimeoutsSettle }
+    ensures openings { OpeningsAreAlike }
+{}
