@@ -1,11 +1,11 @@
 -- The base of the delays is at most the current one: each of the last samples stands in one of as many of the last minutes.
-use Rattle.std.proofs.Common.{◌≡◌, ◌⊎◌, inl, inr, ℕ, zero, suc, ◌+◌, ◌<◌, ◌≤◌, min, ◌==◌, Bool, true, false, cond, List, [], ◌∷◌, take, map, length, refl, sym, subst, arith}
+use Rattle.std.proofs.Common.{◌≡◌, ◌⊎◌, inl, inr, ℕ, zero, suc, ◌+◌, ◌≤◌, min, ◌==◌, Bool, true, false, cond, List, [], ◌∷◌, take, map, length, refl, arith}
 use Rattle.std.specs.List.{fold}
-use Rattle.pp_terms.specs.Messages.{Message, Handshake, Data, Ack, Have, Integrity, Pex4, PexReq, Request, Cancel, Choke, Unchoke, Pex6}
+use Rattle.pp_terms.specs.Messages.{Message, Data, Ack}
 use Rattle.pp_traffic.specs.declared.entries.Minute.{Minute}
 use Rattle.pp_traffic.specs.Story.{Line, Heard, Said, Taken}
-use Rattle.pp_traffic.specs.Delays.{Delays, sample_of, is_near, minute_of, noted, sampled, least, current, base}
-use Rattle.pp_traffic.specs.Meter.{Meter, hits, settled, acked, is_due, timed_out, ended, heard_by, said_by, meter}
+use Rattle.pp_traffic.specs.Delays.{Delays, sample_of, is_near, minute_of, noted, sampled, least}
+use Rattle.pp_traffic.specs.Meter.{Meter, hits, settled, is_due, timed_out, heard_by, said_by, meter}
 use Rattle.pp_ledbat.specs.Laws.{BaseIsLeast}
 
 -- one of the first minutes, so many, is at most the sample

@@ -1,11 +1,11 @@
 -- The bounds of a window.
-use Rattle.std.proofs.Common.{◌≡◌, ℕ, ◌+◌, ◌*◌, ◌/◌, ◌<◌, ◌≤◌, min, max, Bool, true, false, cond, pos, ◌+ℤ◌, List, [], ◌∷◌, refl, sym, subst, arith, ◌==◌}
+use Rattle.std.proofs.Common.{◌≡◌, ℕ, ◌+◌, ◌*◌, ◌≤◌, min, max, Bool, true, false, cond, pos, ◌+ℤ◌, List, [], ◌∷◌, refl, sym, subst, arith, ◌==◌}
 use Rattle.std.specs.Int.{int_min}
-use Rattle.pp_terms.specs.Messages.{Message, Handshake, Data, Ack, Have, Integrity, Pex4, PexReq, Request, Cancel, Choke, Unchoke, Pex6}
+use Rattle.pp_terms.specs.Messages.{Message, Data, Ack}
 use Rattle.pp_traffic.specs.Story.{Line, Heard, Said, Taken}
 use Rattle.pp_traffic.specs.Gain.{gain, gained, natural}
 use Rattle.pp_traffic.specs.Delays.{sample_of, is_near, sampled, queuing}
-use Rattle.pp_traffic.specs.Meter.{Meter, new_meter, flight, hits, sent, half_of, window_gained, is_halved, settled, acked, is_due, timed_out, ended, heard_by, said_by, meter}
+use Rattle.pp_traffic.specs.Meter.{Meter, flight, hits, half_of, window_gained, is_halved, settled, acked, is_due, timed_out, heard_by, said_by, meter}
 use Rattle.pp_ledbat.specs.Laws.{WindowsAreBounded}
 
 -- a number between the bounds

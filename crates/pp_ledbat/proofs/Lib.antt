@@ -3,3 +3,4 @@ pub mod Bases
 pub mod Bounds
 pub mod Timeouts
 pub mod Openings
+pub mod Calls

@@ -1,7 +1,6 @@
 -- Windows from two moments of one opening.
-use Rattle.std.proofs.Common.{◌≡◌, ◌⊎◌, ⊎_elim, ℕ, ◌-◌, ◌==◌, leb, Bool, true, false, cond, ◌&&◌, List, [], ◌∷◌, refl, sym, ◌∙◌, ap, subst}
-use Rattle.std.proofs.lemmas.Bool.{cases_Bool}
-use Rattle.pp_terms.specs.Messages.{Message, Handshake, Data, Ack, Have, Integrity, Pex4, PexReq, Request, Cancel, Choke, Unchoke, Pex6}
+use Rattle.std.proofs.Common.{◌≡◌, ℕ, ◌-◌, ◌==◌, leb, Bool, true, false, cond, ◌&&◌, List, [], ◌∷◌, refl, sym, ◌∙◌, ap, subst}
+use Rattle.pp_terms.specs.Messages.{Message, Data, Ack}
 use Rattle.pp_traffic.specs.Story.{Line, Heard, Said, Taken}
 use Rattle.pp_traffic.specs.Meter.{Meter, is_flying, has_room, hits, sent, settled, acked, is_due, timed_out, ended, heard_by, said_by, meter}
 use Rattle.pp_ledbat.specs.Laws.{AreAlike, OpeningsAreAlike}

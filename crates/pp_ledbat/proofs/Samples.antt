@@ -1,9 +1,8 @@
 -- Samples as signed numbers.
-use Rattle.std.proofs.Common.{◌≡◌, ◌⊎◌, ⊎_elim, ℕ, ◌+◌, ◌-◌, ◌%◌, ◌^◌, ◌<◌, ◌≤◌, ltb, leb, Bool, true, false, cond, ℤ, pos, negsuc, ◌+ℤ◌, ◌-ℤ◌, nat_abs, refl, sym, ◌∙◌, ap, subst, arith}
+use Rattle.std.proofs.Common.{◌≡◌, ⊎_elim, ℕ, ◌+◌, ◌-◌, ◌%◌, ◌^◌, ◌<◌, ◌≤◌, ltb, leb, true, false, pos, negsuc, ◌+ℤ◌, ◌-ℤ◌, nat_abs, refl, ◌∙◌, ap, subst, arith}
 use Rattle.std.proofs.lemmas.Int.{ints}
-use Rattle.std.proofs.lemmas.Bool.{leb-true, le-leb, lt-leb, ltb-true, ltb-false, lt-ltb, le-ltb, cases_Bool}
+use Rattle.std.proofs.lemmas.Bool.{leb-true, le-leb, ltb-true, ltb-false, cases_Bool}
 use Rattle.std.specs.Prelude.{◌↔◌}
-use Rattle.pp_traffic.specs.Delays.{is_near, sample_of}
 use Rattle.pp_ledbat.specs.Laws.{apart, signed, SamplesAreSigned}
 
 shifted : (first delay : ℕ) → (delay + (2 ^ 64 - first) + 2 ^ 40) % 2 ^ 64 ≡ (apart first delay + 2 ^ 40) % 2 ^ 64

@@ -1,9 +1,10 @@
 -- Laws on the congestion window of a story.
-use Rattle.std.specs.Prelude.{◌≡◌, ◌↔◌, ℕ, ◌+◌, ◌-◌, ◌*◌, ◌%◌, ◌^◌, ◌<◌, ◌≤◌, nat_lt, Bool, true, false, if◌then◌else◌, ℤ, pos, ◌+ℤ◌, ◌-ℤ◌, nat_abs, Some, List, [], length}
-use Rattle.pp_traffic.specs.Story.{Line}
+use Rattle.std.specs.Prelude.{◌≡◌, ◌↔◌, ℕ, ◌+◌, ◌-◌, ◌*◌, ◌%◌, ◌^◌, ◌<◌, ◌≤◌, nat_lt, true, false, if◌then◌else◌, ℤ, pos, ◌+ℤ◌, ◌-ℤ◌, nat_abs, Some, List, [], ◌∷◌, length}
+use Rattle.pp_terms.specs.Messages.{Span, Data, Ack}
+use Rattle.pp_traffic.specs.Story.{Line, Heard, Said, Taken}
 use Rattle.pp_traffic.specs.Gain.{gained}
 use Rattle.pp_traffic.specs.Delays.{sample_of, is_near, current, base}
-use Rattle.pp_traffic.specs.Meter.{Meter, is_flying, has_room, acked, is_due, timed_out, ended, meter}
+use Rattle.pp_traffic.specs.Meter.{Meter, new_meter, sent, is_flying, has_room, acked, is_due, timed_out, ended, meter}
 
 -- how far a delay is above the first one, modulo 2 ^ 64; and a number of 64 bits as a signed one
 abbrev pub apart : (first delay : ℕ) → ℕ
@@ -53,3 +54,15 @@ pub record OpeningsAreAlike : Type 0 where
   pub alike : (chunk a b : ℕ) (story : List Line) → AreAlike (meter chunk a story) (meter chunk b story)
   pub room : (chunk a b : ℕ) (story : List Line) → has_room (meter chunk a story) ≡ has_room (meter chunk b story)
   pub due : (chunk a b now : ℕ) (story : List Line) → is_due now (meter chunk a story) ≡ is_due now (meter chunk b story)
+
+-- What a window's calls leave stands for the same calls as lines of a story: `new` for none, and each other call for one more.
+pub record CallsStand : Type 0 where
+  pub new : (chunk opened : ℕ) → new_meter chunk opened ≡ meter chunk opened []
+  pub sends : (chunk opened i now sent_at : ℕ) (bytes : List ℕ) (story : List Line) (m : Meter) → m ≡ meter chunk opened story
+      → sent i now m ≡ meter chunk opened (Said now (Data i sent_at bytes) ∷ story)
+  pub hears : (chunk opened delay now : ℕ) (span : Span) (story : List Line) (m : Meter) → m ≡ meter chunk opened story
+      → acked span.first span.last delay now m ≡ meter chunk opened (Heard now (Ack span delay) ∷ story)
+  pub times_out : (chunk opened now : ℕ) (story : List Line) (m : Meter) → m ≡ meter chunk opened story → is_due now m ≡ true
+      → timed_out now m ≡ meter chunk opened (Taken now ∷ story)
+  pub waits : (chunk opened now : ℕ) (story : List Line) (m : Meter) → m ≡ meter chunk opened story → is_due now m ≡ false
+      → m ≡ meter chunk opened (Taken now ∷ story)

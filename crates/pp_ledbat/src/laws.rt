@@ -1,6 +1,7 @@
 //! Laws on the window.
 
-ghost use Rattle.pp_ledbat.specs.Laws.{SamplesAreSigned, BaseIsLeast, WindowsAreBounded, TimeoutsSettle, OpeningsAreAlike};
+ghost use Rattle.pp_ledbat.specs.Laws.{SamplesAreSigned, BaseIsLeast, WindowsAreBounded, TimeoutsSettle, OpeningsAreAlike, CallsStand};
+ghost use Rattle.pp_ledbat.specs.Examples.{WindowExamples};
 
 /// What is so of every window, whatever its story (RFC 6817, section 2.4). It does nothing.
 pub fn laws_of_windows()
@@ -9,4 +10,10 @@ pub fn laws_of_windows()
     ensures bounds { WindowsAreBounded }
     ensures timeouts { TimeoutsSettle }
     ensures openings { OpeningsAreAlike }
+    ensures calls { CallsStand }
+{}
+
+/// Windows in examples that were worked out elsewhere. It does nothing.
+pub fn examples_of_windows()
+    ensures { WindowExamples }
 {}

@@ -11,7 +11,7 @@ mod trips;
 
 pub use delays::DelayHistory;
 pub use gain::gained;
-pub use laws::laws_of_windows;
+pub use laws::{examples_of_windows, laws_of_windows};
 pub use sending::Window;
 pub use settling::{Settled, alone, covers, hits, oldest, settle};
 pub use trips::RoundTrips;

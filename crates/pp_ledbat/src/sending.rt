@@ -6,7 +6,7 @@ ghost use Rattle.pp_traffic.specs.Meter as terms;
 
 use crate::delays::DelayHistory;
 use crate::gain::gained;
-use crate::settling::{alone, hits, settle};
+use crate::settling::{alone_of, hits, settle_counted};
 use crate::trips::RoundTrips;
 use arrayvec::ArrayVec;
 use pp_ranges::ChunkRange;
@@ -113,12 +113,13 @@ fn timer_at(is_flying: bool, now: u64, timer: u64) -> u64
     if is_flying { timer } else { now }
 }
 
-// Takes the entries of a range out of flight, and what is lost with them, and says whether something is.
-fn fly(entries: &mut ArrayVec<Entry, 512>, range: ChunkRange) -> bool
+// Takes the entries of a range, so many, out of flight, and what is lost with them, and says whether something is.
+fn fly(entries: &mut ArrayVec<Entry, 512>, range: ChunkRange, count: usize) -> bool
+    requires { count ≡ terms.hits range.first range.last entries.old.items }
     ensures left { entries.new.items ≡ terms.flying range.first range.last entries.old.items }
     ensures lost { result ≡ terms.loses range.first range.last entries.old.items }
 {
-    let settled = settle(entries.as_mut_slice(), range);
+    let settled = settle_counted(entries.as_mut_slice(), range, count);
     entries.truncate(settled.kept);
     settled.has_lost
 }
@@ -197,8 +198,10 @@ impl Window {
         let counts = self.delays.note(delay, now);
         let queuing = self.delays.queuing();
         let window = grown(counts, self.window, bytes, queuing, chunk, flight);
-        self.trips.note(now, alone(self.entries.as_slice(), range));
-        let halves = fly(&mut self.entries, range) && is_rested(now, &self.trips, self.halved);
+        let sent_at = alone_of(self.entries.as_slice(), range, count);
+        self.trips.note(now, sent_at);
+        let has_lost = fly(&mut self.entries, range, count);
+        let halves = has_lost && is_rested(now, &self.trips, self.halved);
         self.window = shrunk(halves, chunk, window);
         self.halved = halved_at(halves, now, self.halved);
         self.timer = now;

@@ -52,7 +52,15 @@ pub fn oldest(entries: &[Entry], range: ChunkRange) -> Option<u64>
 pub fn alone(entries: &[Entry], range: ChunkRange) -> Option<u64>
     ensures { result ≡ terms.alone range.first range.last entries.now }
 {
-    if hits(entries, range) == 1 {
+    alone_of(entries, range, hits(entries, range))
+}
+
+/// The same, where the entries of the range are counted.
+pub(crate) fn alone_of(entries: &[Entry], range: ChunkRange, count: usize) -> Option<u64>
+    requires { count ≡ terms.hits range.first range.last entries.now }
+    ensures { result ≡ terms.alone range.first range.last entries.now }
+{
+    if count == 1 {
         oldest(entries, range)
     } else {
         None
@@ -66,15 +74,27 @@ fn is_lost(entry: &Entry, newer: usize) -> bool
     entry.overtaken >= OVERTAKEN || newer >= (OVERTAKEN - entry.overtaken) as usize
 }
 
-/// Takes the entries of a range out of flight, the oldest first, and those that three newer ones have overtaken with it: what
-/// flies on is at the front then.
+/// Takes the entries of a range out of flight, which has the oldest first, and those that three newer ones have overtaken with
+/// it: what flies on is at the front then.
 pub fn settle(entries: &mut [Entry], range: ChunkRange) -> Settled
     ensures kept { take result.kept entries.new ≡ terms.flying range.first range.last entries.old }
     ensures lost { result.has_lost ≡ terms.loses range.first range.last entries.old }
     ensures within { result.kept ≤ length entries.old }
     ensures length { length entries.new ≡ length entries.old }
 {
-    let mut newer = hits(entries, range);
+    let count = hits(entries, range);
+    settle_counted(entries, range, count)
+}
+
+/// The same, where the entries of the range are counted.
+pub(crate) fn settle_counted(entries: &mut [Entry], range: ChunkRange, count: usize) -> Settled
+    requires { count ≡ terms.hits range.first range.last entries.old }
+    ensures kept { take result.kept entries.new ≡ terms.flying range.first range.last entries.old }
+    ensures lost { result.has_lost ≡ terms.loses range.first range.last entries.old }
+    ensures within { result.kept ≤ length entries.old }
+    ensures length { length entries.new ≡ length entries.old }
+{
+    let mut newer = count;
     let mut kept = 0;
     let mut has_lost = false;
     for i in 0..entries.len() {

@@ -3,6 +3,7 @@ use Rattle.pp_ledbat.proofs.Bases.{base_is_least}
 use Rattle.pp_ledbat.proofs.Bounds.{windows_are_bounded}
 use Rattle.pp_ledbat.proofs.Timeouts.{timeouts_settle}
 use Rattle.pp_ledbat.proofs.Openings.{openings_are_alike}
+use Rattle.pp_ledbat.proofs.Calls.{calls_stand}
 use Rattle.pp_ledbat.proofs.laws.laws_of_windows.Goals as goal
 
 pub returns : goal.returns
@@ -12,4 +13,5 @@ returns c = record {
   bounds = windows_are_bounded;
   timeouts = timeouts_settle;
   openings = openings_are_alike;
+  calls = calls_stand;
 }

@@ -1,6 +1,6 @@
 use Rattle.std.proofs.Common.{◌≡◌, ◌≤◌, ◌++◌, ◌||◌, take, drop, length}
 use Rattle.pp_traffic.specs.Meter.{hits, flying, loses}
-use Rattle.pp_ledbat.proofs.settling.settle.Given as goal
+use Rattle.pp_ledbat.proofs.settling.settle_counted.Given as goal
 
 -- what is kept and what is left to look at give all that flies on
 abbrev pub invariant-loop-i : goal.invariant-loop-i
