@@ -1,6 +1,6 @@
 -- What was sent, put together.
 use Rattle.std.proofs.Common.{◌≡◌, ◌⊎◌, inl, inr, ⊎_elim, ℕ, zero, suc, ◌+◌, ◌-◌, ◌^◌, ◌<◌, ◌≤◌, min, ltb, Bool, true, false, ◌&&◌, Option, Some, None, List, [], ◌∷◌, ◌++◌, length, refl, sym, ◌∙◌, ap, subst, arith, append_assoc}
-use Rattle.std.specs.Prelude.{MatchOption, slice_index_or}
+use Rattle.std.specs.Prelude.{MatchOption, MatchBool, slice_index_or}
 use Rattle.std.specs.List.{AllByRecursion, list_any}
 use Rattle.pp_terms.specs.Book.{LookUp}
 use Rattle.pp_terms.specs.Count.{HasRisen}
@@ -16,16 +16,13 @@ use Rattle.pp_outside.specs.Outside.{address_of}
 use Rattle.pp_core.specs.Serving.{IsChunk, Served, waits, lacks, unread, damaged, delivers}
 use Rattle.pp_core.specs.Writing.{IsDatagram, reply, delivery}
 use Rattle.pp_core.specs.Sending.{is_sent, is_unsent, is_unheld, is_unread, is_damaged, is_replied, is_met, is_delivered, SendsOne, SendsNone, leaves_on, owes_reply, may_deliver, Replies, Delivers}
-use Rattle.pp_core.specs.Sends.{HasShape, IsOurs, replies_on, OwesNone, SameCore, Sends, RisesWith, Causes}
+use Rattle.pp_core.specs.Sends.{HasShape, IsOurs, replies_on, OwesNone, SameCore, Sends, RisesWith, Causes, on, HasReplied, HasServed}
 use Rattle.pp_core.specs.Standing.{State, holds_first, StandsFor}
 use Rattle.pp_core.specs.declared.counts.Counts.{Counts}
 use Rattle.pp_core.specs.declared.channel.Channel.{Channel}
 use Rattle.pp_core.specs.declared.hearing.Heard.{Heard}
 use Rattle.pp_core.proofs.Seats.{same_self}
 use Rattle.pp_core.proofs.Sends.{IsLeft, left_as_is, left_met, IsLost, lost_unsent, lost_unheld, lost_unread, lost_damaged, SameTies, stands_left, stands_replied, stands_delivered}
-
-abbrev pub On : State → Heard → State
-On s h = record s { channel = h.channel; counts = h.counts }
 
 same_core : (s : State) (channel : Option Channel) (k : Counts) → SameCore s (record s { channel = channel; counts = k })
 same_core s channel k = record { descriptor = refl; committed = refl; latest = refl; numbers = refl; is_live = refl }
@@ -53,7 +50,7 @@ sends_nothing moment seen s = record {
 
 -- a request was given up, or a datagram refused
 pub sends_left : (moment : ℕ) (seen seen' : LinkState) (s : State) (c new : Channel) (k : Counts) → s.channel ≡ Some c → IsLeft c new → owes_reply new ≡ owes_reply c → IsLost k → SameTies s.counts k
-    → seen'.traffic ≡ seen.traffic → seen'.nexts ≡ seen.nexts → seen.faults ≤ seen'.faults → Sends moment seen seen' s (On s (leaves_on new k))
+    → seen'.traffic ≡ seen.traffic → seen'.nexts ≡ seen.nexts → seen.faults ≤ seen'.faults → Sends moment seen seen' s (on s (leaves_on new k))
 sends_left moment seen seen' s c new k here left owes lost ties same nexts later = record {
   added = [];
   gained = gains_nothing seen.traffic seen'.traffic same;
@@ -81,9 +78,9 @@ is_reply s c moment bytes here is =
     (subst (λ (x : Datagram). begins_as c.local x.messages.read ≡ true) (sym is) (eq-eqb c.local c.local refl)))
 
 pub sends_reply : (moment : ℕ) (seen seen' : LinkState) (s : State) (c : Channel) (h : Heard) → s.channel ≡ Some c → Replies s.descriptor (holds_first s) c s.counts moment seen seen' h
-    → Sends moment seen seen' s (On s h)
+    → Sends moment seen seen' s (on s h)
 sends_reply moment seen seen' s c h here (inl sent) =
-    subst (λ (x : Heard). Sends moment seen seen' s (On s x)) (sym sent.1)
+    subst (λ (x : Heard). Sends moment seen seen' s (on s x)) (sym sent.1)
     (record {
       added = Sent moment (address_of c.address) sent.0.bytes ∷ [];
       gained = sent.0.gained;
@@ -97,14 +94,14 @@ sends_reply moment seen seen' s c h here (inl sent) =
       stands = λ book since past le st. stands_replied book since s c moment sent.0.bytes past here le sent.0.read st;
     })
 sends_reply moment seen seen' s c h here (inr refused) =
-    subst (λ (x : Heard). Sends moment seen seen' s (On s x)) (sym refused.1)
+    subst (λ (x : Heard). Sends moment seen seen' s (on s x)) (sym refused.1)
     (sends_left moment seen seen' s c c (is_unsent s.counts) here (left_as_is c) refl (lost_unsent s.counts) (same_ties s.counts) refused.0.same refused.0.nexts refused.0.later)
 
 pub sends_delivery : (moment : ℕ) (seen seen' : LinkState) (s : State) (c : Channel) (now' : ℕ) (digest content : List ℕ) (h : Heard) → s.channel ≡ Some c
     → c.proven ≡ true → c.replied ≡ true → c.asked ≡ true → c.flying < 2 → IsChunk s.descriptor digest content
-    → Delivers s.descriptor now' digest content c s.counts moment seen seen' h → Sends moment seen seen' s (On s h)
+    → Delivers s.descriptor now' digest content c s.counts moment seen seen' h → Sends moment seen seen' s (on s h)
 sends_delivery moment seen seen' s c now' digest content h here proven replied asks few chunk (inl sent) =
-    subst (λ (x : Heard). Sends moment seen seen' s (On s x)) (sym sent.1)
+    subst (λ (x : Heard). Sends moment seen seen' s (on s x)) (sym sent.1)
     (record {
       added = Sent moment (address_of c.address) sent.0.bytes ∷ [];
       gained = sent.0.gained;
@@ -117,7 +114,7 @@ sends_delivery moment seen seen' s c now' digest content h here proven replied a
       stands = λ book since past le st. stands_delivered book since s c moment now' digest content sent.0.bytes past here proven replied asks few chunk sent.0.read st;
     })
 sends_delivery moment seen seen' s c now' digest content h here proven replied asks few chunk (inr refused) =
-    subst (λ (x : Heard). Sends moment seen seen' s (On s x)) (sym refused.1)
+    subst (λ (x : Heard). Sends moment seen seen' s (on s x)) (sym refused.1)
     (sends_left moment seen seen' s c (is_met c) (is_unsent s.counts) here (left_met c) refl (lost_unsent s.counts) (same_ties s.counts) refused.0.same refused.0.nexts refused.0.later)
 
 -- ---- one after the other
@@ -174,29 +171,29 @@ may_parts c e =
     (two.0, two.1, asks.1, ltb-true c.flying 2 few.1)
 
 keeps_link : (moment : ℕ) (seen seen' : LinkState) (s : State) (c new : Channel) (k : Counts) → s.channel ≡ Some c → IsLeft c new → owes_reply new ≡ owes_reply c → IsLost k → SameTies s.counts k → seen' ≡ seen
-    → Sends moment seen seen' s (On s (leaves_on new k))
+    → Sends moment seen seen' s (on s (leaves_on new k))
 keeps_link moment seen seen' s c new k here left owes lost ties same =
     sends_left moment seen seen' s c new k here left owes lost ties (ap (λ (x : LinkState). x.traffic) same) (ap (λ (x : LinkState). x.nexts) same) (let e = ap (λ (x : LinkState). x.faults) same in omega arith)
 
-state_is : (s : State) (c : Channel) → s.channel ≡ Some c → On s (leaves_on c s.counts) ≡ s
+state_is : (s : State) (c : Channel) → s.channel ≡ Some c → on s (leaves_on c s.counts) ≡ s
 state_is s c here = ap (λ (o : Option Channel). record s { channel = o; counts = s.counts }) (sym here)
 
 pub sends_served : (disk disk' : DiskState) (seen seen' : LinkState) (s : State) (c : Channel) (h : Heard) → s.channel ≡ Some c
-    → Served s.descriptor (holds_first s) s.latest c s.counts disk disk' seen seen' h → Sends (moment_of disk.history) seen seen' s (On s h)
+    → Served s.descriptor (holds_first s) s.latest c s.counts disk disk' seen seen' h → Sends (moment_of disk.history) seen seen' s (on s h)
 sends_served disk disk' seen seen' s c h here (waits idle is same) =
-    subst (λ (x : Heard). Sends (moment_of disk.history) seen seen' s (On s x)) (sym is)
+    subst (λ (x : Heard). Sends (moment_of disk.history) seen seen' s (on s x)) (sym is)
     (subst (λ (t : State). Sends (moment_of disk.history) seen seen' s t) (sym (state_is s c here))
     (subst (λ (l : LinkState). Sends (moment_of disk.history) seen l s s) (sym same) (sends_nothing (moment_of disk.history) seen s)))
-sends_served disk disk' seen seen' s c h here (lacks none is same) =
-    subst (λ (x : Heard). Sends (moment_of disk.history) seen seen' s (On s x)) (sym is)
+sends_served disk disk' seen seen' s c h here (lacks may none is same) =
+    subst (λ (x : Heard). Sends (moment_of disk.history) seen seen' s (on s x)) (sym is)
     (keeps_link (moment_of disk.history) seen seen' s c (is_met c) (is_unheld s.counts) here (left_met c) refl (lost_unheld s.counts) (record { datagrams = refl; short = refl; sent = refl }) same)
-sends_served disk disk' seen seen' s c h here (unread risen is same) =
-    subst (λ (x : Heard). Sends (moment_of disk.history) seen seen' s (On s x)) (sym is)
+sends_served disk disk' seen seen' s c h here (unread may has risen is same) =
+    subst (λ (x : Heard). Sends (moment_of disk.history) seen seen' s (on s x)) (sym is)
     (keeps_link (moment_of disk.history) seen seen' s c (is_met c) (is_unread s.counts) here (left_met c) refl (lost_unread s.counts) (record { datagrams = refl; short = refl; sent = refl }) same)
-sends_served disk disk' seen seen' s c h here (damaged why is same) =
-    subst (λ (x : Heard). Sends (moment_of disk.history) seen seen' s (On s x)) (sym is)
+sends_served disk disk' seen seen' s c h here (damaged may has why is same) =
+    subst (λ (x : Heard). Sends (moment_of disk.history) seen seen' s (on s x)) (sym is)
     (keeps_link (moment_of disk.history) seen seen' s c (is_met c) (is_damaged s.counts) here (left_met c) refl (lost_damaged s.counts) (record { datagrams = refl; short = refl; sent = refl }) same)
-sends_served disk disk' seen seen' s c h here (delivers digest content chunk may sent) =
+sends_served disk disk' seen seen' s c h here (delivers digest content chunk may has sent) =
     let p = may_parts c may in
     sends_delivery (moment_of disk.history) seen seen' s c s.latest digest content h here p.0 p.1 p.2 p.3 chunk sent
 
@@ -218,11 +215,11 @@ pub record IsDone (c : Channel) (h : Heard) : Type 0 where
 pub served_done : (d : Descriptor) (held : Bool) (now : ℕ) (c : Channel) (k : Counts) (disk disk' : DiskState) (seen seen' : LinkState) (h : Heard)
     → Served d held now c k disk disk' seen seen' h → IsDone c h
 served_done d held now c k disk disk' seen seen' h (waits idle is same) = record { left = c; is = ap (λ (x : Heard). x.channel) is; served = idle; owes = refl }
-served_done d held now c k disk disk' seen seen' h (lacks none is same) = record { left = is_met c; is = ap (λ (x : Heard). x.channel) is; served = met_may_not c; owes = refl }
-served_done d held now c k disk disk' seen seen' h (unread risen is same) = record { left = is_met c; is = ap (λ (x : Heard). x.channel) is; served = met_may_not c; owes = refl }
-served_done d held now c k disk disk' seen seen' h (damaged why is same) = record { left = is_met c; is = ap (λ (x : Heard). x.channel) is; served = met_may_not c; owes = refl }
-served_done d held now c k disk disk' seen seen' h (delivers digest content chunk may (inl sent)) = record { left = is_delivered c; is = ap (λ (x : Heard). x.channel) sent.1; served = delivered_may_not c; owes = refl }
-served_done d held now c k disk disk' seen seen' h (delivers digest content chunk may (inr refused)) = record { left = is_met c; is = ap (λ (x : Heard). x.channel) refused.1; served = met_may_not c; owes = refl }
+served_done d held now c k disk disk' seen seen' h (lacks may none is same) = record { left = is_met c; is = ap (λ (x : Heard). x.channel) is; served = met_may_not c; owes = refl }
+served_done d held now c k disk disk' seen seen' h (unread may has risen is same) = record { left = is_met c; is = ap (λ (x : Heard). x.channel) is; served = met_may_not c; owes = refl }
+served_done d held now c k disk disk' seen seen' h (damaged may has why is same) = record { left = is_met c; is = ap (λ (x : Heard). x.channel) is; served = met_may_not c; owes = refl }
+served_done d held now c k disk disk' seen seen' h (delivers digest content chunk may has (inl sent)) = record { left = is_delivered c; is = ap (λ (x : Heard). x.channel) sent.1; served = delivered_may_not c; owes = refl }
+served_done d held now c k disk disk' seen seen' h (delivers digest content chunk may has (inr refused)) = record { left = is_met c; is = ap (λ (x : Heard). x.channel) refused.1; served = met_may_not c; owes = refl }
 
 -- ---- why counts rose
 
@@ -240,15 +237,15 @@ pub causes_served : (d : Descriptor) (held : Bool) (now : ℕ) (c : Channel) (k 
     → Served d held now c k disk disk' seen seen' h → Causes d held disk disk' seen seen' k h.counts
 causes_served d held now c k disk disk' seen seen' h (waits idle is same) =
     subst (λ (x : Heard). Causes d held disk disk' seen seen' k x.counts) (sym is) (record { send = inl refl; read = inl refl; damaged = inl refl; unheld = inl refl; others = refl })
-causes_served d held now c k disk disk' seen seen' h (lacks none is same) =
+causes_served d held now c k disk disk' seen seen' h (lacks may none is same) =
     subst (λ (x : Heard). Causes d held disk disk' seen seen' k x.counts) (sym is) (record { send = inl refl; read = inl refl; damaged = inl refl; unheld = inr none; others = refl })
-causes_served d held now c k disk disk' seen seen' h (unread risen is same) =
+causes_served d held now c k disk disk' seen seen' h (unread may has risen is same) =
     subst (λ (x : Heard). Causes d held disk disk' seen seen' k x.counts) (sym is) (record { send = inl refl; read = inr risen; damaged = inl refl; unheld = inl refl; others = refl })
-causes_served d held now c k disk disk' seen seen' h (damaged why is same) =
+causes_served d held now c k disk disk' seen seen' h (damaged may has why is same) =
     subst (λ (x : Heard). Causes d held disk disk' seen seen' k x.counts) (sym is) (record { send = inl refl; read = inl refl; damaged = inr why; unheld = inl refl; others = refl })
-causes_served d held now c k disk disk' seen seen' h (delivers digest content chunk may (inl sent)) =
+causes_served d held now c k disk disk' seen seen' h (delivers digest content chunk may has (inl sent)) =
     subst (λ (x : Heard). Causes d held disk disk' seen seen' k x.counts) (sym sent.1) (record { send = inl refl; read = inl refl; damaged = inl refl; unheld = inl refl; others = refl })
-causes_served d held now c k disk disk' seen seen' h (delivers digest content chunk may (inr refused)) =
+causes_served d held now c k disk disk' seen seen' h (delivers digest content chunk may has (inr refused)) =
     subst (λ (x : Heard). Causes d held disk disk' seen seen' k x.counts) (sym refused.1) (record { send = inr refused.0.risen; read = inl refl; damaged = inl refl; unheld = inl refl; others = refl })
 
 rises_twice : (a b c x y z : ℕ) → x ≤ y → y ≤ z → RisesWith a b x y → RisesWith b c y z → RisesWith a c x z
@@ -278,3 +275,25 @@ flush_causes s t u disk disk' x y z core le le' later p q =
     causes_twice s.descriptor (holds_first s) disk disk' x y z s.counts t.counts u.counts le le' later p
     (subst (λ (d : Descriptor). Causes d (holds_first s) disk disk' y z t.counts u.counts) core.descriptor
     (subst (λ (xs : List Bool). Causes t.descriptor (slice_index_or xs 0 false) disk disk' y z t.counts u.counts) core.committed q))
+
+-- ---- exactly what was done
+
+pub exact_none : (moment : ℕ) (seen : LinkState) (s : State) → s.channel ≡ None → HasReplied moment seen seen s s
+exact_none moment seen s none = subst (λ (o : Option Channel). MatchOption o ((s ≡ s) × (seen ≡ seen)) (λ c. MatchBool (owes_reply c)
+    ((h : Heard) × Replies s.descriptor (holds_first s) c s.counts moment seen seen h × (s ≡ on s h)) ((s ≡ s) × (seen ≡ seen)))) (sym none) (refl, refl)
+
+pub exact_idle : (moment : ℕ) (seen : LinkState) (s : State) (c : Channel) → s.channel ≡ Some c → owes_reply c ≡ false → HasReplied moment seen seen s s
+exact_idle moment seen s c here idle = subst (λ (o : Option Channel). MatchOption o ((s ≡ s) × (seen ≡ seen)) (λ x. MatchBool (owes_reply x)
+    ((h : Heard) × Replies s.descriptor (holds_first s) x s.counts moment seen seen h × (s ≡ on s h)) ((s ≡ s) × (seen ≡ seen)))) (sym here)
+    (subst (λ (b : Bool). MatchBool b ((h : Heard) × Replies s.descriptor (holds_first s) c s.counts moment seen seen h × (s ≡ on s h)) ((s ≡ s) × (seen ≡ seen))) (sym idle) (refl, refl))
+
+pub exact_reply : (moment : ℕ) (seen seen' : LinkState) (s : State) (c : Channel) (h : Heard) → s.channel ≡ Some c → owes_reply c ≡ true
+    → Replies s.descriptor (holds_first s) c s.counts moment seen seen' h → HasReplied moment seen seen' s (on s h)
+exact_reply moment seen seen' s c h here owes is = subst (λ (o : Option Channel). MatchOption o ((on s h ≡ s) × (seen' ≡ seen)) (λ x. MatchBool (owes_reply x)
+    ((k : Heard) × Replies s.descriptor (holds_first s) x s.counts moment seen seen' k × (on s h ≡ on s k)) ((on s h ≡ s) × (seen' ≡ seen)))) (sym here)
+    (subst (λ (b : Bool). MatchBool b ((k : Heard) × Replies s.descriptor (holds_first s) c s.counts moment seen seen' k × (on s h ≡ on s k)) ((on s h ≡ s) × (seen' ≡ seen))) (sym owes) (h, is, refl))
+
+pub exact_served : (disk disk' : DiskState) (seen seen' : LinkState) (s : State) (c : Channel) (h : Heard) → s.channel ≡ Some c
+    → Served s.descriptor (holds_first s) s.latest c s.counts disk disk' seen seen' h → HasServed disk disk' seen seen' s (on s h)
+exact_served disk disk' seen seen' s c h here is = subst (λ (o : Option Channel). MatchOption o ((on s h ≡ s) × (seen' ≡ seen))
+    (λ x. (k : Heard) × Served s.descriptor (holds_first s) s.latest x s.counts disk disk' seen seen' k × (on s h ≡ on s k))) (sym here) (h, is, refl)

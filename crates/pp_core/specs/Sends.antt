@@ -1,9 +1,9 @@
 -- What was sent, and what the peer stands for then.
-use Rattle.std.specs.Prelude.{◌≡◌, ◌⊎◌, ℕ, ◌≤◌, ◌<◌, Bool, true, false, ◌&&◌, MatchOption, Option, Some, None, List, [], ◌∷◌, ◌++◌, length}
+use Rattle.std.specs.Prelude.{◌≡◌, ◌⊎◌, ℕ, ◌≤◌, ◌<◌, Bool, true, false, ◌&&◌, MatchOption, MatchBool, Option, Some, None, List, [], ◌∷◌, ◌++◌, length}
 use Rattle.std.specs.List.{AllByRecursion, list_any}
 use Rattle.pp_terms.specs.Book.{LookUp}
 use Rattle.pp_terms.specs.Count.{HasRisen}
-use Rattle.pp_terms.specs.Disk.{DiskState, IsKnown}
+use Rattle.pp_terms.specs.Disk.{DiskState, IsKnown, moment_of}
 use Rattle.pp_terms.specs.Descriptor.{Descriptor, chunks_of}
 use Rattle.pp_terms.specs.Image.{holds}
 use Rattle.pp_terms.specs.Traffic.{LinkState, Record, Received, Quiet, Sent, GainsRecords}
@@ -12,10 +12,12 @@ use Rattle.pp_traffic.specs.Past.{read, goes_to, is_number, is_event}
 use Rattle.pp_traffic.specs.Life.{begins_as}
 use Rattle.pp_outside.specs.Outside.{address_of}
 use Rattle.pp_core.specs.Writing.{IsDatagram, reply, delivery}
-use Rattle.pp_core.specs.Sending.{owes_reply, may_deliver}
+use Rattle.pp_core.specs.Sending.{owes_reply, may_deliver, Replies}
+use Rattle.pp_core.specs.Serving.{Served}
 use Rattle.pp_core.specs.Standing.{State, holds_first, StandsFor}
 use Rattle.pp_core.specs.declared.counts.Counts.{Counts}
 use Rattle.pp_core.specs.declared.channel.Channel.{Channel}
+use Rattle.pp_core.specs.declared.hearing.Heard.{Heard}
 
 -- Nothing of the peer changed but its channel and its counts.
 pub record SameCore (s new : State) : Type 0 where
@@ -83,3 +85,30 @@ pub record Causes (d : Descriptor) (held : Bool) (disk disk' : DiskState) (seen 
     damaged = new.damaged;
     unheld = new.unheld;
   }
+
+-- ---- exactly what was sent and counted
+
+-- what is left of a peer whose channel and counts are these
+abbrev pub on : State → Heard → State
+on s h = record s { channel = h.channel; counts = h.counts }
+
+-- The reply, where it is owed, was sent or refused.
+abbrev pub HasReplied : ℕ → LinkState → LinkState → State → State → Type 0
+HasReplied moment seen seen' s new = MatchOption s.channel
+    ((new ≡ s) × (seen' ≡ seen))
+    (λ c. MatchBool (owes_reply c)
+    ((h : Heard) × Replies s.descriptor (holds_first s) c s.counts moment seen seen' h × (new ≡ on s h))
+    ((new ≡ s) × (seen' ≡ seen)))
+
+-- The chunk, where it may be sent, was sent, refused, or given up.
+abbrev pub HasServed : DiskState → DiskState → LinkState → LinkState → State → State → Type 0
+HasServed disk disk' seen seen' s new = MatchOption s.channel
+    ((new ≡ s) × (seen' ≡ seen))
+    (λ c. (h : Heard) × Served s.descriptor (holds_first s) s.latest c s.counts disk disk' seen seen' h × (new ≡ on s h))
+
+-- First the reply, and then the chunk.
+pub record HasFlushed (disk disk' : DiskState) (seen seen' : LinkState) (s new : State) : Type 0 where
+  pub mid : State
+  pub half : LinkState
+  pub replied : HasReplied (moment_of disk.history) seen half s mid
+  pub served : HasServed disk disk' half seen' mid new

@@ -39,10 +39,11 @@ pub data Served (d : Descriptor) (held : Bool) (now : ℕ) (c : Channel) (k : Co
   -- nothing is to be sent
   waits : may_deliver c ≡ false → h ≡ leaves_on c k → seen' ≡ seen → Served d held now c k disk disk' seen seen' h
   -- the chunk isn't there; it wasn't read; it was read with another digest: the request is given up
-  lacks : held ≡ false → h ≡ leaves_on (is_met c) (is_unheld k) → seen' ≡ seen → Served d held now c k disk disk' seen seen' h
-  unread : HasRisen disk.faults disk'.faults → h ≡ leaves_on (is_met c) (is_unread k) → seen' ≡ seen → Served d held now c k disk disk' seen seen' h
-  damaged : (IsKnown disk → chunks_of d ≡ 1 → holds d disk.history.reads 0 ≡ false) → h ≡ leaves_on (is_met c) (is_damaged k) → seen' ≡ seen
+  lacks : may_deliver c ≡ true → held ≡ false → h ≡ leaves_on (is_met c) (is_unheld k) → seen' ≡ seen → Served d held now c k disk disk' seen seen' h
+  unread : may_deliver c ≡ true → held ≡ true → HasRisen disk.faults disk'.faults → h ≡ leaves_on (is_met c) (is_unread k) → seen' ≡ seen
+      → Served d held now c k disk disk' seen seen' h
+  damaged : may_deliver c ≡ true → held ≡ true → (IsKnown disk → chunks_of d ≡ 1 → holds d disk.history.reads 0 ≡ false) → h ≡ leaves_on (is_met c) (is_damaged k) → seen' ≡ seen
       → Served d held now c k disk disk' seen seen' h
   -- it was sent, or the link refused
-  delivers : (digest content : List ℕ) → IsChunk d digest content → may_deliver c ≡ true
+  delivers : (digest content : List ℕ) → IsChunk d digest content → may_deliver c ≡ true → held ≡ true
       → Delivers d now digest content c k (moment_of disk.history) seen seen' h → Served d held now c k disk disk' seen seen' h

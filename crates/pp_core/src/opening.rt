@@ -1,15 +1,16 @@
 //! A peer is opened.
 
-ghost use Rattle.std.specs.Prelude.{◌≡◌, ◌≤◌, ◌⊎◌, ℕ, [], length, replicate, IfOk, OnOk, OnErr, false};
+ghost use Rattle.std.specs.Prelude.{◌≡◌, ◌<◌, ◌≤◌, ◌⊎◌, ℕ, [], length, replicate, slice_index_or, IfOk, OnOk, OnErr, false};
 ghost use Rattle.std.specs.Result.{result_map_both};
 ghost use Rattle.rand_chacha.specs.ChaCha.{of_seed};
 ghost use Rattle.pp_terms.specs.Book.{IsRooted};
 ghost use Rattle.pp_terms.specs.Descriptor.{chunks_of};
 ghost use Rattle.pp_terms.specs.Disk.{IsKnown, moment_of};
+ghost use Rattle.pp_terms.specs.Image.{holds};
 ghost use Rattle.pp_tree.specs.Book.{entry, empty_book, HasRootAlone};
 ghost use Rattle.pp_scan.specs.Scan.{HasFound};
 ghost use Rattle.pp_store.specs.Keep.{KeepsDisk};
-ghost use Rattle.pp_store.specs.Store.{IsOpened, AllStand};
+ghost use Rattle.pp_store.specs.Store.{IsOpened, AllStand, GoesOn};
 ghost use Rattle.pp_core.specs.Opening.{HasBegun, HasOpened};
 ghost use Rattle.pp_core.specs.Standing.{StandsFor};
 
@@ -99,8 +100,12 @@ impl Peer {
         ensures found { HasOpened descriptor.now (D.state disk.old) (D.state disk.new) result }
         ensures opened { IsKnown (D.state disk.old)
             → OnOk result (IsOpened descriptor.now (D.state disk.old).history (D.state disk.new).history) }
-        // Each committed chunk stands in every image.
+        // Exactly the chunks are committed that were held.
+        ensures held { IsKnown (D.state disk.old) → IfOk result (λ p. (i : ℕ) → i < chunks_of descriptor.now
+            → slice_index_or p.committed i false ≡ holds descriptor.now (D.state disk.old).history.reads i) }
+        // Each committed chunk stands in every image; and whatever it answers, what stood in every image goes on standing.
         ensures kept { IsKnown (D.state disk.old) → IfOk result (λ p. AllStand descriptor.now p.committed (D.state disk.new).history) }
+        ensures goes_on { IsKnown (D.state disk.old) → GoesOn descriptor.now (D.state disk.old).history (D.state disk.new).history }
         ensures disk { KeepsDisk (D.state disk.old) (D.state disk.new) }
         ensures book { (book.new ≡ empty_book) ⊎ IsRooted descriptor.now (entry book.new) }
     {

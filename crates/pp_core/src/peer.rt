@@ -6,7 +6,7 @@ ghost use Rattle.pp_terms.specs.Disk.{moment_of};
 ghost use Rattle.pp_outside.specs.Arrivals.{IsEvent};
 ghost use Rattle.pp_core.specs.Events.{turned, reached, after_event, after_refusal};
 ghost use Rattle.pp_core.specs.Counting.{rise};
-ghost use Rattle.pp_core.specs.Sends.{Sends, Causes, OwesNone, LeavesNone};
+ghost use Rattle.pp_core.specs.Sends.{Sends, Causes, OwesNone, LeavesNone, HasReplied, HasServed, HasFlushed};
 ghost use Rattle.pp_core.specs.Serving.{ReadsAlone};
 ghost use Rattle.pp_terms.specs.Descriptor.{chunks_of};
 ghost use Rattle.pp_core.specs.Opening.{new_state};
@@ -170,6 +170,8 @@ impl Peer {
     /// Sends what is due: the reply to a handshake, and the chunk that was asked for. What the link or the disk refuses is
     /// counted.
     pub fn flush<D: Disk, L: Link>(&mut self, disk: &mut D, link: &mut L, _book: &Book)
+        ensures exact { HasFlushed (D.state disk.old) (D.state disk.new) (L.seen link.old) (L.seen link.new) self.old self.new }
+        // So the peer stands for what it sent, and nothing is owed that could be sent.
         ensures sends { Sends (moment_of (D.state disk.old).history) (L.seen link.old) (L.seen link.new) self.old self.new }
         ensures causes { Causes self.old.descriptor (holds_first self.old) (D.state disk.old) (D.state disk.new) (L.seen link.old) (L.seen link.new) self.old.counts self.new.counts }
         ensures replied { OwesNone self.new ⊎ HasRisen (L.seen link.old).faults (L.seen link.new).faults }
@@ -182,6 +184,7 @@ impl Peer {
 
     // Sends the reply, where it is due.
     fn reply<D: Disk, L: Link>(&mut self, disk: &D, link: &mut L)
+        ensures exact { HasReplied (moment_of (D.state disk.now).history) (L.seen link.old) (L.seen link.new) self.old self.new }
         ensures sends { Sends (moment_of (D.state disk.now).history) (L.seen link.old) (L.seen link.new) self.old self.new }
         ensures causes { Causes self.old.descriptor (holds_first self.old) (D.state disk.now) (D.state disk.now) (L.seen link.old) (L.seen link.new) self.old.counts self.new.counts }
         ensures replied { OwesNone self.new ⊎ HasRisen (L.seen link.old).faults (L.seen link.new).faults }
@@ -208,6 +211,7 @@ impl Peer {
 
     // Serves the request, where there is one.
     fn serve<D: Disk, L: Link>(&mut self, disk: &mut D, link: &mut L)
+        ensures exact { HasServed (D.state disk.old) (D.state disk.new) (L.seen link.old) (L.seen link.new) self.old self.new }
         ensures sends { Sends (moment_of (D.state disk.old).history) (L.seen link.old) (L.seen link.new) self.old self.new }
         ensures causes { Causes self.old.descriptor (holds_first self.old) (D.state disk.old) (D.state disk.new) (L.seen link.old) (L.seen link.new) self.old.counts self.new.counts }
         ensures owes { OwesNone self.old → OwesNone self.new }

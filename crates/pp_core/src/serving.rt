@@ -126,7 +126,7 @@ fn serve_held<D: Disk, L: Link>(
     requires room { len ≤ length room.old }
     requires out { length out.old ≡ 16384 }
     requires may { may_deliver channel ≡ true }
-    ensures served { (held : _) → Served descriptor.now held now channel counts (D.state disk.old) (D.state disk.new) (L.seen link.old) (L.seen link.new) result }
+    ensures served { Served descriptor.now true now channel counts (D.state disk.old) (D.state disk.new) (L.seen link.old) (L.seen link.new) result }
     ensures disk { ReadsAlone (D.state disk.old) (D.state disk.new) }
 {
     match read_chunk(descriptor, &mut room[..len], disk) {

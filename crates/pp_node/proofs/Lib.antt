@@ -6,5 +6,7 @@ pub mod Turns
 pub mod Looks
 pub mod Readies
 pub mod Spans
-pub mod Checks
+pub mod Promises
+pub mod Commands
 pub mod Seeds
+pub mod Exports

@@ -1,9 +1,5 @@
 -- A run of an import, from what the import does.
-use Rattle.std.proofs.Common.{◌≡◌, ◌⊎◌, inl, inr, ℕ, ◌+◌, ◌<◌, ◌^◌, ◌≤◌, List, [], length, decimal, Some, Err, sym, ◌∙◌, ap, subst, arith}
-use Rattle.std.proofs.Math.Pow.{pow_mono}
-use Rattle.std.proofs.lemmas.Fmt.{decimal_injective}
-use Rattle.pp_terms.specs.Content.{IsChunkSize}
-use Rattle.pp_terms.specs.CommandLine.{IsImport}
+use Rattle.std.proofs.Common.{◌≡◌, ◌⊎◌, inl, inr, ℕ, ◌+◌, ◌<◌, List, [], length, Some, Err, sym, ◌∙◌, ap, subst, arith}
 use Rattle.pp_terms.specs.Descriptor.{Descriptor}
 use Rattle.pp_terms.specs.Store.{IsNoStore}
 use Rattle.pp_terms.specs.Disk.{DiskState, History, IsKnown, moment_of}
@@ -14,8 +10,7 @@ use Rattle.pp_store.specs.Keep.{KeepsDisk}
 use Rattle.pp_store.specs.Import.{most_bytes, HasAnswer, IsUntouched, LeavesWholeStores, TakesAtMost, IsImported}
 use Rattle.pp_node.specs.declared.status.Status.{Status}
 use Rattle.pp_node.specs.declared.status.Status.TheVariants.{NotEmpty, DiskFault}
-use Rattle.pp_node.specs.Status.{number_of}
-use Rattle.pp_node.specs.Run.{IsImportRun, IsFreshlyAttached, Reports, EndsIn, ImportEnds}
+use Rattle.pp_node.specs.Run.{IsImportRun, IsFreshlyAttached, Reports}
 
 module _ (status : Status) (chunk : ℕ) (source source' : SourceState) (old new : DiskState) (fresh : IsKnown old → IsFreshlyAttached old.history) (keeps : KeepsDisk old new) where
   start_is : IsKnown old → new.history.start ≡ moment_of old.history
@@ -53,19 +48,3 @@ refused_fault (fault.NotEmpty len) status chunk source source' sink sink' old ne
 refused_fault (fault.ContentSize count) status chunk source source' sink sink' old new answer report known some = absurd (none_there old.history.reads (answer.empty known) some)
 refused_fault fault.Source status chunk source source' sink sink' old new answer report known some = absurd (none_there old.history.reads (answer.empty known) some)
 refused_fault fault.Disk status chunk source source' sink sink' old new answer report known some = inr report.0
-
-chunk_below : (chunk : ℕ) → IsChunkSize chunk → chunk < 2 ^ 64
-chunk_below chunk size = let le : 2 ^ size.exponent ≤ 2 ^ 13 = pow_mono size.greatest in omega (arith, size.power, le)
-
--- words spell one import at the most
-same_chunk : (words : List (List ℕ)) (store store' : List ℕ) (chunk chunk' : ℕ) → IsImport words store chunk → IsImport words store' chunk' → chunk ≡ chunk'
-same_chunk words store store' chunk chunk' a b =
-    let same : decimal chunk ≡ decimal chunk' = cc (a.spelled, b.spelled) in
-    decimal_injective chunk chunk' (chunk_below chunk a.size) (chunk_below chunk' b.size) same
-
-pub import_ends : (words : List (List ℕ)) (store : List ℕ) (chunk result : ℕ) (status : Status) (source source' : SourceState) (sink sink' : SinkState) (disk disk' : DiskState)
-    → IsImport words store chunk → result ≡ number_of status → EndsIn status chunk source source' sink sink' disk disk' → IsImportRun status chunk source source' disk disk'
-    → (store' : List ℕ) (chunk' : ℕ) → IsImport words store' chunk' → ImportEnds result chunk' source source' sink sink' disk disk'
-import_ends words store chunk result status source source' sink sink' disk disk' read number ends run store' chunk' spelled =
-    subst (λ (c : ℕ). ImportEnds result c source source' sink sink' disk disk') (same_chunk words store store' chunk chunk' read spelled)
-    (record { status = status; number = number; ends = ends; run = run })

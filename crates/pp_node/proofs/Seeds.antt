@@ -1,7 +1,6 @@
 -- A run of `seed`, from what its parts do.
-use Rattle.std.proofs.Common.{◌≡◌, ◌⊎◌, inl, inr, ℕ, Bool, List, length, ◌++◌, Result, Ok, Err, OnOk, codes, refl, sym, ◌∙◌, subst}
+use Rattle.std.proofs.Common.{◌≡◌, ℕ, Bool, List, length, Result, Ok, Err, OnOk, codes, refl, sym, subst}
 use Rattle.std.specs.Prelude.{count_by}
-use Rattle.pp_terms.specs.Count.{HasRisen, HasCause}
 use Rattle.pp_terms.specs.Book.{LookUp}
 use Rattle.pp_terms.specs.Descriptor.{Descriptor}
 use Rattle.pp_terms.specs.Disk.{DiskState}
@@ -9,17 +8,14 @@ use Rattle.pp_terms.specs.Stream.{SinkState, Gains}
 use Rattle.pp_terms.specs.Traffic.{LinkState}
 use Rattle.pp_core.specs.Standing.{State}
 use Rattle.pp_core.specs.declared.counts.Counts.{Counts}
-use Rattle.pp_node.specs.Text.{Says}
-use Rattle.pp_node.specs.Held.{SaysHeld, held_line, not_a_store_line}
+use Rattle.pp_node.specs.Held.{SaysHeld, held_line}
 use Rattle.pp_node.specs.Counting.{counts_text}
 use Rattle.pp_node.specs.Preparing.{IsUnsent, IsReady, HasPrepared}
-use Rattle.pp_node.specs.Turning.{TakesTurns}
-use Rattle.pp_node.specs.Seeding.{link_fault_line, SaysReport, IsSeeded, Serves, SeedsIn, ReportsSeed}
+use Rattle.pp_node.specs.Seeding.{link_fault_line, SaysReport, Serves, SeedsIn, ReportsSeed}
 use Rattle.pp_node.specs.declared.status.Status.{Status}
 use Rattle.pp_node.specs.declared.status.Status.TheVariants.{Done, Usage, NotAStore, Incomplete, DiskFault, LinkFault, SourceFault, SinkFault, NotEmpty, ContentSize, Memory, Damaged}
 use Rattle.pp_node.specs.declared.preparing.SeedFault.{SeedFault}
 use Rattle.pp_node.specs.declared.preparing.SeedFault.TheVariants as fault
-use Rattle.pp_node.specs.declared.preparing.Ready.{Ready}
 use Rattle.pp_node.proofs.Written.{gains_more}
 
 pub report_said : {T E : Type 0} (set : List Bool) (counts : Counts) (old mid new : SinkState) (result : Result T E) → SaysHeld set old mid

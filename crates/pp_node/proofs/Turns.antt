@@ -1,12 +1,12 @@
 -- Turns, one after the other.
-use Rattle.std.proofs.Common.{◌≡◌, ◌⊎◌, inl, inr, ⊎_elim, ℕ, zero, suc, ◌+◌, ◌-◌, ◌^◌, ◌<◌, ◌≤◌, min, Bool, true, false, List, [], ◌∷◌, ◌++◌, length, take, refl, sym, ◌∙◌, ap, subst, arith}
+use Rattle.std.proofs.Common.{◌≡◌, ◌⊎◌, inl, inr, ⊎_elim, ℕ, zero, suc, ◌+◌, ◌<◌, ◌≤◌, Bool, true, false, List, [], ◌∷◌, ◌++◌, length, take, refl, sym, ◌∙◌, ap, subst, arith}
 use Rattle.std.specs.Prelude.{slice_index_or}
 use Rattle.std.specs.List.{AllByRecursion, list_any}
 use Rattle.std.proofs.lemmas.List.{length-take-le, take-take}
 use Rattle.pp_terms.specs.Book.{LookUp}
 use Rattle.pp_terms.specs.Count.{HasRisen}
 use Rattle.pp_terms.specs.Descriptor.{Descriptor, chunks_of}
-use Rattle.pp_terms.specs.Disk.{DiskState, History, IsKnown, moment_of}
+use Rattle.pp_terms.specs.Disk.{DiskState, History, moment_of}
 use Rattle.pp_terms.specs.Image.{holds}
 use Rattle.pp_terms.specs.Traffic as traffic
 use Rattle.pp_terms.specs.Traffic.{LinkState, Record, Received, Sent, GainsRecords}
@@ -15,14 +15,12 @@ use Rattle.pp_traffic.specs.Past.{is_event}
 use Rattle.pp_traffic.specs.Flight.{fewer_than_two}
 use Rattle.pp_traffic.specs.Prompt.{LetsInFirst, ServesAsked}
 use Rattle.pp_traffic.specs.Turns.{AtTurnEndsBut, AtEndsBut}
-use Rattle.pp_traffic.specs.Plain.{IsPlainNow}
 use Rattle.pp_outside.specs.Outside.{address_of, record_of, size_of, FitsIn}
 use Rattle.pp_outside.specs.Arrivals.{IsEvent}
 use Rattle.pp_outside.specs.declared.link.Event.{Event}
 use Rattle.pp_outside.specs.declared.link.Event.TheVariants.{Datagram, Quiet}
-use Rattle.pp_core.specs.Counting.{rise}
-use Rattle.pp_core.specs.Events.{after_event, after_refusal}
-use Rattle.pp_core.specs.Sends.{IsOurs, replies_on, OwesNone, Sends, Causes}
+use Rattle.pp_core.specs.Events.{after_event}
+use Rattle.pp_core.specs.Sends.{IsOurs, replies_on, OwesNone, Sends}
 use Rattle.pp_core.specs.Serving.{ReadsAlone}
 use Rattle.pp_core.specs.Standing.{State, IsWhole, holds_first, capped, StandsFor}
 use Rattle.pp_core.proofs.Counted.{CountsTurn, event_counted, event_refusals, refusal_counted, sent_turns, sent_refusals, sent_whole}

@@ -9,3 +9,6 @@ pub mod Looking
 pub mod Held
 pub mod Checking
 pub mod Seeding
+pub mod Promising
+pub mod Exporting
+pub mod Commanding

@@ -1,10 +1,12 @@
 -- What is found and done before the first turn of a peer that seeds.
-use Rattle.std.specs.Prelude.{◌≡◌, ◌⊎◌, ℕ, ◌≤◌, List, [], length, Result, Ok, Err}
+use Rattle.std.specs.Prelude.{◌≡◌, ℕ, ◌<◌, ◌≤◌, false, List, [], length, slice_index_or, Result, Ok, Err}
 use Rattle.pp_terms.specs.Book.{LookUp}
 use Rattle.pp_terms.specs.Count.{HasRisen}
 use Rattle.pp_terms.specs.Descriptor.{Descriptor, chunks_of}
-use Rattle.pp_terms.specs.Disk.{DiskState, IsKnown, moment_of}
+use Rattle.pp_terms.specs.Disk.{DiskState, History, IsKnown, moment_of}
+use Rattle.pp_terms.specs.Image.{holds}
 use Rattle.pp_terms.specs.Traffic.{LinkState}
+use Rattle.pp_traffic.specs.Keeping.{StoodThroughout, StandsSince}
 use Rattle.pp_store.specs.Store.{AllStand}
 use Rattle.pp_store.specs.declared.findings.ProbeFault.{ProbeFault}
 use Rattle.pp_store.specs.declared.findings.ProbeFault.TheVariants as probes
@@ -26,6 +28,10 @@ fault_of_open (opens.NotAStore at found want) = NotAStore at found want
 fault_of_open opens.Disk = Disk
 fault_of_open opens.Memory = Memory
 
+-- What stood in every image at the attachment stands in every image since.
+abbrev pub Lasts : Descriptor → History → Type 0
+Lasts d h = (i : ℕ) → StoodThroughout d h i → StandsSince d h h.start i
+
 -- Nothing was sent, and no datagram was waited for.
 pub record IsUnsent (seen seen' : LinkState) : Type 0 where
   pub traffic : seen'.traffic ≡ seen.traffic
@@ -40,6 +46,9 @@ pub record IsReady (d : Descriptor) (random : List ℕ) (disk disk' : DiskState)
   pub stands : StandsFor book (moment_of disk'.history) s []
   pub kept : IsKnown disk → AllStand d s.committed disk'.history
   pub begins : IsKnown disk → IsOf d disk'.history.found
+  -- exactly the chunks are committed that were held at the attachment; a file that wasn't empty is read as it was
+  pub held : IsKnown disk → (i : ℕ) → i < chunks_of d → slice_index_or s.committed i false ≡ holds d disk'.history.found i
+  pub still : IsKnown disk → 0 < length disk'.history.found → disk'.history.reads ≡ disk'.history.found
   pub tells : disk'.tells ≡ disk.tells
   pub honest : disk'.honest ≡ disk.honest
   pub later : disk.faults ≤ disk'.faults

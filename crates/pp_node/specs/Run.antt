@@ -82,6 +82,7 @@ EndsIn _ chunk source source' sink sink' disk disk' = ⊥
 -- The disk was attached last, and nothing was done on it since.
 pub record IsFreshlyAttached (h : History) : Type 0 where
   pub started : h.start ≡ moment_of h
+  pub began : h.first ≡ h.epoch
   pub showed : h.found ≡ h.reads
 
 -- What holds of a run whatever its status.

@@ -1,12 +1,12 @@
 -- What a run of `seed STORE DESCRIPTOR LISTEN TURNS` does.
-use Rattle.std.specs.Prelude.{◌≡◌, ◌⊎◌, ℕ, ◌++◌, Bool, List, length, codes, count_by}
-use Rattle.pp_terms.specs.Book.{LookUp, IsRooted}
+use Rattle.std.specs.Prelude.{◌≡◌, ℕ, ◌++◌, Bool, List, length, codes, count_by}
+use Rattle.pp_terms.specs.Book.{LookUp}
 use Rattle.pp_terms.specs.Count.{HasRisen}
 use Rattle.pp_terms.specs.Descriptor.{Descriptor}
 use Rattle.pp_terms.specs.Disk.{DiskState, IsKnown}
 use Rattle.pp_terms.specs.Range.{Span}
 use Rattle.pp_terms.specs.Report.{line, disk_fault_line}
-use Rattle.pp_terms.specs.Stream.{SourceState, SinkState, Gains}
+use Rattle.pp_terms.specs.Stream.{SinkState, Gains}
 use Rattle.pp_terms.specs.Traffic.{LinkState}
 use Rattle.pp_core.specs.Standing.{State}
 use Rattle.pp_core.specs.declared.counts.Counts.{Counts}
@@ -16,7 +16,6 @@ use Rattle.pp_node.specs.Held.{AreRanges, held_line, not_a_store_line}
 use Rattle.pp_node.specs.Counting.{counts_text}
 use Rattle.pp_node.specs.Preparing.{IsUnsent, IsReady}
 use Rattle.pp_node.specs.Turning.{TakesTurns}
-use Rattle.pp_node.specs.Status.{number_of}
 use Rattle.pp_node.specs.declared.status.Status.{Status}
 use Rattle.pp_node.specs.declared.status.Status.TheVariants.{Done, NotAStore, DiskFault, LinkFault, SinkFault, Memory}
 use Rattle.pp_node.specs.declared.preparing.SeedFault.{SeedFault}
@@ -99,12 +98,3 @@ ReportsSeed (fault.NotAStore at found want) status old new = (status ≡ NotASto
 ReportsSeed fault.Disk status old new = (status ≡ DiskFault) × Says disk_fault_line old new
 ReportsSeed fault.Link status old new = (status ≡ LinkFault) × Says link_fault_line old new
 ReportsSeed fault.Memory status old new = (status ≡ Memory) × (new ≡ old)
-
--- A run of `seed`, by the number that it answers. It doesn't read the source.
-pub record SeedEnds (result : ℕ) (d : Descriptor) (random : List ℕ) (turns : ℕ) (source source' : SourceState) (sink sink' : SinkState) (disk disk' : DiskState)
-    (seen seen' : LinkState) (book book' : LookUp) : Type 0 where
-  pub status : Status
-  pub number : result ≡ number_of status
-  pub ends : SeedsIn status d random turns sink sink' disk disk' seen seen' book'
-  pub unread : source' ≡ source
-  pub rooted : (book' ≡ book) ⊎ IsRooted d book'

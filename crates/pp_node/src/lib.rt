@@ -4,6 +4,7 @@
 mod built;
 mod checking;
 mod counting;
+mod exporting;
 mod importing;
 mod looking;
 mod preparing;

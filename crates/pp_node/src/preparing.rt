@@ -6,7 +6,7 @@ ghost use Rattle.pp_terms.specs.Disk.{IsKnown};
 ghost use Rattle.pp_tree.specs.Book.{entry, empty_book};
 ghost use Rattle.pp_node.specs.Run.{IsFreshlyAttached};
 ghost use Rattle.pp_node.specs.Looking.{IsOf};
-ghost use Rattle.pp_node.specs.Preparing.{IsUnsent, HasPrepared, HasOpenedPeer, fault_of_probe, fault_of_open};
+ghost use Rattle.pp_node.specs.Preparing.{IsUnsent, Lasts, HasPrepared, HasOpenedPeer, fault_of_probe, fault_of_open};
 
 use pp_core::{OpenFault, Peer};
 use pp_outside::{Address, Disk, Link};
@@ -72,6 +72,7 @@ pub(crate) fn prepare<D: Disk, L: Link>(
     requires empty { book.old ≡ empty_book }
     requires one { chunks_of descriptor.now ≡ 1 }
     ensures prepared { HasPrepared descriptor.now random (D.state disk.old) (D.state disk.new) (L.seen link.old) (L.seen link.new) (entry book.new) result }
+    ensures lasts { IsKnown (D.state disk.old) → Lasts descriptor.now (D.state disk.new).history }
     ensures unsent { IsUnsent (L.seen link.old) (L.seen link.new) }
     ensures book { (book.new ≡ empty_book) ⊎ IsRooted descriptor.now (entry book.new) }
 {
@@ -94,6 +95,7 @@ fn prepare_attached<D: Disk, L: Link>(
     requires one { chunks_of descriptor.now ≡ 1 }
     requires attached { IsKnown (D.state disk.old) → IsFreshlyAttached (D.state disk.old).history }
     ensures prepared { HasPrepared descriptor.now random (D.state disk.old) (D.state disk.new) (L.seen link.old) (L.seen link.new) (entry book.new) result }
+    ensures lasts { IsKnown (D.state disk.old) → Lasts descriptor.now (D.state disk.new).history }
     ensures unsent { IsUnsent (L.seen link.old) (L.seen link.new) }
     ensures book { (book.new ≡ empty_book) ⊎ IsRooted descriptor.now (entry book.new) }
 {
@@ -118,6 +120,7 @@ fn listen_and_open<D: Disk, L: Link>(
     requires attached { IsKnown (D.state disk.old) → IsFreshlyAttached (D.state disk.old).history }
     requires begins { IsKnown (D.state disk.old) → IsOf descriptor.now (D.state disk.old).history.reads }
     ensures prepared { HasPrepared descriptor.now random (D.state disk.old) (D.state disk.new) (L.seen link.old) (L.seen link.new) (entry book.new) result }
+    ensures lasts { IsKnown (D.state disk.old) → Lasts descriptor.now (D.state disk.new).history }
     ensures unsent { IsUnsent (L.seen link.old) (L.seen link.new) }
     ensures book { (book.new ≡ empty_book) ⊎ IsRooted descriptor.now (entry book.new) }
 {
@@ -145,6 +148,7 @@ fn open<D: Disk>(
     requires attached { IsKnown (D.state disk.old) → IsFreshlyAttached (D.state disk.old).history }
     requires begins { IsKnown (D.state disk.old) → IsOf descriptor.now (D.state disk.old).history.reads }
     ensures opened { HasOpenedPeer descriptor.now random (D.state disk.old) (D.state disk.new) (entry book.new) result }
+    ensures lasts { IsKnown (D.state disk.old) → Lasts descriptor.now (D.state disk.new).history }
     ensures book { (book.new ≡ empty_book) ⊎ IsRooted descriptor.now (entry book.new) }
 {
     let Ok(buffer) = room(alloc) else {

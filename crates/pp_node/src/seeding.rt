@@ -4,6 +4,8 @@ ghost use Rattle.pp_terms.specs.Count.{HasCause};
 ghost use Rattle.pp_terms.specs.Book.{IsRooted};
 ghost use Rattle.pp_terms.specs.Descriptor.{chunks_of};
 ghost use Rattle.pp_tree.specs.Book.{entry, empty_book};
+ghost use Rattle.pp_core.specs.Serving.{ReadsAlone};
+ghost use Rattle.pp_node.specs.Promising.{SeedPromises};
 ghost use Rattle.pp_node.specs.Seeding.{SeedsIn, SaysReport, ReportsSeed, Serves};
 
 use crate::checking::put_not_a_store;
@@ -38,6 +40,8 @@ pub fn seed<D: Disk, L: Link, K: Sink>(
     requires one { chunks_of descriptor.now ≡ 1 }
     ensures ends { SeedsIn result descriptor.now random turns (K.state sink.old) (K.state sink.new) (D.state disk.old) (D.state disk.new)
         (L.seen link.old) (L.seen link.new) (entry book.new) }
+    ensures promises { SeedPromises result descriptor.now turns (K.state sink.old) (K.state sink.new) (D.state disk.old) (D.state disk.new)
+        (L.seen link.old) (L.seen link.new) (entry book.new) }
     ensures rooted { (book.new ≡ book.old) ⊎ IsRooted descriptor.now (entry book.new) }
 {
     match prepare(alloc, store, descriptor, listen, random, disk, link, book) {
@@ -60,6 +64,7 @@ fn serve<D: Disk, L: Link, K: Sink>(
     requires room { length ready.buffer.items ≡ 65536 }
     requires size { chunks ≡ length ready.peer.committed }
     ensures serves { Serves result turns ready.peer (K.state sink.old) (K.state sink.new) (D.state disk.old) (D.state disk.new) (L.seen link.old) (L.seen link.new) }
+    ensures disk { ReadsAlone (D.state disk.old) (D.state disk.new) }
     ensures book { book.new ≡ book.old }
 {
     let Ready {

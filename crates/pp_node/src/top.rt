@@ -1,34 +1,43 @@
 // The top call.
-ghost use Rattle.std.specs.Prelude.{◌≡◌, ◌↔◌, ℕ, List, codes};
+ghost use Rattle.std.specs.Prelude.{◌≡◌, ◌⊎◌, ◌↔◌, ℕ, List, codes};
 ghost use Rattle.pp_terms.specs.Commands as terms;
-ghost use Rattle.pp_terms.specs.CommandLine.{Spells, IsImport, IsOnStore, IsOneOf, IsFirstWrong};
-ghost use Rattle.pp_terms.specs.Descriptor.{Descriptor};
+ghost use Rattle.pp_terms.specs.CommandLine.{Spells, IsImport, IsSeed, IsOnStore, IsOneOf, IsFirstWrong};
+ghost use Rattle.pp_terms.specs.Descriptor.{Descriptor, chunks_of};
+ghost use Rattle.pp_terms.specs.Traffic.{Address};
 ghost use Rattle.pp_terms.specs.Usage as wrong;
 ghost use Rattle.pp_terms.specs.Usage.{usage_line};
 ghost use Rattle.pp_tree.specs.Book.{entry, empty_book};
-ghost use Rattle.pp_words.specs.Views.{texts};
+ghost use Rattle.pp_words.specs.Views.{texts, command_of};
 ghost use Rattle.pp_node.specs.Built.{built};
 ghost use Rattle.pp_node.specs.Text.{Says};
 ghost use Rattle.pp_node.specs.Run.{ImportEnds};
 ghost use Rattle.pp_node.specs.Checking.{CheckEnds};
+ghost use Rattle.pp_node.specs.Exporting.{ExportEnds};
+ghost use Rattle.pp_node.specs.Promising.{SeedEnds};
+ghost use Rattle.pp_node.specs.Commanding.{IsServed, IsTooLarge, FillsBook, UsesLink, HasEnded};
 
 use crate::built::read_built;
 use crate::checking::check;
+use crate::exporting::export;
 use crate::importing::import;
 use crate::refusing::refuse;
+use crate::seeding::seed;
+use crate::status::Status;
 use pp_outside::{Disk, Link, Sink, Source};
 use pp_tree::Book;
 use pp_words::Command;
 use std::alloc::Global;
 
 /// Does what the words of a command line say, without the program's name, and answers the exit status: 0 done, 1 for
-/// words that are no command, 2 for a file that is no store of the descriptor, 4 where the disk refused a call, 6 where
-/// the source refused a read, 7 where the sink refused a write, 8 for a store that isn't empty, 9 for a content of no
-/// swarm, 11 where memory ran out. The book is empty at entry, and `seed` are 32 bytes that nobody can guess.
+/// words that are no command, 2 for a file that is no store of the descriptor, 3 where some chunk isn't held, 4 where the
+/// disk refused a call, 5 where the link refused to listen, 6 where the source refused a read, 7 where the sink refused a
+/// write, 8 for a store that isn't empty, 9 for a content of no swarm, 11 where memory ran out, 12 where a chunk was read
+/// back with another digest. The book is empty at entry, and `random` are 32 bytes that nobody can guess, from which
+/// channel numbers are drawn.
 pub fn run<D: Disk, L: Link, S: Source, K: Sink>(
     alloc: Global,
     words: &[String],
-    _seed: [u8; 32],
+    random: [u8; 32],
     disk: &mut D,
     link: &mut L,
     source: &mut S,
@@ -37,11 +46,11 @@ pub fn run<D: Disk, L: Link, S: Source, K: Sink>(
 ) -> u8
     requires { book.old ≡ empty_book }
 
-    // Status 1 comes exactly where the words spell no command that is built.
-    ensures usage { (result ≡ 1) ↔ ((c : terms.Command) → IsOneOf built c → Spells (texts words.now) c → ⊥) }
+    // Status 1 comes exactly where the words spell no command that is built and served.
+    ensures usage { (result ≡ 1) ↔ ((c : terms.Command) → IsOneOf built c → IsServed c → Spells (texts words.now) c → ⊥) }
 
     // Then the first wrong word is named, and nothing else is touched.
-    ensures line { result ≡ 1 → (u : wrong.Usage) × IsFirstWrong built (texts words.now) u
+    ensures line { result ≡ 1 → (u : wrong.Usage) × (IsFirstWrong built (texts words.now) u ⊎ IsTooLarge (texts words.now) u)
         × Says (usage_line u) (K.state sink.old) (K.state sink.new) }
     ensures disk { result ≡ 1 → D.state disk.new ≡ D.state disk.old }
     ensures source { result ≡ 1 → S.state source.new ≡ S.state source.old }
@@ -50,28 +59,66 @@ pub fn run<D: Disk, L: Link, S: Source, K: Sink>(
         → ImportEnds result chunk (S.state source.old) (S.state source.new) (K.state sink.old) (K.state sink.new)
         (D.state disk.old) (D.state disk.new) }
 
+    ensures seed { (store : List ℕ) (descriptor : Descriptor) (listen : Address) (turns : ℕ) → IsSeed (texts words.now) store descriptor listen turns
+        → chunks_of descriptor ≡ 1
+        → SeedEnds result descriptor random turns (S.state source.old) (S.state source.new) (K.state sink.old) (K.state sink.new)
+        (D.state disk.old) (D.state disk.new) (L.seen link.old) (L.seen link.new) (entry book.old) (entry book.new) }
+
     ensures check { (store : List ℕ) (descriptor : Descriptor) → IsOnStore (codes "check") (texts words.now) store descriptor
         → CheckEnds result descriptor (S.state source.old) (S.state source.new) (K.state sink.old) (K.state sink.new)
         (D.state disk.old) (D.state disk.new) (entry book.old) (entry book.new) }
 
-    ensures link { L.seen link.new ≡ L.seen link.old }
-    ensures book { ((store : List ℕ) (descriptor : Descriptor) → IsOnStore (codes "check") (texts words.now) store descriptor → ⊥)
-        → book.new ≡ book.old }
+    ensures export { (store : List ℕ) (descriptor : Descriptor) → IsOnStore (codes "export") (texts words.now) store descriptor
+        → ExportEnds result descriptor (S.state source.old) (S.state source.new) (K.state sink.old) (K.state sink.new)
+        (D.state disk.old) (D.state disk.new) (entry book.old) (entry book.new) }
+
+    // Only `seed` uses the link, and only it, `check` and `export` fill the book.
+    ensures link { ((c : terms.Command) → Spells (texts words.now) c → UsesLink c → ⊥) → L.seen link.new ≡ L.seen link.old }
+    ensures book { ((c : terms.Command) → Spells (texts words.now) c → FillsBook c → ⊥) → book.new ≡ book.old }
 {
     match read_built(words) {
-        Ok(Command::Import { store, chunk }) => import(store, chunk, disk, source, sink).number(),
-        Ok(
-            Command::Check {
-                store,
-                ref descriptor,
-            },
-        ) => { check(alloc, store, descriptor, disk, sink, book).number() }
-        // These are not built, so they are never answered.
-        Ok(Command::Seed { .. }) => unreachable!(),
-        Ok(Command::Fetch { .. }) => unreachable!(),
-        Ok(Command::Export { .. }) => unreachable!(),
-        Ok(Command::Replay) => unreachable!(),
-        Ok(Command::Rehearse { .. }) => unreachable!(),
+        Ok(command) => obey(alloc, &command, random, disk, link, source, sink, book).number(),
         Err(usage) => refuse(usage, sink).number(),
+    }
+}
+
+// Does what a command says.
+fn obey<D: Disk, L: Link, S: Source, K: Sink>(
+    alloc: Global,
+    command: &Command<'_>,
+    random: [u8; 32],
+    disk: &mut D,
+    link: &mut L,
+    source: &mut S,
+    sink: &mut K,
+    book: &mut Book,
+) -> Status
+    requires empty { book.old ≡ empty_book }
+    requires spelled { (words : List (List ℕ)) × Spells words (command_of command.now) }
+    requires built { IsOneOf built (command_of command.now) }
+    requires served { IsServed (command_of command.now) }
+    ensures ended { HasEnded (command_of command.now) result random (S.state source.old) (S.state source.new) (K.state sink.old) (K.state sink.new)
+        (D.state disk.old) (D.state disk.new) (L.seen link.old) (L.seen link.new) (entry book.old) (entry book.new) }
+    ensures link { (UsesLink (command_of command.now) → ⊥) → L.seen link.new ≡ L.seen link.old }
+    ensures book { (FillsBook (command_of command.now) → ⊥) → book.new ≡ book.old }
+{
+    match command {
+        Command::Import { store, chunk } => import(store, *chunk, disk, source, sink),
+        Command::Seed {
+            store,
+            descriptor,
+            listen,
+            turns,
+        } => seed(
+            alloc, store, descriptor, listen, *turns, random, disk, link, sink, book,
+        ),
+        Command::Check { store, descriptor } => check(alloc, store, descriptor, disk, sink, book),
+        Command::Export { store, descriptor } => {
+            export(alloc, store, descriptor, disk, sink, book)
+        }
+        // These are not built, so they are never asked for.
+        Command::Fetch { .. } => unreachable!(),
+        Command::Replay => unreachable!(),
+        Command::Rehearse { .. } => unreachable!(),
     }
 }

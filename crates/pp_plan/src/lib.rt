@@ -2,9 +2,12 @@
 //! 5.2 to 5.5).
 #![tactic(auto)]
 
+ghost use Rattle.pp_plan.specs.Examples.{PlanExamples};
 ghost use Rattle.pp_plan.specs.Law.{PlansAreLeast, StoriesTell};
 
 mod peak;
+#[cfg(test)]
+mod plain;
 mod planning;
 #[cfg(test)]
 mod tests;
@@ -17,4 +20,9 @@ pub use told::Told;
 pub fn laws_of_plans()
     ensures least { PlansAreLeast }
     ensures stories { StoriesTell }
+{}
+
+/// Plans, and what is told, in examples that were worked out elsewhere. It does nothing.
+pub fn examples_of_plans()
+    ensures { PlanExamples }
 {}

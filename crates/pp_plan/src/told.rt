@@ -10,7 +10,7 @@ ghost use Rattle.pp_plan.specs.Told.{knows, is_marked, lies, span_of};
 
 use crate::peak::is_peak;
 use pp_ranges::ChunkRange;
-use pp_tree::{Node, height};
+use pp_tree::{Bits, Node, height};
 use std::alloc::{AllocError, Global};
 use std::marker::Model;
 
@@ -21,21 +21,22 @@ pub struct Told {
     chunks: u32,
     height: u8,
     some: bool,
-    // For each node above the leaves, whether a chunk under it was told of. They count only where `some` is true.
-    marks: Vec<bool>,
+    // For each node above the leaves, whether a chunk under it was told of.
+    marks: Bits,
 }
 
 impl Model for Told {
-    ghost use Rattle.std.specs.Prelude.{◌≡◌, ◌^◌, ◌<◌, ◌≤◌, length};
+    ghost use Rattle.std.specs.Prelude.{◌≡◌, ℕ, ◌^◌, ◌<◌, ◌≤◌, false, length, slice_index_or};
     ghost use Rattle.pp_terms.specs.Tree as terms;
     ghost use Rattle.pp_plan.specs.Told.{ToldNodes};
 
     ghost Value = { ToldNodes };
 
-    ghost view = { λ t. record { chunks = t.chunks; some = t.some; marks = t.marks.items } };
+    ghost view = { λ t. record { chunks = t.chunks; some = t.some; marks = t.marks } };
 
     ghost invariant = { λ t. (0 < t.chunks) × (t.chunks ≤ 2 ^ 20) × (t.height ≡ terms.height t.chunks) × (t.height ≤ 20)
-        × (t.chunks ≤ 2 ^ t.height) × (length t.marks.items ≡ 2 ^ t.height) };
+        × (t.chunks ≤ 2 ^ t.height) × (length t.marks ≡ 2 ^ t.height)
+        × (t.some ≡ false → (i : ℕ) → slice_index_or t.marks i false ≡ false) };
 }
 
 // How many nodes a layer has, by its distance from the root.
@@ -45,24 +46,6 @@ fn width(down: u8) -> usize
     ensures range { result ≤ 2 ^ 20 }
 {
     1 << down
-}
-
-// Sets the marks from one place to another.
-fn fill_between(marks: &mut [bool], first: usize, last: usize)
-    requires order { first ≤ last }
-    requires inside { last < length marks.old }
-    ensures len { length marks.new ≡ length marks.old }
-    ensures marks { (i : ℕ) → slice_index_or marks.new i false
-        ≡ (slice_index_or marks.old i false || (nat_le first i && nat_le i last)) }
-{
-    marks[first..=last].fill(true);
-}
-
-fn clear(marks: &mut [bool])
-    ensures len { length marks.new ≡ length marks.old }
-    ensures marks { (i : ℕ) → slice_index_or marks.new i false ≡ false }
-{
-    marks.fill(false);
 }
 
 impl Told {
@@ -78,7 +61,7 @@ impl Told {
             chunks,
             height,
             some: false,
-            marks: vec![in alloc; false; width(height)]?,
+            marks: Bits::new(alloc, width(height))?,
         })
     }
 
@@ -96,20 +79,18 @@ impl Told {
         }
     }
 
-    // The marks count from now on.
+    // The peaks are told from now on.
     fn begin(&mut self)
         ensures chunks { self.new.chunks ≡ self.old.chunks }
         ensures some { self.new.some ≡ true }
         ensures marks { (n : terms.Node) → is_marked self.new n ≡ (self.old.some && is_marked self.old n) }
     {
-        if !self.some {
-            clear(&mut self.marks);
-            self.some = true;
-        }
+        self.some = true;
     }
 
     // Marks the nodes of a layer from one offset to another.
     fn mark(&mut self, layer: u8, first: u32, last: u32)
+        requires some { self.old.some ≡ true }
         requires above { 0 < layer }
         requires low { layer ≤ terms.height self.old.chunks }
         requires order { first ≤ last }
@@ -119,7 +100,7 @@ impl Told {
         ensures marks { (n : terms.Node) → is_marked self.new n ≡ (is_marked self.old n || lies layer first last n) }
     {
         let base = width(self.height - layer);
-        fill_between(&mut self.marks, base + first as usize, base + last as usize);
+        self.marks.fill(base + first as usize, base + last as usize);
     }
 
     /// Whether the peer told that it knows the node.
@@ -165,7 +146,7 @@ impl Told {
         }
         let base = width(self.height - node.layer - 1);
         let offset = (node.offset / 2) as usize;
-        offset < base && self.marks[base + offset]
+        offset < base && self.marks.has(base + offset)
     }
 
     /// Nothing is told any more.
@@ -173,6 +154,7 @@ impl Told {
         ensures chunks { self.new.chunks ≡ self.old.chunks }
         ensures nothing { (n : terms.Node) → knows self.new n ≡ false }
     {
+        self.marks.clear();
         self.some = false;
     }
 }

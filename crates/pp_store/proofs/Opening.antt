@@ -11,9 +11,9 @@ use Rattle.pp_terms.specs.Book.{LookUp}
 use Rattle.pp_terms.specs.Descriptor.{Descriptor, chunks_of, IsDescriptor}
 use Rattle.pp_terms.specs.Store.{header, chunk_place, Has}
 use Rattle.pp_terms.specs.Image.{slice, known, matches, has_peaks, holds, StandsIn}
-use Rattle.pp_terms.specs.Disk.{DiskState, History, IsKnown, IsRead, DoesLen, MayLeaveSince, Throughout, moment_of, written, after_write}
+use Rattle.pp_terms.specs.Disk.{DiskState, History, IsImage, IsKnown, IsRead, DoesLen, MayLeaveSince, Throughout, moment_of, written, after_write}
 use Rattle.pp_terms.proofs.Headers.{length-header}
-use Rattle.pp_terms.proofs.Images.{written_inside, sole_image, since_now}
+use Rattle.pp_terms.proofs.Images.{written_inside, sole_image, since_now, since_settled}
 use Rattle.pp_tree.specs.Book.{HasRootAlone}
 use Rattle.pp_scan.specs.declared.scanning.ScanFault.{ScanFault}
 use Rattle.pp_scan.specs.declared.scanning.ScanFault.TheVariants.{NotAStore, Disk, Memory}
@@ -25,7 +25,7 @@ use Rattle.pp_scan.proofs.Reading.{no_bytes, read_slice}
 use Rattle.pp_scan.proofs.Finding.{found_empty, some_bytes}
 use Rattle.pp_scan.proofs.Holds.{empty_none}
 use Rattle.pp_store.specs.Keep.{kept}
-use Rattle.pp_store.specs.Store.{IsOpened, AllStand}
+use Rattle.pp_store.specs.Store.{IsOpened, AllStand, GoesOn}
 use Rattle.pp_store.specs.ReadChunk.{IsRightChunk, IsDamaged}
 
 -- an empty file
@@ -149,3 +149,23 @@ there_sound d i book reads into digest place size some long size_is place_is ent
     let good : matches (book 0 i) (sha256 bytes) ≡ true = and_right (length bytes == chunk_length d.size d.chunk i) _ there in
     let good' : pointwise nat_eq digest (sha256 into) ≡ true = ap (λ (x : List ℕ). pointwise nat_eq digest (sha256 x)) is ∙ ap (λ (o : Option (List ℕ)). matches o (sha256 bytes)) (sym entry) ∙ good in
     false≢true (test ∙ good')
+
+-- ---- what stands in every image goes on standing
+
+pub goes_on_same : (d : Descriptor) (old new : History) → new ≡ old → GoesOn d old new
+goes_on_same d old new same i all = subst (λ (h : History). Throughout h (moment_of old) (λ image. StandsIn d image i)) (sym same) all
+
+pub goes_on_synced : (d : Descriptor) (old mid new : History) → IsImage old.epoch old.reads → mid ≡ old → (new ≡ mid) ⊎ (new ≡ synced mid) → GoesOn d old new
+goes_on_synced d old mid new whole unmoved (inl same) = goes_on_same d old new (same ∙ unmoved)
+goes_on_synced d old mid new whole unmoved (inr is) = λ i all image since.
+    ⊎_elim
+    (λ before. all image before)
+    (λ read. subst (λ (x : List ℕ). StandsIn d x i) (sym read) (all old.reads (inl whole)))
+    (since_settled old (moment_of old) old.reads image (omega arith) (subst (λ (h : History). MayLeaveSince h (moment_of old) image) (is ∙ ap synced unmoved) since))
+
+-- of an empty file nothing stands
+pub goes_on_empty : (d : Descriptor) (old new : DiskState) (n : ℕ) {E : Type 0} (mid : DiskState) → IsDescriptor d → IsImage old.history.epoch old.history.reads
+    → DoesLen {E = E} old (Ok n) mid → n ≡ 0 → IsKnown old → GoesOn d old.history new.history
+goes_on_empty d old new n mid valid whole counts none known i all =
+    let stood = all old.history.reads (inl whole) in
+    absurd (let long = stood.begins.inside in omega (arith, long, length-header d valid.root_length, counts.counted known))

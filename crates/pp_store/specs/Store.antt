@@ -29,3 +29,7 @@ pub record IsOpened (d : Descriptor) (old new : History) : Type 0 where
 -- Each chunk of the set stands in every image that a crash from now on may leave.
 abbrev pub AllStand : Descriptor → List Bool → History → Type 0
 AllStand d set h = (i : ℕ) → slice_index_or set i false ≡ true → Throughout h (moment_of h) (λ image. StandsIn d image i)
+
+-- What stands in every image that a crash may leave goes on standing.
+abbrev pub GoesOn : Descriptor → History → History → Type 0
+GoesOn d old new = (i : ℕ) → Throughout old (moment_of old) (λ image. StandsIn d image i) → Throughout new (moment_of old) (λ image. StandsIn d image i)

@@ -15,7 +15,7 @@ ghost use Rattle.pp_scan.specs.Holding.{is_there};
 ghost use Rattle.pp_scan.specs.Scan.{HasFound};
 ghost use Rattle.pp_store.specs.Keep.{kept, KeepsDisk};
 ghost use Rattle.pp_store.specs.ReadChunk.{HasRead};
-ghost use Rattle.pp_store.specs.Store.{IsOpened, AllStand};
+ghost use Rattle.pp_store.specs.Store.{IsOpened, AllStand, GoesOn};
 
 use crate::durable::keep;
 use crate::reading::{ReadFault, read_chunk};
@@ -40,6 +40,7 @@ pub(crate) fn open_file<D: Disk>(
     ensures found { HasFound ⊥ descriptor.now (D.state disk.old) (D.state disk.new) (entry book.new) result }
     ensures opened { IsKnown (D.state disk.old)
         → OnOk result (IsOpened descriptor.now (D.state disk.old).history (D.state disk.new).history) }
+    ensures goes_on { IsKnown (D.state disk.old) → GoesOn descriptor.now (D.state disk.old).history (D.state disk.new).history }
     ensures disk { KeepsDisk (D.state disk.old) (D.state disk.new) }
     ensures rooted { IsRooted descriptor.now (entry book.new) }
     ensures only { IsKnown (D.state disk.old) → HasOnlyKnown descriptor.now (D.state disk.old).history.reads (entry book.new) }
@@ -113,6 +114,8 @@ impl Store {
         ensures begins { IsKnown (D.state disk.old)
             → OnOk result (Throughout (D.state disk.new).history (moment_of (D.state disk.new).history) (HasHeader descriptor.now)) }
         ensures stands { IsKnown (D.state disk.old) → IfOk result (λ s. AllStand descriptor.now s.committed (D.state disk.new).history) }
+        // Whatever it answers, what stood in every image goes on standing.
+        ensures goes_on { IsKnown (D.state disk.old) → GoesOn descriptor.now (D.state disk.old).history (D.state disk.new).history }
 
         ensures disk { KeepsDisk (D.state disk.old) (D.state disk.new) }
         ensures rooted { IsRooted descriptor.now (entry book.new) }

@@ -16,3 +16,4 @@ pub mod ReadExamples
 pub mod TwoChunks
 pub mod Digits
 pub mod TextPieces
+pub mod Packing

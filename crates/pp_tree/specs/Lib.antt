@@ -6,3 +6,4 @@ pub mod Cells
 pub mod Law
 pub mod Scan
 pub mod Faults
+pub mod Bits

@@ -1,6 +1,7 @@
 //! Values of one swarm in memory: digests, the descriptor that names a swarm, and books of the digests of its tree.
 #![tactic(auto)]
 
+mod bits;
 mod book;
 mod content;
 mod descriptor;
@@ -11,6 +12,7 @@ mod node;
 mod set;
 mod text;
 
+pub use bits::Bits;
 pub use book::Book;
 pub use content::root_of;
 pub use descriptor::{Descriptor, DescriptorFault, FieldFault, Method};

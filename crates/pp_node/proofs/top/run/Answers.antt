@@ -1,45 +1,49 @@
-use Rattle.std.proofs.Common.{rules, refl, ap}
-use Rattle.pp_terms.specs.Commands.{Import, Check}
+use Rattle.std.proofs.Common.{rules, refl}
+use Rattle.pp_terms.specs.Commands.{Check, Export, Seed}
 use Rattle.pp_words.specs.Views.{texts, command_of, usage_of}
-use Rattle.pp_words.proofs.OneReading.{command_not_wrong}
 use Rattle.pp_tree.specs.Book.{entry}
-use Rattle.pp_node.specs.Built.{built}
-use Rattle.pp_node.proofs.Runs.{import_ends}
-use Rattle.pp_node.proofs.Checks.{check_ends, not_both, rooted_as, read_as}
+use Rattle.pp_node.proofs.Commands.{none_spelled, import_ends, seed_ends, check_ends, export_ends}
 use Rattle.pp_node.proofs.top.run.Goals as goal
 
-pub returns-in-Ok-Import-clause-import : goal.returns-in-Ok-Import-clause-import
-returns-in-Ok-Import-clause-import g c =
-    let spelled = read_as (texts c.args.words.now) c.read_built.result c.in-Ok-Import.field-0 (Import c.in-Ok-Import.store.now c.in-Ok-Import.chunk) c.read_built.ensures.ok c.in-Ok-Import.is (ap command_of c.in-Ok-Import.field-0-is) in
-    import_ends _ _ _ _ _ _ _ _ _ _ _ spelled c.number.ensures c.import.ensures.ends c.import.ensures.run
+pub returns-in-Ok-clause-import : goal.returns-in-Ok-clause-import
+returns-in-Ok-clause-import g c =
+    import_ends (texts c.args.words.now) (command_of c.in-Ok.command) c.obey.result c.number.result c.args.random (g.S.Source.state c.args.source.now) (g.S.Source.state c.obey.new.source)
+    (g.K.Sink.state c.args.sink.now) (g.K.Sink.state c.obey.new.sink) (g.D.Disk.state c.args.disk.now) (g.D.Disk.state c.obey.new.disk) (g.L.Link.seen c.args.link.now) (g.L.Link.seen c.obey.new.link)
+    (entry c.args.book.now) (entry c.obey.new.book) c.in-Ok.ensures.ok.0 c.number.ensures c.obey.ensures.ended
 
-pub returns-in-Ok-Import-clause-check : goal.returns-in-Ok-Import-clause-check
-returns-in-Ok-Import-clause-check g c = λ store descriptor spelled.
-    absurd (not_both _ _ _ _ _ (read_as (texts c.args.words.now) c.read_built.result c.in-Ok-Import.field-0 (Import c.in-Ok-Import.store.now c.in-Ok-Import.chunk) c.read_built.ensures.ok c.in-Ok-Import.is (ap command_of c.in-Ok-Import.field-0-is)) spelled)
+pub returns-in-Ok-clause-seed : goal.returns-in-Ok-clause-seed
+returns-in-Ok-clause-seed g c =
+    seed_ends (texts c.args.words.now) (command_of c.in-Ok.command) c.obey.result c.number.result c.args.random (g.S.Source.state c.args.source.now) (g.S.Source.state c.obey.new.source)
+    (g.K.Sink.state c.args.sink.now) (g.K.Sink.state c.obey.new.sink) (g.D.Disk.state c.args.disk.now) (g.D.Disk.state c.obey.new.disk) (g.L.Link.seen c.args.link.now) (g.L.Link.seen c.obey.new.link)
+    (entry c.args.book.now) (entry c.obey.new.book) c.in-Ok.ensures.ok.0 c.number.ensures c.obey.ensures.ended
 
-pub returns-in-Ok-Check-clause-import : goal.returns-in-Ok-Check-clause-import
-returns-in-Ok-Check-clause-import g c = λ store chunk spelled.
-    absurd (not_both _ _ _ _ _ spelled (read_as (texts c.args.words.now) c.read_built.result c.in-Ok-Check.field-0 (Check c.in-Ok-Check.store.now c.in-Ok-Check.descriptor) c.read_built.ensures.ok c.in-Ok-Check.is (ap command_of c.in-Ok-Check.field-0-is)))
+pub returns-in-Ok-clause-check : goal.returns-in-Ok-clause-check
+returns-in-Ok-clause-check g c =
+    check_ends (texts c.args.words.now) (command_of c.in-Ok.command) c.obey.result c.number.result c.args.random (g.S.Source.state c.args.source.now) (g.S.Source.state c.obey.new.source)
+    (g.K.Sink.state c.args.sink.now) (g.K.Sink.state c.obey.new.sink) (g.D.Disk.state c.args.disk.now) (g.D.Disk.state c.obey.new.disk) (g.L.Link.seen c.args.link.now) (g.L.Link.seen c.obey.new.link)
+    (entry c.args.book.now) (entry c.obey.new.book) c.in-Ok.ensures.ok.0 c.number.ensures c.obey.ensures.ended
 
-pub returns-in-Ok-Check-clause-check : goal.returns-in-Ok-Check-clause-check
-returns-in-Ok-Check-clause-check g c =
-    let spelled = read_as (texts c.args.words.now) c.read_built.result c.in-Ok-Check.field-0 (Check c.in-Ok-Check.store.now c.in-Ok-Check.descriptor) c.read_built.ensures.ok c.in-Ok-Check.is (ap command_of c.in-Ok-Check.field-0-is) in
-    check_ends (texts c.args.words.now) c.in-Ok-Check.store.now c.in-Ok-Check.descriptor c.number-in-Ok-Check.result c.check.result
-    (g.S.Source.state c.args.source.now) (g.S.Source.state c.args.source.now) (g.K.Sink.state c.args.sink.now) (g.K.Sink.state c.check.new.sink)
-    (g.D.Disk.state c.args.disk.now) (g.D.Disk.state c.check.new.disk) (entry c.args.book.now) (entry c.check.new.book)
-    spelled c.number-in-Ok-Check.ensures c.check.ensures.ends c.check.ensures.unwritten refl
-    (rooted_as _ entry c.in-Ok-Check.descriptor c.args.book.now c.check.new.book c.check.ensures.rooted)
+pub returns-in-Ok-clause-export : goal.returns-in-Ok-clause-export
+returns-in-Ok-clause-export g c =
+    export_ends (texts c.args.words.now) (command_of c.in-Ok.command) c.obey.result c.number.result c.args.random (g.S.Source.state c.args.source.now) (g.S.Source.state c.obey.new.source)
+    (g.K.Sink.state c.args.sink.now) (g.K.Sink.state c.obey.new.sink) (g.D.Disk.state c.args.disk.now) (g.D.Disk.state c.obey.new.disk) (g.L.Link.seen c.args.link.now) (g.L.Link.seen c.obey.new.link)
+    (entry c.args.book.now) (entry c.obey.new.book) c.in-Ok.ensures.ok.0 c.number.ensures c.obey.ensures.ended
 
-pub returns-in-Ok-Check-clause-book : goal.returns-in-Ok-Check-clause-book
-returns-in-Ok-Check-clause-book g c = λ never. absurd (never _ _ (read_as (texts c.args.words.now) c.read_built.result c.in-Ok-Check.field-0 (Check c.in-Ok-Check.store.now c.in-Ok-Check.descriptor) c.read_built.ensures.ok c.in-Ok-Check.is (ap command_of c.in-Ok-Check.field-0-is)))
-
--- words that are wrong spell no command
+-- words that are wrong spell no command that is built and served
 pub returns-in-Err-clause-usage : goal.returns-in-Err-clause-usage
 returns-in-Err-clause-usage g c = (
-  λ is command one spelled. command_not_wrong built (texts c.args.words.now) command (usage_of c.in-Err.usage) one spelled c.in-Err.ensures.err,
+  λ is command one served spelled. none_spelled (texts c.args.words.now) (usage_of c.in-Err.usage) c.in-Err.ensures.err command one served spelled,
   λ never. search rules,
 )
 
+pub returns-in-Err-clause-seed : goal.returns-in-Err-clause-seed
+returns-in-Err-clause-seed g c = λ store descriptor listen turns spelled one.
+    absurd (none_spelled (texts c.args.words.now) (usage_of c.in-Err.usage) c.in-Err.ensures.err (Seed store descriptor listen turns) refl one spelled)
+
 pub returns-in-Err-clause-check : goal.returns-in-Err-clause-check
 returns-in-Err-clause-check g c = λ store descriptor spelled.
-    absurd (command_not_wrong built (texts c.args.words.now) (Check store descriptor) (usage_of c.in-Err.usage) refl spelled c.in-Err.ensures.err)
+    absurd (none_spelled (texts c.args.words.now) (usage_of c.in-Err.usage) c.in-Err.ensures.err (Check store descriptor) refl tt spelled)
+
+pub returns-in-Err-clause-export : goal.returns-in-Err-clause-export
+returns-in-Err-clause-export g c = λ store descriptor spelled.
+    absurd (none_spelled (texts c.args.words.now) (usage_of c.in-Err.usage) c.in-Err.ensures.err (Export store descriptor) refl tt spelled)

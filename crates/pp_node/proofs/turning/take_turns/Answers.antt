@@ -1,4 +1,4 @@
-use Rattle.std.proofs.Common.{◌≤◌, refl, arith}
+use Rattle.std.proofs.Common.{refl, arith}
 use Rattle.pp_node.proofs.Turns.{turns_none, taken_more, all_taken}
 use Rattle.pp_node.proofs.turning.take_turns.Goals as goal
 

@@ -2,9 +2,10 @@ use Rattle.std.proofs.Common.{ap}
 use Rattle.pp_terms.specs.Disk.{History}
 use Rattle.pp_tree.specs.Book.{entry}
 use Rattle.pp_tree.proofs.Rootedness.{rooted_alone}
+use Rattle.pp_terms.proofs.Knowing.{known_on}
 use Rattle.pp_scan.proofs.Reading.{len_keeps}
 use Rattle.pp_scan.proofs.Finding.{found_after}
-use Rattle.pp_store.proofs.Opening.{fresh_found}
+use Rattle.pp_store.proofs.Opening.{fresh_found, goes_on_same, goes_on_synced, goes_on_empty}
 use Rattle.pp_store.proofs.keeping.open_file.Goals as goal
 
 pub returns-in-Ok-eq0-clause-found : goal.returns-in-Ok-eq0-clause-found
@@ -22,3 +23,18 @@ returns-in-Ok-clause-found g c =
 
 pub returns-in-Err-clause-rooted : goal.returns-in-Err-clause-rooted
 returns-in-Err-clause-rooted g c = rooted_alone c.args.descriptor.now (entry c.args.book.now) c.requires.valid.root_length c.requires.alone
+
+pub returns-in-Ok-eq0-clause-goes_on : goal.returns-in-Ok-eq0-clause-goes_on
+returns-in-Ok-eq0-clause-goes_on g c known =
+    goes_on_empty c.args.descriptor.now (g.D.Disk.state c.args.disk.now) (g.D.Disk.state c.begin.new.disk) c.in-Ok-eq0.field-0 (g.D.Disk.state c.len.new.self) c.requires.valid
+    (g.met.D.Disk.whole c.args.disk.now known) c.in-Ok-eq0.ensures c.in-Ok-eq0.field-0-test known
+
+pub returns-in-Ok-clause-goes_on : goal.returns-in-Ok-clause-goes_on
+returns-in-Ok-clause-goes_on g c known =
+    goes_on_synced c.args.descriptor.now (g.D.Disk.state c.args.disk.now).history (g.D.Disk.state c.len.new.self).history (g.D.Disk.state c.scan_into.new.disk).history
+    (g.met.D.Disk.whole c.args.disk.now known) c.len.ensures.same
+    (c.scan_into.ensures.looks.either (known_on (g.D.Disk.state c.args.disk.now) (g.D.Disk.state c.len.new.self) c.len.ensures.call.tells c.len.ensures.call.honest known))
+
+pub returns-in-Err-clause-goes_on : goal.returns-in-Err-clause-goes_on
+returns-in-Err-clause-goes_on g c known =
+    goes_on_same c.args.descriptor.now (g.D.Disk.state c.args.disk.now).history (g.D.Disk.state c.len.new.self).history c.len.ensures.same

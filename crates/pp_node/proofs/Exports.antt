@@ -1,0 +1,325 @@
+-- A content that is written chunk by chunk.
+use Rattle.std.proofs.Common.{◌≡◌, inl, inr, ⊎_elim, ℕ, ◌+◌, ◌*◌, ◌<◌, ◌≤◌, Bool, true, false, List, [], ◌++◌, length, get_or, take, drop, Result, Ok, Err, refl, sym, ◌∙◌, ap, subst, arith, below_more, length-append, length-drop}
+use Rattle.std.proofs.Math.Seq.{drop-append_seam, take-append-add}
+use Rattle.std.proofs.lemmas.List.{take_all, length-take, get_or_default, take-append-le, drop-append-le}
+use Rattle.pp_terms.specs.Book.{LookUp, IsRooted}
+use Rattle.pp_terms.specs.Count.{HasRisen}
+use Rattle.pp_terms.specs.Content.{chunk_of, chunk_length}
+use Rattle.pp_terms.specs.Descriptor.{Descriptor, IsDescriptor, chunks_of}
+use Rattle.pp_terms.specs.Disk.{DiskState, History, IsKnown, IsRead}
+use Rattle.pp_terms.specs.Image.{holds}
+use Rattle.pp_terms.specs.Store.{chunk_place}
+use Rattle.pp_terms.specs.Stream.{SinkState, Gains}
+use Rattle.pp_terms.proofs.Knowing.{known_on}
+use Rattle.pp_tree.proofs.Sizes.{chunk_size_range, chunk_count_holds, chunk_begins}
+use Rattle.pp_scan.specs.Look.{KeepsAll}
+use Rattle.pp_scan.specs.Holding.{is_there}
+use Rattle.pp_scan.proofs.Reading.{known_after}
+use Rattle.pp_store.specs.declared.reading.ReadFault.{ReadFault}
+use Rattle.pp_store.specs.declared.reading.ReadFault.TheVariants as read
+use Rattle.pp_store.specs.ReadChunk.{HasRead, IsRightChunk}
+use Rattle.pp_node.specs.Looking.{IsOf, IsFound}
+use Rattle.pp_node.specs.declared.status.Status.{Status}
+use Rattle.pp_node.specs.declared.status.Status.TheVariants as ends
+use Rattle.pp_node.specs.Exporting.{IsChunk, AreChunks, HasPut, IsWhole, IsExported, IsIncomplete, IsReadable, IsDamagedChunk, PutsChunk, ExportsIn, status_of_fault}
+use Rattle.pp_node.specs.declared.exporting.PutFault.{PutFault}
+use Rattle.pp_node.specs.declared.exporting.PutFault.TheVariants.{Disk, Sink, Damaged}
+use Rattle.pp_node.proofs.Written.{gains-nil, gains_more}
+
+-- bytes behind whole chunks change none of them
+chunk_kept : (bytes piece : List ℕ) (chunk n i : ℕ) → length bytes ≡ n * chunk → i < n → chunk_of (bytes ++ piece) chunk i ≡ chunk_of bytes chunk i
+chunk_kept bytes piece chunk n i size lt =
+    let below : (i + 1) * chunk ≤ n * chunk = grind arith in
+    let inside : i * chunk ≤ length bytes = omega (arith, size) in
+    let room : chunk ≤ length (drop (i * chunk) bytes) = omega (arith, size, length-drop (i * chunk) bytes) in
+    ap (λ (b : List ℕ). take chunk b) (drop-append-le (i * chunk) bytes piece inside) ∙ take-append-le chunk (drop (i * chunk) bytes) piece room
+
+-- and are the next chunk
+chunk_next : (bytes piece : List ℕ) (chunk n : ℕ) → length bytes ≡ n * chunk → length piece ≤ chunk → chunk_of (bytes ++ piece) chunk n ≡ piece
+chunk_next bytes piece chunk n size short =
+    ap (λ (k : ℕ). take chunk (drop k (bytes ++ piece))) (sym size) ∙ ap (λ (b : List ℕ). take chunk b) (drop-append_seam bytes piece) ∙ take_all chunk piece short
+
+some_chunk : (d : Descriptor) → IsDescriptor d → 0 < d.chunk
+some_chunk d valid = let range = chunk_size_range d.chunk valid.chunk_size in omega (arith, range.0)
+
+-- as seen from before calls that change nothing but counts
+module _ (d : Descriptor) (old mid seen new : DiskState) (book : LookUp) (known : IsKnown old → IsKnown mid) (found : new.history.found ≡ seen.history.found) where
+  pub chunk_seen : (i : ℕ) (bytes : List ℕ) → IsChunk d mid seen book i bytes → IsChunk d old new book i bytes
+  chunk_seen i bytes is = record {
+    backed = is.backed;
+    read = λ k. subst (λ (r : List ℕ). IsRead r (chunk_place d.chunk i) bytes) (sym found) (is.read (known k));
+  }
+
+  pub chunks_seen : (n : ℕ) (bytes : List ℕ) → AreChunks d mid seen book n bytes → AreChunks d old new book n bytes
+  chunks_seen n bytes are = record {
+    within = are.within;
+    size = are.size;
+    each = λ i lt. chunk_seen i (chunk_of bytes d.chunk i) (are.each i lt);
+  }
+
+  pub put_seen : (sink sink' : SinkState) (n : ℕ) → HasPut d sink sink' mid seen book n → HasPut d sink sink' old new book n
+  put_seen sink sink' n put = record { bytes = put.bytes; chunks = chunks_seen n put.bytes put.chunks; gained = put.gained }
+
+  pub whole_seen : IsWhole d mid seen → IsWhole d old new
+  whole_seen whole = record {
+    begins = λ k. subst (IsOf d) (sym found) (whole.begins (known k));
+    holding = λ k i lt. ap (λ (r : List ℕ). holds d r i) found ∙ whole.holding (known k) i lt;
+  }
+
+pub put_none : (d : Descriptor) (sink : SinkState) (disk disk' : DiskState) (book : LookUp) → HasPut d sink sink disk disk' book 0
+put_none d sink disk disk' book = record {
+  bytes = [];
+  chunks = record { within = omega arith; size = omega arith; each = λ i lt. absurd (omega arith) };
+  gained = gains-nil sink.taken;
+}
+
+module _ (d : Descriptor) (disk disk' : DiskState) (book : LookUp) (n : ℕ) (valid : IsDescriptor d) (within : n < chunks_of d) where
+  -- the chunks before another one are whole
+  pub length_whole : (bytes : List ℕ) → AreChunks d disk disk' book n bytes → length bytes ≡ n * d.chunk
+  length_whole bytes are =
+      let begins : n * d.chunk < d.size = chunk_begins d.size d.chunk n (some_chunk d valid) within in
+      omega (arith, are.size, begins)
+
+  pub chunks_more : (bytes piece : List ℕ) → AreChunks d disk disk' book n bytes → IsChunk d disk disk' book n piece → AreChunks d disk disk' book (n + 1) (bytes ++ piece)
+  chunks_more bytes piece are is =
+      let size = length_whole bytes are in
+      let next : length piece ≡ chunk_length d.size d.chunk n = is.backed.whole in
+      let short : length piece ≤ d.chunk = omega (arith, next) in
+      record {
+        within = omega (arith, within);
+        size = length-append bytes piece ∙ omega (arith, size, next);
+        each = below_more _ _ (λ i lt. subst (IsChunk d disk disk' book i) (sym (chunk_kept bytes piece d.chunk n i size lt)) (are.each i lt))
+            (subst (IsChunk d disk disk' book n) (sym (chunk_next bytes piece d.chunk n size short)) is);
+      }
+
+  pub put_more : (old mid new : SinkState) → HasPut d old mid disk disk' book n → (piece : List ℕ) → IsChunk d disk disk' book n piece → Gains mid.taken piece new.taken → HasPut d old new disk disk' book (n + 1)
+  put_more old mid new put piece is gained = record {
+    bytes = put.bytes ++ piece;
+    chunks = chunks_more put.bytes piece put.chunks is;
+    gained = gains_more old.taken mid.taken new.taken put.bytes piece put.gained gained;
+  }
+
+-- all chunks are the whole content
+pub exported_all : (d : Descriptor) (sink sink' : SinkState) (disk disk' : DiskState) (book : LookUp) → IsDescriptor d → IsWhole d disk disk' → HasPut d sink sink' disk disk' book (chunks_of d)
+    → IsExported d sink sink' disk disk' book
+exported_all d sink sink' disk disk' book valid whole put = record {
+  whole = whole;
+  content = put.bytes;
+  size = let held = chunk_count_holds d.size d.chunk (some_chunk d valid) in omega (arith, put.chunks.size, held.0);
+  each = put.chunks.each;
+  gained = put.gained;
+}
+
+pub readable_after : (d : Descriptor) (old new : DiskState) (book : LookUp) → KeepsAll old new → IsReadable d old book → IsReadable d new book
+readable_after d old new book keeps is =
+    let known : IsKnown new → IsKnown old = known_on new old (sym keeps.tells) (sym keeps.honest) in
+    let reads : new.history.reads ≡ old.history.reads = ap (λ (h : History). h.reads) keeps.same in
+    let found : new.history.found ≡ old.history.found = ap (λ (h : History). h.found) keeps.same in
+    record {
+      rooted = is.rooted;
+      whole = whole_seen d new old old new book known found is.whole;
+      leaf = is.leaf;
+      there = λ k i lt. ap (λ (r : List ℕ). is_there d r book i) reads ∙ is.there (known k) i lt;
+      same = λ k. reads ∙ is.same (known k) ∙ sym found;
+    }
+
+-- a chunk never has more bytes than the buffer
+pub room_for : (d : Descriptor) (i room : ℕ) → IsDescriptor d → room ≡ 8192 → chunk_length d.size d.chunk i ≤ room
+room_for d i room valid is = let range = chunk_size_range d.chunk valid.chunk_size in omega (arith, range.1)
+
+module _ (d : Descriptor) (disk disk' : DiskState) (book : LookUp) (i : ℕ) (out : List ℕ) (readable : IsReadable d disk book) (within : i < chunks_of d) (room : chunk_length d.size d.chunk i ≤ length out) where
+  pub chunk_read : (count : ℕ) → KeepsAll disk disk' → IsRightChunk d i book disk out count → IsChunk d disk disk' book i (take count out)
+  chunk_read count keeps is = record {
+    backed = record {
+      rooted = readable.rooted;
+      within = within;
+      whole = length-take count out ∙ omega (arith, is.count_is);
+      leaf = is.leaf_is;
+    };
+    read = λ k. subst (λ (r : List ℕ). IsRead r (chunk_place d.chunk i) (take count out)) (readable.same k ∙ sym (ap (λ (h : History). h.found) keeps.same)) (is.read k);
+  }
+
+  pub chunk_damaged : (result : Result ℕ ReadFault) (found kept : List ℕ) → result ≡ Err (read.Damaged found kept) → HasRead ⊥ d i book disk disk' out result
+      → (IsKnown disk → is_there d disk.history.reads book i ≡ true → (found kept : List ℕ) → result ≡ Err (read.Damaged found kept) → ⊥) → IsDamagedChunk d disk book i
+  chunk_damaged result found kept is does sound = record {
+    bytes = out;
+    found = found;
+    kept = kept;
+    room = room;
+    damaged = subst (HasRead ⊥ d i book disk disk' out) is does;
+    never = λ k. sound k (readable.there k i within) found kept is;
+  }
+
+pub disk_refused : (d : Descriptor) (i : ℕ) (book : LookUp) (disk disk' : DiskState) (out : List ℕ) (result : Result ℕ ReadFault) → result ≡ Err read.Disk → HasRead ⊥ d i book disk disk' out result
+    → HasRisen disk.faults disk'.faults
+disk_refused d i book disk disk' out result is does = subst (HasRead ⊥ d i book disk disk' out) is does
+
+-- chunk n stops the writing of the chunks, and those before it were written
+module _ (d : Descriptor) (first disk disk' : DiskState) (old mid new : SinkState) (book : LookUp) (n : ℕ) (valid : IsDescriptor d) (within : n < chunks_of d)
+    (readable : IsReadable d first book) (before : KeepsAll first disk) (keeps : KeepsAll disk disk') (later : old.faults ≤ mid.faults) (put : HasPut d old mid first disk book n) where
+  known_then : IsKnown first → IsKnown disk
+  known_then = known_after first disk before
+
+  found_then : disk'.history.found ≡ disk.history.found
+  found_then = ap (λ (h : History). h.found) keeps.same
+
+  put_then : HasPut d old mid first disk' book n
+  put_then = put_seen d first first disk disk' book (λ k. k) found_then old mid n put
+
+  whole_then : IsWhole d first disk'
+  whole_then = whole_seen d first first first disk' book (λ k. k) (found_then ∙ ap (λ (h : History). h.found) before.same) readable.whole
+
+  chunk_then : (bytes : List ℕ) → IsChunk d disk disk' book n bytes → IsChunk d first disk' book n bytes
+  chunk_then = chunk_seen d first disk disk' disk' book known_then refl n
+
+  pub put_on : (result : Result (Unit {0}) PutFault) → result ≡ Ok tt → PutsChunk d n mid new disk disk' book result → HasPut d old new first disk' book (n + 1)
+  put_on result is does = let (piece, chunk, gained) = subst (PutsChunk d n mid new disk disk' book) is does in
+      put_more d first disk' book n valid within old mid new put_then piece (chunk_then piece chunk) gained
+
+  stopped : (fault : PutFault) → PutsChunk d n mid new disk disk' book (Err fault) → ExportsIn (status_of_fault fault) d old new first disk' book
+  stopped Disk (risen, same) = record {
+    risen = λ below. let r : disk.faults < disk'.faults = risen below in omega (arith, r, before.faults);
+    stopped = inr (n, within, subst (λ (s : SinkState). HasPut d old s first disk' book n) (sym same) put_then, whole_then);
+  }
+  stopped Sink (risen, piece, chunk, part) =
+      let size = length_whole d first disk' book n valid within put_then.bytes put_then.chunks in
+      record {
+        risen = λ below. let r : mid.faults < new.faults = risen below in omega (arith, r, later);
+        whole = whole_then;
+        n = n;
+        count = length put_then.bytes + part.count;
+        bytes = put_then.bytes ++ piece;
+        chunks = chunks_more d first disk' book n valid within put_then.bytes piece put_then.chunks (chunk_then piece chunk);
+        least = omega (arith, size);
+        short = omega (arith, part.short, length-append put_then.bytes piece);
+        gained = subst (λ (b : List ℕ). Gains old.taken b new.taken) (sym (take-append-add put_then.bytes piece part.count))
+            (gains_more old.taken mid.taken new.taken put_then.bytes (take part.count piece) put_then.gained part.gained);
+      }
+  stopped Damaged (damaged, same) = record {
+    n = n;
+    within = within;
+    put = subst (λ (s : SinkState). HasPut d old s first disk' book n) (sym same) put_then;
+    damaged = record {
+      bytes = damaged.bytes;
+      found = damaged.found;
+      kept = damaged.kept;
+      room = damaged.room;
+      damaged = record {
+        kept_is = damaged.damaged.kept_is;
+        found_is = damaged.damaged.found_is;
+        differ = damaged.damaged.differ;
+        read = λ k. absurd (damaged.never (known_then k));
+      };
+      never = λ k. damaged.never (known_then k);
+    };
+  }
+
+  pub stopped_at : (result : Result (Unit {0}) PutFault) (fault : PutFault) → result ≡ Err fault → PutsChunk d n mid new disk disk' book result → ExportsIn (status_of_fault fault) d old new first disk' book
+  stopped_at result fault is does = stopped fault (subst (PutsChunk d n mid new disk disk' book) is does)
+
+-- no chunk is left
+pub exported_written : (d : Descriptor) (old new : SinkState) (first disk : DiskState) (book : LookUp) → IsDescriptor d → IsReadable d first book → KeepsAll first disk
+    → (n : ℕ) → n ≡ chunks_of d → HasPut d old new first disk book n → IsExported d old new first disk book
+exported_written d old new first disk book valid readable keeps n all put =
+    exported_all d old new first disk book valid
+    (whole_seen d first first first disk book (λ k. k) (ap (λ (h : History). h.found) keeps.same) readable.whole)
+    (subst (HasPut d old new first disk book) all put)
+
+-- every chunk was found
+pub readable_found : (d : Descriptor) (disk : DiskState) (book : LookUp) (set : List Bool) → IsFound d disk disk book set → (IsKnown disk → disk.history.reads ≡ disk.history.found) → IsRooted d book
+    → ((k : ℕ) → k < length set → get_or set k false ≡ true) → IsReadable d disk book
+readable_found d disk book set is same rooted all =
+    let at : (i : ℕ) → i < chunks_of d → get_or set i false ≡ true = λ i lt. all i (omega (arith, lt, is.count)) in
+    record {
+      rooted = rooted;
+      whole = record { begins = is.begins; holding = λ k i lt. sym (is.held k i lt) ∙ at i lt };
+      leaf = λ i lt. is.leaf i (at i lt);
+      there = λ k i lt. is.there k i (at i lt);
+      same = same;
+    }
+
+-- a chunk wasn't found
+pub incomplete_found : (d : Descriptor) (sink : SinkState) (disk : DiskState) (book : LookUp) (set : List Bool) (i : ℕ) → IsFound d disk disk book set
+    → i < length set → get_or set i true ≡ false → IsIncomplete d sink sink disk disk
+incomplete_found d sink disk book set i is lt absent = record {
+  begins = is.begins;
+  absent = λ k. let within : i < chunks_of d = omega (arith, lt, is.count) in
+      (i, within, sym (is.held k i within) ∙ get_or_default set i false true lt ∙ absent);
+  silent = refl;
+}
+
+-- as seen from before the scan
+module _ (d : Descriptor) (old mid new : DiskState) (sink sink' : SinkState) (book : LookUp) (tells : mid.tells ≡ old.tells) (honest : mid.honest ≡ old.honest) (later : old.faults ≤ mid.faults) where
+  known_mid : IsKnown old → IsKnown mid
+  known_mid = known_on old mid tells honest
+
+  chunk_later : (i : ℕ) (bytes : List ℕ) → IsChunk d mid new book i bytes → IsChunk d old new book i bytes
+  chunk_later = chunk_seen d old mid new new book known_mid refl
+
+  chunks_later : (n : ℕ) (bytes : List ℕ) → AreChunks d mid new book n bytes → AreChunks d old new book n bytes
+  chunks_later = chunks_seen d old mid new new book known_mid refl
+
+  put_later : (n : ℕ) → HasPut d sink sink' mid new book n → HasPut d sink sink' old new book n
+  put_later = put_seen d old mid new new book known_mid refl sink sink'
+
+  whole_later : IsWhole d mid new → IsWhole d old new
+  whole_later = whole_seen d old mid new new book known_mid refl
+
+  damaged_later : (n : ℕ) → IsDamagedChunk d mid book n → IsDamagedChunk d old book n
+  damaged_later n is = record {
+    bytes = is.bytes;
+    found = is.found;
+    kept = is.kept;
+    room = is.room;
+    damaged = record {
+      kept_is = is.damaged.kept_is;
+      found_is = is.damaged.found_is;
+      differ = is.damaged.differ;
+      read = λ k. absurd (is.never (known_mid k));
+    };
+    never = λ k. is.never (known_mid k);
+  }
+
+  pub exported_later : (status : Status) → ExportsIn status d sink sink' mid new book → ExportsIn status d sink sink' old new book
+  exported_later ends.Done is = record {
+    whole = whole_later is.whole;
+    content = is.content;
+    size = is.size;
+    each = λ i lt. chunk_later i (chunk_of is.content d.chunk i) (is.each i lt);
+    gained = is.gained;
+  }
+  exported_later ends.NotAStore is = record {
+    at = is.at;
+    found = is.found;
+    want = is.want;
+    other = record {
+      within = is.other.within;
+      differ = is.other.differ;
+      some = λ k. is.other.some (known_mid k);
+      first = λ k. is.other.first (known_mid k);
+    };
+    silent = is.silent;
+  }
+  exported_later ends.Incomplete is = record { begins = λ k. is.begins (known_mid k); absent = λ k. is.absent (known_mid k); silent = is.silent }
+  exported_later ends.DiskFault is = record {
+    risen = λ below. let r : mid.faults < new.faults = is.risen below in omega (arith, r, later);
+    stopped = ⊎_elim inl (λ (n, within, put, whole). inr (n, within, put_later n put, whole_later whole)) is.stopped;
+  }
+  exported_later ends.SinkFault is = record {
+    risen = is.risen;
+    whole = whole_later is.whole;
+    n = is.n;
+    count = is.count;
+    bytes = is.bytes;
+    chunks = chunks_later (is.n + 1) is.bytes is.chunks;
+    least = is.least;
+    short = is.short;
+    gained = is.gained;
+  }
+  exported_later ends.Memory is = record { begins = λ k. is.begins (known_mid k); silent = is.silent }
+  exported_later ends.Damaged is = record { n = is.n; within = is.within; put = put_later is.n is.put; damaged = damaged_later is.n is.damaged }
+  exported_later ends.Usage is = absurd is
+  exported_later ends.LinkFault is = absurd is
+  exported_later ends.SourceFault is = absurd is
+  exported_later ends.NotEmpty is = absurd is
+  exported_later ends.ContentSize is = absurd is

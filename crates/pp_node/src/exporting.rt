@@ -1,0 +1,148 @@
+// The command `export STORE DESCRIPTOR`.
+ghost use Rattle.std.specs.Prelude.{◌≡◌, ◌⊎◌, ◌<◌, ◌≤◌, length};
+ghost use Rattle.pp_terms.specs.Book.{IsRooted};
+ghost use Rattle.pp_terms.specs.Descriptor.{IsDescriptor, chunks_of};
+ghost use Rattle.pp_terms.specs.Disk.{IsKnown};
+ghost use Rattle.pp_tree.specs.Book.{entry, empty_book};
+ghost use Rattle.pp_scan.specs.Look.{KeepsAll};
+ghost use Rattle.pp_node.specs.Looking.{IsFound, IsUnwritten};
+ghost use Rattle.pp_node.specs.Exporting.{ExportsIn, IsReadable, PutsChunk, status_of_scan, status_of_fault, status_of_put};
+
+use crate::looking::look;
+use crate::printing::put_all;
+use crate::status::Status;
+use pp_outside::{Disk, Sink};
+use pp_scan::ScanFault;
+use pp_store::{ReadFault, read_chunk};
+use pp_tree::{Book, ChunkSet, Descriptor};
+use std::alloc::Global;
+
+// The greatest chunk, in bytes.
+const ROOM: usize = 8192;
+
+// Why a chunk wasn't written.
+#[derive(Clone, Copy)]
+enum PutFault {
+    Disk,
+    Sink,
+    Damaged,
+}
+
+impl PutFault {
+    fn status(self) -> Status
+        ensures { result ≡ status_of_fault self }
+    {
+        match self {
+            PutFault::Disk => Status::DiskFault,
+            PutFault::Sink => Status::SinkFault,
+            PutFault::Damaged => Status::Damaged,
+        }
+    }
+}
+
+/// Attaches the named store, scans it and, where it holds every chunk, writes the content to the sink. Each chunk is read
+/// again, and its digest compared with the book's, before it is written. Nothing is said of a fault, and nothing is written to
+/// the disk. The book is empty at entry.
+pub(crate) fn export<D: Disk, K: Sink>(
+    alloc: Global,
+    store: &str,
+    descriptor: &Descriptor,
+    disk: &mut D,
+    sink: &mut K,
+    book: &mut Book,
+) -> Status
+    requires { book.old ≡ empty_book }
+    ensures ends { ExportsIn result descriptor.now (K.state sink.old) (K.state sink.new) (D.state disk.old) (D.state disk.new) (entry book.new) }
+    ensures unwritten { IsUnwritten (D.state disk.old) (D.state disk.new) }
+    ensures rooted { (book.new ≡ book.old) ⊎ IsRooted descriptor.now (entry book.new) }
+{
+    match look(alloc, store, descriptor, disk, book) {
+        Ok(set) => put_found(&set, descriptor, disk, sink, book),
+        Err(fault) => status_of(fault),
+    }
+}
+
+fn status_of(fault: ScanFault) -> Status
+    ensures { result ≡ status_of_scan fault }
+{
+    match fault {
+        ScanFault::NotAStore { .. } => Status::NotAStore,
+        ScanFault::Disk => Status::DiskFault,
+        ScanFault::Memory => Status::Memory,
+    }
+}
+
+// Writes the content, if the set has every chunk.
+fn put_found<D: Disk, K: Sink>(
+    set: &ChunkSet,
+    descriptor: &Descriptor,
+    disk: &mut D,
+    sink: &mut K,
+    book: &Book,
+) -> Status
+    requires found { IsFound descriptor.now (D.state disk.old) (D.state disk.old) (entry book.now) set.now }
+    requires same { IsKnown (D.state disk.old) → (D.state disk.old).history.reads ≡ (D.state disk.old).history.found }
+    requires rooted { IsRooted descriptor.now (entry book.now) }
+    ensures ends { ExportsIn result descriptor.now (K.state sink.old) (K.state sink.new) (D.state disk.old) (D.state disk.new) (entry book.now) }
+    ensures looks { KeepsAll (D.state disk.old) (D.state disk.new) }
+{
+    match set.first_absent() {
+        Some(_) => Status::Incomplete,
+        None => match put_chunks(descriptor, disk, sink, book) {
+            Ok(()) => Status::Done,
+            Err(fault) => fault.status(),
+        },
+    }
+}
+
+// Writes all chunks in order.
+fn put_chunks<D: Disk, K: Sink>(
+    descriptor: &Descriptor,
+    disk: &mut D,
+    sink: &mut K,
+    book: &Book,
+) -> Result<(), PutFault>
+    requires { IsReadable descriptor.now (D.state disk.old) (entry book.now) }
+    ensures ends { ExportsIn (status_of_put result) descriptor.now (K.state sink.old) (K.state sink.new) (D.state disk.old) (D.state disk.new) (entry book.now) }
+    ensures looks { KeepsAll (D.state disk.old) (D.state disk.new) }
+{
+    let mut buffer = [0u8; ROOM];
+    for i in 0..descriptor.chunks() {
+        match put_chunk(descriptor, i, disk, sink, book, &mut buffer) {
+            Ok(()) => {}
+            Err(fault) => return Err(fault),
+        }
+    }
+    Ok(())
+}
+
+// Reads one chunk, and writes it.
+fn put_chunk<D: Disk, K: Sink>(
+    descriptor: &Descriptor,
+    i: u32,
+    disk: &mut D,
+    sink: &mut K,
+    book: &Book,
+    buffer: &mut [u8; ROOM],
+) -> Result<(), PutFault>
+    requires valid { IsDescriptor descriptor.now }
+    requires within { i < chunks_of descriptor.now }
+    requires readable { IsReadable descriptor.now (D.state disk.old) (entry book.now) }
+    ensures puts { PutsChunk descriptor.now i (K.state sink.old) (K.state sink.new) (D.state disk.old) (D.state disk.new) (entry book.now) result }
+    ensures looks { KeepsAll (D.state disk.old) (D.state disk.new) }
+    ensures later { (K.state sink.old).faults ≤ (K.state sink.new).faults }
+{
+    match read_chunk(descriptor, i, buffer, book, disk) {
+        Ok(len) => match put_all(sink, &buffer[..len]) {
+            Ok(()) => Ok(()),
+            Err(_) => Err(PutFault::Sink),
+        },
+        Err(ReadFault::Disk) => Err(PutFault::Disk),
+        Err(ReadFault::Damaged { .. }) => Err(PutFault::Damaged),
+        // The book has each chunk's leaf, so none is absent.
+        Err(ReadFault::Absent) => unreachable!(),
+    }
+}
+
+#[cfg(test)]
+mod tests;

@@ -1,0 +1,230 @@
+// The store of 7,000 bytes in seven chunks of 1,024.
+use super::*;
+use pp_outside::{Call, DiskFault, LyingDisk, MemoryDisk, MemorySink, MemorySource, SinkFault};
+use pp_store::{ImportFault, import};
+use std::test::Fail;
+
+// 5, 12, 19 .., with a step more at each 256th
+fn content() -> [u8; 7000] {
+    let mut bytes = [0u8; 7000];
+    for (j, byte) in bytes.iter_mut().enumerate() {
+        *byte = ((5 + 7 * j + j / 256 + j / 65_536) % 256) as u8;
+    }
+    bytes
+}
+
+// A place in chunk 2.
+const IN_CHUNK_2: u64 = 64 + 2 * 1088 + 500;
+
+// Makes the content a store on an empty disk.
+fn store_on(disk: &mut MemoryDisk) -> Result<Descriptor, ImportFault> {
+    let content = content();
+    import(1024, &mut MemorySource::new(&content), disk)
+}
+
+// What an export left, and what it answered.
+#[derive(Drop)]
+struct Exported {
+    status: Status,
+    sink: MemorySink,
+}
+
+fn export_from<D: Disk>(alloc: Global, descriptor: &Descriptor, disk: &mut D) -> Exported {
+    let mut sink = MemorySink::new(alloc);
+    let mut book = Book::empty(alloc);
+    let status = export(alloc, "s", descriptor, disk, &mut sink, &mut book);
+    Exported { status, sink }
+}
+
+#[test]
+fn a_whole_store_gives_its_content(rt: HostRuntime) -> Result<(), Fail> {
+    let alloc = rt.alloc();
+    let mut disk = MemoryDisk::new(alloc, &[])?;
+    let descriptor = store_on(&mut disk)?;
+    let exported = export_from(alloc, &descriptor, &mut disk);
+    assert_eq!(rt; exported.status, Status::Done);
+    assert_eq!(rt; exported.sink.bytes(), content().as_slice());
+    Ok(())
+}
+
+#[test]
+fn an_empty_disk_is_incomplete(rt: HostRuntime) -> Result<(), Fail> {
+    let alloc = rt.alloc();
+    let descriptor = store_on(&mut MemoryDisk::new(alloc, &[])?)?;
+    let mut disk = MemoryDisk::new(alloc, &[])?;
+    let exported = export_from(alloc, &descriptor, &mut disk);
+    assert_eq!(rt; exported.status, Status::Incomplete);
+    assert_eq!(rt; exported.sink.bytes().len(), 0);
+    assert_eq!(rt; disk.bytes().len(), 0);
+    Ok(())
+}
+
+// The scan reads chunk 2 once. If that reading is false, the chunk isn't held; if it is true, the next one isn't.
+#[test]
+fn a_lie_about_chunk_2_is_found_out(rt: HostRuntime) -> Result<(), Fail> {
+    let alloc = rt.alloc();
+    for (passed, status, len) in [
+        (0, Status::Incomplete, 0),
+        (1, Status::Damaged, 2048),
+        (2, Status::Done, 7000),
+    ] {
+        let mut inner = MemoryDisk::new(alloc, &[])?;
+        let descriptor = store_on(&mut inner)?;
+        let mut disk = LyingDisk::new(inner, IN_CHUNK_2, 1, passed);
+        let exported = export_from(alloc, &descriptor, &mut disk);
+        assert_eq!(rt; exported.status, status, "with {passed}");
+        assert_eq!(rt; exported.sink.bytes(), &content()[..len], "with {passed}");
+    }
+    Ok(())
+}
+
+#[test]
+fn another_file_gives_nothing(rt: HostRuntime) -> Result<(), Fail> {
+    let alloc = rt.alloc();
+    let mut disk = MemoryDisk::new(alloc, &[])?;
+    let descriptor = store_on(&mut disk)?;
+    assert_eq!(rt; disk.write_at(7, b"2"), Ok(()));
+    let exported = export_from(alloc, &descriptor, &mut disk);
+    assert_eq!(rt; exported.status, Status::NotAStore);
+    assert_eq!(rt; exported.sink.bytes().len(), 0);
+    Ok(())
+}
+
+// A sink that takes at most 1,000 bytes at once, and refuses each write after `left` of them.
+#[derive(Drop)]
+struct NarrowSink {
+    inner: MemorySink,
+    left: u32,
+}
+
+impl Sink for NarrowSink {
+    ghost use Rattle.pp_outside.specs.MemorySink.{state_of};
+
+    ghost state = { λ sink. state_of sink.inner };
+
+    fn write(&mut self, bytes: &[u8]) -> Result<usize, SinkFault> {
+        if self.left == 0 {
+            self.inner.fail_next();
+        } else {
+            self.left -= 1;
+        }
+        let len = bytes.len().min(1000);
+        self.inner.write(&bytes[..len])
+    }
+}
+
+// Each whole chunk takes two writes.
+#[test]
+fn a_sink_that_refuses_has_what_it_took(rt: HostRuntime) -> Result<(), Fail> {
+    let alloc = rt.alloc();
+    for (left, status, len) in [
+        (0, Status::SinkFault, 0),
+        (1, Status::SinkFault, 1000),
+        (2, Status::SinkFault, 1024),
+        (5, Status::SinkFault, 3048),
+        (12, Status::SinkFault, 6144),
+        (13, Status::Done, 7000),
+    ] {
+        let mut disk = MemoryDisk::new(alloc, &[])?;
+        let descriptor = store_on(&mut disk)?;
+        let mut sink = NarrowSink {
+            inner: MemorySink::new(alloc),
+            left,
+        };
+        let mut book = Book::empty(alloc);
+        let answer = export(alloc, "s", &descriptor, &mut disk, &mut sink, &mut book);
+        assert_eq!(rt; answer, status, "after {left} writes");
+        assert_eq!(rt;
+            sink.inner.bytes(),
+            &content()[..len],
+            "after {left} writes"
+        );
+    }
+    Ok(())
+}
+
+// A disk that takes `left` calls more and refuses each after them.
+#[derive(Drop)]
+struct StoppingDisk {
+    inner: MemoryDisk,
+    left: u32,
+}
+
+impl StoppingDisk {
+    ghost use Rattle.std.specs.Prelude.{◌≡◌};
+    ghost use Rattle.pp_outside.specs.MemoryDisk.{state_of};
+
+    // Counts a call, and orders the inner disk to refuse it if none is left.
+    fn count(&mut self, call: Call)
+        ensures { state_of self.new.inner ≡ state_of self.old.inner }
+    {
+        if self.left == 0 {
+            self.inner.fail_next(call);
+        } else {
+            self.left -= 1;
+        }
+    }
+}
+
+impl Disk for StoppingDisk {
+    ghost use Rattle.pp_outside.specs.MemoryDisk.{state_of};
+    ghost use Rattle.pp_outside.specs.Whole.{reads_are_image};
+
+    ghost state = { λ disk. state_of disk.inner };
+
+    ghost whole = { λ disk known. reads_are_image disk.inner.log };
+
+    fn attach(&mut self, name: &str) -> Result<(), DiskFault> {
+        self.count(Call::Attach);
+        self.inner.attach(name)
+    }
+
+    fn len(&mut self) -> Result<u64, DiskFault> {
+        self.count(Call::Len);
+        self.inner.len()
+    }
+
+    fn read_at(&mut self, place: u64, into: &mut [u8]) -> Result<(), DiskFault> {
+        self.count(Call::Read);
+        self.inner.read_at(place, into)
+    }
+
+    fn write_at(&mut self, place: u64, bytes: &[u8]) -> Result<(), DiskFault> {
+        self.count(Call::Write);
+        self.inner.write_at(place, bytes)
+    }
+
+    fn sync(&mut self) -> Result<(), DiskFault> {
+        self.count(Call::Sync);
+        self.inner.sync()
+    }
+
+    fn moment(&self) -> u64 {
+        self.inner.moment()
+    }
+}
+
+// The last seven calls read the chunks.
+#[test]
+fn a_disk_that_refuses_leaves_whole_chunks(rt: HostRuntime) -> Result<(), Fail> {
+    let alloc = rt.alloc();
+    let content = content();
+    let mut last = 0;
+    for left in 0..40 {
+        let mut inner = MemoryDisk::new(alloc, &[])?;
+        let descriptor = store_on(&mut inner)?;
+        let exported = export_from(alloc, &descriptor, &mut StoppingDisk { inner, left });
+        let bytes = exported.sink.bytes();
+        assert!(rt; content.starts_with(bytes), "after {left} calls");
+        if exported.status == Status::Done {
+            assert_eq!(rt; (bytes.len(), last), (7000, 6144), "after {left} calls");
+        } else {
+            assert_eq!(rt; exported.status, Status::DiskFault, "after {left} calls");
+            let more = bytes.len().wrapping_sub(last);
+            assert!(rt; bytes.len() == 0 || more == 1024, "after {left} calls");
+            last = bytes.len();
+        }
+    }
+    assert_eq!(rt; last, 6144);
+    Ok(())
+}
