@@ -1,10 +1,11 @@
 -- Laws on the congestion window of a story.
 use Rattle.std.specs.Prelude.{◌≡◌, ◌↔◌, ℕ, ◌+◌, ◌-◌, ◌*◌, ◌%◌, ◌^◌, ◌<◌, ◌≤◌, nat_lt, true, false, if◌then◌else◌, ℤ, pos, ◌+ℤ◌, ◌-ℤ◌, nat_abs, Some, List, [], ◌∷◌, length}
+use Rattle.std.specs.List.{AllByRecursion}
 use Rattle.pp_terms.specs.Messages.{Span, Data, Ack}
 use Rattle.pp_traffic.specs.Story.{Line, Heard, Said, Taken}
 use Rattle.pp_traffic.specs.Gain.{gained}
 use Rattle.pp_traffic.specs.Delays.{sample_of, is_near, current, base}
-use Rattle.pp_traffic.specs.Meter.{Meter, new_meter, sent, is_flying, has_room, acked, is_due, timed_out, ended, meter}
+use Rattle.pp_traffic.specs.Meter.{Meter, new_meter, sent, is_flying, has_room, hits, flying, loses, acked, is_due, timed_out, ended, meter}
 
 -- how far a delay is above the first one, modulo 2 ^ 64; and a number of 64 bits as a signed one
 abbrev pub apart : (first delay : ℕ) → ℕ
@@ -30,6 +31,12 @@ pub record WindowsAreBounded : Type 0 where
   pub most : (chunk opened : ℕ) (story : List Line) → (meter chunk opened story).window ≤ 512 * chunk
   pub moved_least : (window acked queuing chunk flight : ℕ) → 2 * chunk ≤ gained window acked queuing chunk flight
   pub moved_most : (window acked queuing chunk flight : ℕ) → gained window acked queuing chunk flight ≤ 512 * chunk
+
+-- What flies was overtaken by fewer than three, so where none of it is acknowledged all of it flies on.
+pub record FlightsAreFresh : Type 0 where
+  pub few : (chunk opened : ℕ) (story : List Line) → AllByRecursion (λ e. e.overtaken < 3) (meter chunk opened story).entries
+  pub same : (first last chunk opened : ℕ) (story : List Line) → let entries = (meter chunk opened story).entries in
+      hits first last entries ≡ 0 → (flying first last entries ≡ entries) × (loses first last entries ≡ false)
 
 -- After a timeout nothing flies, and looking for one again, or an ACK, changes nothing.
 pub record TimeoutsSettle : Type 0 where
