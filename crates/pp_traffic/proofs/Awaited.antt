@@ -362,6 +362,31 @@ up_to_from d life r past (inr is) =
       replied = first_new (comes_from life.address) (greets d life) 0 r past awaited.none_came (omega arith) (greets_from d life r is.2) is.2;
     } in dial))
 
+-- ---- wherever a reply is looked for
+
+-- where the peer opened, it doesn't matter
+answered_anywhere : (d : Descriptor) (life : Life) (reach other past : List Record) → life.is_dialled ≡ false → IsPlain d life reach past → IsPlain d life other past
+answered_anywhere d life reach other past answered is =
+    plain_by d life other past (open_of d life reach past is) (by_answer life.is_dialled (IsPlainDial d life other past) (IsPlainAnswer d life past) answered
+    (at_answer life.is_dialled (IsPlainDial d life reach past) (IsPlainAnswer d life past) answered is.begins))
+
+pub plain_earlier : (d : Descriptor) (life : Life) (reach : List Record) (r : Record) (past : List Record) → IsPlain d life reach (r ∷ past)
+    → IsPlain d life reach past ⊎ (IsReply d life r past ⊎ ((life.is_dialled ≡ true) × (life.opening ≡ length past) × (answers d life r ≡ true)))
+plain_earlier d life reach r past is = ⊎_elim
+    (λ dialled.
+    let dial = at_dial life.is_dialled (IsPlainDial d life reach (r ∷ past)) (IsPlainAnswer d life (r ∷ past)) dialled is.begins in
+    ⊎_elim
+    (λ here. inr (inr (dialled, here.0, here.1)))
+    (λ opened. inl (plain_by d life reach past (open_before d life r past (open_of d life reach (r ∷ past) is))
+    (by_dial life.is_dialled (IsPlainDial d life reach past) (IsPlainAnswer d life past) dialled
+    (let before : IsPlainDial d life reach past = record { opened = opened; replied = dial.replied } in before))))
+    (at_either (answers d life) life.opening r past dial.opened))
+    (λ answered. ⊎_elim
+    (λ plain. inl (answered_anywhere d life past reach past answered plain))
+    (λ replies. ⊎_elim (λ of_peer. absurd (both_ways life.is_dialled answered of_peer.0)) (λ reply. inr (inl reply)) replies)
+    (answer_before d life r past answered (answered_anywhere d life reach (r ∷ past) (r ∷ past) answered is)))
+    (cases_Bool life.is_dialled)
+
 -- ---- a channel that awaits its reply
 
 awaited_before : (d : Descriptor) (life : Life) (r : Record) (past : List Record) → Awaits d life (r ∷ past)
@@ -406,5 +431,6 @@ plain_grows = record {
       let r = Sent moment receiver bytes in
       (sent_parts d life moment receiver bytes past, λ is. ⊎_elim (λ plain. stays_plain d life r past refl (inl refl) plain) (λ reply. reply_to_peer d life moment receiver bytes past reply) is);
   up_to = λ d life r past. (up_to_parts d life r past, up_to_from d life r past);
+  earlier = plain_earlier;
   awaited = awaited_before;
 }

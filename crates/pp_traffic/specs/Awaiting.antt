@@ -4,7 +4,7 @@ use Rattle.pp_terms.specs.Traffic.{Address, Record, Received, Quiet, Sent}
 use Rattle.pp_terms.specs.Descriptor.{Descriptor}
 use Rattle.pp_traffic.specs.Past.{now, now_at, comes_from, goes_to, some_since, some_until, is_at}
 use Rattle.pp_traffic.specs.Life.{Life, greets, answers, closes_on}
-use Rattle.pp_traffic.specs.Plain.{concerns, greets_once, asks_anew, none_until_first, heard_at, is_in_time, is_timely, IsPlainNow, IsPlainUpTo}
+use Rattle.pp_traffic.specs.Plain.{concerns, greets_once, asks_anew, none_until_first, heard_at, is_in_time, is_timely, IsPlain, IsPlainNow, IsPlainUpTo}
 
 -- The peer opened with one handshake, and since then nothing was sent to it, and no handshake for channel 0 came from it.
 pub record AwaitsAnswer (d : Descriptor) (life : Life) (past : List Record) : Type 0 where
@@ -50,6 +50,9 @@ pub record PlainGrows : Type 0 where
   -- up to the next record: a dial's reply may be that one
   pub up_to : (d : Descriptor) (life : Life) (r : Record) (past : List Record)
       → IsPlainUpTo d life past r ↔ (IsPlainNow d life past ⊎ IsReplyOfPeer d life r past)
+  -- so it is wherever a dial's reply is looked for: it was plain before, or the record is this peer's reply or its dial
+  pub earlier : (d : Descriptor) (life : Life) (reach : List Record) (r : Record) (past : List Record) → IsPlain d life reach (r ∷ past)
+      → IsPlain d life reach past ⊎ (IsReply d life r past ⊎ ((life.is_dialled ≡ true) × (life.opening ≡ length past) × (answers d life r ≡ true)))
   -- one that awaits its reply did so before, or this record opened it
   pub awaited : (d : Descriptor) (life : Life) (r : Record) (past : List Record) → Awaits d life (r ∷ past)
       → Awaits d life past ⊎ ((life.opening ≡ length past) × (MatchBool life.is_dialled (answers d life r ≡ true) (greets_once d life r ≡ true)))

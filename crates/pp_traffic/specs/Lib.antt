@@ -12,3 +12,7 @@ pub mod Places
 pub mod Laws
 pub mod Flight
 pub mod Prompt
+pub mod Gain
+pub mod Delays
+pub mod Trips
+pub mod Meter

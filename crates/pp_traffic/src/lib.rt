@@ -4,9 +4,13 @@
 //! Its functions do nothing. Their contracts are laws on those words, and worked examples of them.
 #![tactic(auto)]
 
+mod entries;
+
 ghost use Rattle.pp_traffic.specs.Places.{LivesByPlaces, AskedByPlaces, ChokedByPlaces, HeardByPlaces, PathsByPlaces, PlainByPlaces, MomentsByPlaces};
 ghost use Rattle.pp_traffic.specs.Awaiting.{PlainGrows};
 ghost use Rattle.pp_traffic.specs.Laws.{LivesStay, LivesBegan, StoriesGrow, ToldStays, PathsGrow, PlansComplete, ServedStays};
+
+pub use entries::{Entry, Minute};
 
 /// The definitions in words by places, which say the same.
 pub fn words_by_places()
