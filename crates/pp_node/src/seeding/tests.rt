@@ -1,25 +1,17 @@
-ghost use Rattle.std.specs.Prelude.{◌≡◌, ◌⊎◌, ℕ, List, IfSome};
-ghost use Rattle.pp_terms.specs.Book.{IsRooted};
-ghost use Rattle.pp_terms.specs.CommandLine.{IsSeed};
-ghost use Rattle.pp_terms.specs.Descriptor.{chunks_of};
-ghost use Rattle.pp_terms.specs.Traffic as traffic;
-ghost use Rattle.pp_tree.specs.Book.{entry, empty_book};
-ghost use Rattle.pp_words.specs.Views.{texts};
-
 // The store of `abc`, seeded to one peer by the words of a command line. Channel numbers are drawn from zeros: by the first
 // test vector of ChaCha20 (RFC 8439, appendix A.1) the first is ade0b876. What the link carried is audited each time.
 use crate::run;
 use crate::tests::{DESCRIPTOR_OF_ABC, STORE_OF_ABC, words_of};
 use pp_audit::{Entry, serves};
 use pp_outside::{Address, Disk, Event, Mark, MemoryDisk, MemoryLink, MemorySink, MemorySource};
-use pp_tree::{Book, Descriptor, Node};
-use pp_words::{Command, read_words};
+use pp_tree::{Book, Descriptor, Digest, Method, Node};
 use std::alloc::{AllocError, Global};
 use std::process::Abort;
 use std::test::Fail;
 
 mod counting;
 mod cutting;
+mod methods;
 mod refusing;
 
 // Version 1, least version 1, the root, integrity method 1, hash function 2, addressing method 2, the supported messages,
@@ -70,6 +62,13 @@ fn joined(alloc: Global, parts: &[&[u8]]) -> Result<Vec<u8>, AllocError> {
     Ok(bytes)
 }
 
+fn front(bytes: &[u8], end: usize) -> &[u8] {
+    match bytes.get(..end) {
+        Some(front) => front,
+        None => bytes,
+    }
+}
+
 // Datagrams of the peer that a link brings, each a microsecond after the one before.
 #[derive(Drop)]
 struct Coming {
@@ -109,37 +108,35 @@ impl Coming {
         Ok(())
     }
 
-    // Seeds for a turn for each datagram and a quiet one.
+    // Seeds the store of `abc` for a turn for each datagram and a quiet one.
     fn seed<D: Disk>(self, disk: &mut D) -> Result<Ran, Fail> {
+        self.seed_as(DESCRIPTOR_OF_ABC, Method::Range32, disk)
+    }
+
+    // The same under a descriptor that names chunks by this method.
+    fn seed_as<D: Disk>(self, described: &str, method: Method, disk: &mut D) -> Result<Ran, Fail> {
         let Coming {
             alloc,
             mut link,
             count,
         } = self;
         let turns = format!(in alloc; "{}", count.saturating_add(1))?;
-        let words = words_of(
-            alloc,
-            &[
-                "seed",
-                "abc.store",
-                DESCRIPTOR_OF_ABC,
-                "127.0.0.1:7001",
-                &turns,
-            ],
-        )?;
-        let descriptor = descriptor_of(&words).ok_or("no words of seed")?;
         let mut sink = MemorySink::new(alloc);
         let mut book = Book::empty(alloc);
-        let status = run_seed(
+        let status = run(
             alloc,
-            &words,
-            &descriptor,
+            &words_of(
+                alloc,
+                &["seed", "abc.store", described, "127.0.0.1:7001", &turns],
+            )?,
+            [0; 32],
             disk,
             &mut link,
+            &mut MemorySource::new(&[]),
             &mut sink,
             &mut book,
         );
-        let serves = audit(alloc, &descriptor, &book, &link)?;
+        let serves = audit(alloc, &descriptor_of(method)?, &book, &link)?;
         Ok(Ran {
             alloc,
             status,
@@ -147,6 +144,14 @@ impl Coming {
             sink,
             serves,
         })
+    }
+}
+
+// The content `abc`, whose chunks are named by this method.
+fn descriptor_of(method: Method) -> Result<Descriptor, Fail> {
+    match Descriptor::new(Digest::new(ROOT), 1024, 3, method) {
+        Ok(descriptor) => Ok(descriptor),
+        Err(_) => Err("no descriptor".into()),
     }
 }
 
@@ -205,36 +210,6 @@ fn has_part(bytes: &[u8], part: &[u8]) -> bool {
     false
 }
 
-// The descriptor of words that ask to seed one chunk.
-fn descriptor_of(words: &[String]) -> Option<Descriptor>
-    ensures one { IfSome result (λ d. chunks_of d ≡ 1) }
-    ensures spelled { IfSome result (λ d. (store : List ℕ) × (listen : traffic.Address) × (turns : ℕ) × IsSeed (texts words.now) store d listen turns) }
-{
-    match read_words(words) {
-        Ok(Command::Seed { descriptor, .. }) if descriptor.chunks() == 1 => Some(descriptor),
-        _ => None,
-    }
-}
-
-// Does what words say that ask to seed one chunk.
-fn run_seed<D: Disk>(
-    alloc: Global,
-    words: &[String],
-    descriptor: &Descriptor,
-    disk: &mut D,
-    link: &mut MemoryLink,
-    sink: &mut MemorySink,
-    book: &mut Book,
-) -> u8
-    requires empty { book.old ≡ empty_book }
-    requires one { chunks_of descriptor.now ≡ 1 }
-    requires spelled { (store : List ℕ) × (listen : traffic.Address) × (turns : ℕ) × IsSeed (texts words.now) store descriptor.now listen turns }
-    ensures rooted { (entry book.new ≡ entry empty_book) ⊎ IsRooted descriptor.now (entry book.new) }
-{
-    let mut source = MemorySource::new(&[]);
-    run(alloc, words, [0; 32], disk, link, &mut source, sink, book)
-}
-
 // What the link carried.
 fn entries_of<'m>(alloc: Global, link: &'m MemoryLink) -> Result<Vec<Entry<'m>>, AllocError> {
     let mut entries = Vec::new(alloc);
@@ -249,17 +224,22 @@ fn entries_of<'m>(alloc: Global, link: &'m MemoryLink) -> Result<Vec<Entry<'m>>,
     Ok(entries)
 }
 
-// Whether each chunk that was sent was served, by the book; None where that knows no node.
-fn audit_entries<'m>(descriptor: &Descriptor, book: &Book, entries: &'m [Entry<'m>]) -> Option<bool>
-    requires { (entry book.now ≡ entry empty_book) ⊎ IsRooted descriptor.now (entry book.now) }
-{
-    match book.get(Node {
-        layer: 0,
-        offset: 0,
-    }) {
-        Some(_) => Some(serves(descriptor, book, entries)),
-        None => None,
+// Whether each chunk that was sent was served, by the book; None where that doesn't know the root. The tree of one chunk has
+// no other node, so a book that was prepared anew stands for it.
+fn audit_entries<'m>(
+    alloc: Global,
+    descriptor: &Descriptor,
+    book: &Book,
+    entries: &'m [Entry<'m>],
+) -> Result<Option<bool>, AllocError> {
+    let mut prepared = Book::empty(alloc);
+    prepared.prepare(alloc, descriptor)?;
+    let layer = descriptor.height();
+    let offset = 0;
+    if layer != 0 || book.get(Node { layer, offset }) != prepared.get(Node { layer, offset }) {
+        return Ok(None);
     }
+    Ok(Some(serves(descriptor, &prepared, entries)))
 }
 
 fn audit(
@@ -267,11 +247,9 @@ fn audit(
     descriptor: &Descriptor,
     book: &Book,
     link: &MemoryLink,
-) -> Result<Option<bool>, AllocError>
-    requires { (entry book.now ≡ entry empty_book) ⊎ IsRooted descriptor.now (entry book.now) }
-{
+) -> Result<Option<bool>, AllocError> {
     let entries = entries_of(alloc, link)?;
-    Ok(audit_entries(descriptor, book, &entries))
+    audit_entries(alloc, descriptor, book, &entries)
 }
 
 // The datagram that was sent last, if the last record is one.
@@ -303,33 +281,21 @@ fn seeds_one_chunk(rt: HostRuntime) -> Result<(), Fail> {
 #[test]
 fn audits_a_changed_byte(rt: HostRuntime) -> Result<(), Fail> {
     let alloc = rt.alloc();
-    let words = words_of(
-        alloc,
-        &["seed", "s", DESCRIPTOR_OF_ABC, "127.0.0.1:7001", "2"],
-    )?;
-    let descriptor = descriptor_of(&words).ok_or("no words of seed")?;
     let mut coming = Coming::greeting(alloc)?;
     coming.add(&[&OURS, &REQUEST])?;
-    let mut book = Book::empty(alloc);
-    let status = run_seed(
-        alloc,
-        &words,
-        &descriptor,
-        &mut MemoryDisk::new(alloc, &STORE_OF_ABC)?,
-        &mut coming.link,
-        &mut MemorySink::new(alloc),
-        &mut book,
-    );
-    assert_eq!(rt; status, 0);
-    assert_eq!(rt; audit(alloc, &descriptor, &book, &coming.link)?, Some(true));
-    let mut changed = joined(alloc, &[sent_last(&coming.link)])?;
+    // the last turn sends the chunk
+    coming.count = 1;
+    let ran = coming.seed(&mut MemoryDisk::new(alloc, &STORE_OF_ABC)?)?;
+    assert!(rt; ran.has_served(1, BEGIN + 1)?);
+    assert_eq!(rt; ran.serves, Some(true));
+    let mut changed = joined(alloc, &[sent_last(&ran.link)])?;
     let last = changed.len().saturating_sub(1);
     let Some(byte) = changed.get_mut(last) else {
         return Err("nothing was sent".into());
     };
     assert_eq!(rt; *byte, b'c');
     *byte = b'b';
-    let mut entries = entries_of(alloc, &coming.link)?;
+    let mut entries = entries_of(alloc, &ran.link)?;
     let Some(Entry::Sent { moment, to, .. }) = entries.pop() else {
         return Err("nothing was sent last".into());
     };
@@ -338,6 +304,10 @@ fn audits_a_changed_byte(rt: HostRuntime) -> Result<(), Fail> {
         to,
         bytes: &changed,
     })?;
-    assert_eq!(rt; audit_entries(&descriptor, &book, &entries), Some(false));
+    let descriptor = descriptor_of(Method::Range32)?;
+    let mut book = Book::empty(alloc);
+    book.prepare(alloc, &descriptor)?;
+    let changed_serves = audit_entries(alloc, &descriptor, &book, &entries)?;
+    assert_eq!(rt; changed_serves, Some(false));
     Ok(())
 }

@@ -32,13 +32,6 @@ fn serves_behind_cuts(
     Ok(())
 }
 
-fn front(bytes: &[u8], end: usize) -> &[u8] {
-    match bytes.get(..end) {
-        Some(front) => front,
-        None => bytes,
-    }
-}
-
 #[test]
 fn serves_behind_cut_messages(rt: HostRuntime) -> Result<(), Fail> {
     let alloc = rt.alloc();
