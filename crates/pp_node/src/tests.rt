@@ -17,7 +17,7 @@ struct Ran {
     sink: MemorySink,
 }
 
-fn words_of(alloc: Global, line: &[&str]) -> Result<Vec<String>, AllocError> {
+pub(crate) fn words_of(alloc: Global, line: &[&str]) -> Result<Vec<String>, AllocError> {
     let mut words = Vec::new(alloc);
     for word in line {
         words.push(String::from_str(alloc, word)?)?;
@@ -52,7 +52,7 @@ fn import_of(alloc: Global, content: &[u8], disk: MemoryDisk) -> Result<Ran, All
 }
 
 // The store of `abc`.
-const STORE_OF_ABC: [u8; 67] = [
+pub(crate) const STORE_OF_ABC: [u8; 67] = [
     0x50, 0x50, 0x53, 0x54, 0x4f, 0x52, 0x45, 0x31, 0x00, 0x00, 0x04, 0x00, 0x00, 0x00, 0x00, 0x00,
     0x00, 0x00, 0x00, 0x03, 0xba, 0x78, 0x16, 0xbf, 0x8f, 0x01, 0xcf, 0xea, 0x41, 0x41, 0x40, 0xde,
     0x5d, 0xae, 0x22, 0x23, 0xb0, 0x03, 0x61, 0xa3, 0x96, 0x17, 0x7a, 0x9c, 0xb4, 0x10, 0xff, 0x61,
@@ -106,7 +106,7 @@ fn measures_the_greatest_content(rt: HostRuntime) -> Result<(), Fail> {
     Ok(())
 }
 
-const DESCRIPTOR_OF_ABC: &str =
+pub(crate) const DESCRIPTOR_OF_ABC: &str =
     "ppspp1:ba7816bf8f01cfea414140de5dae2223b00361a396177a9cb410ff61f20015ad:1024:3:2";
 
 fn check_of(alloc: Global, descriptor: &str, image: &[u8]) -> Result<Ran, AllocError> {

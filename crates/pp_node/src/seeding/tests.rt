@@ -1,9 +1,47 @@
-// The store of `abc`, seeded to one peer. Channel numbers are drawn from zeros: by the first test vector of ChaCha20 (RFC 8439,
-// appendix A.1) the first is ade0b876.
-use super::*;
-use pp_outside::{Call, Event, MemoryDisk, MemoryLink, MemorySink};
-use pp_tree::{Digest, Method};
+// The store of `abc`, seeded to one peer by the words of a command line. Channel numbers are drawn from zeros: by the first
+// test vector of ChaCha20 (RFC 8439, appendix A.1) the first is ade0b876. What the link carried is audited each time.
+use crate::run;
+use crate::tests::{DESCRIPTOR_OF_ABC, STORE_OF_ABC, words_of};
+use pp_audit::{Entry, serves};
+use pp_outside::{Address, Disk, Event, Mark, MemoryDisk, MemoryLink, MemorySink, MemorySource};
+use pp_tree::{Book, Descriptor, Digest, Method, Node};
+use std::alloc::{AllocError, Global};
+use std::process::Abort;
 use std::test::Fail;
+
+mod counting;
+mod cutting;
+mod methods;
+mod refusing;
+
+// Version 1, least version 1, the root, integrity method 1, hash function 2, addressing method 2, the supported messages,
+// chunk size 1024, and the end.
+const OPTIONS: [u8; 55] = [
+    0, 1, 1, 1, 2, 0, 0x20, 0xba, 0x78, 0x16, 0xbf, 0x8f, 0x01, 0xcf, 0xea, 0x41, 0x41, 0x40, 0xde,
+    0x5d, 0xae, 0x22, 0x23, 0xb0, 0x03, 0x61, 0xa3, 0x96, 0x17, 0x7a, 0x9c, 0xb4, 0x10, 0xff, 0x61,
+    0xf2, 0x00, 0x15, 0xad, 3, 1, 4, 2, 6, 2, 8, 2, 0xfe, 0xf8, 9, 0, 0, 4, 0, 0xff,
+];
+
+// To channel 0: the handshake of channel 0a0b0c0d, but for its options.
+const GREETING: [u8; 9] = [0, 0, 0, 0, 0, 0x0a, 0x0b, 0x0c, 0x0d];
+
+// To channel 0a0b0c0d: the handshake of channel ade0b876, but for its options.
+const ANSWER: [u8; 9] = [0x0a, 0x0b, 0x0c, 0x0d, 0, 0xad, 0xe0, 0xb8, 0x76];
+
+const THEIRS: [u8; 4] = [0x0a, 0x0b, 0x0c, 0x0d];
+
+const OURS: [u8; 4] = [0xad, 0xe0, 0xb8, 0x76];
+
+// Messages that name chunk 0, some of them but for what follows the name.
+const DATA: [u8; 9] = [1, 0, 0, 0, 0, 0, 0, 0, 0];
+
+const ACK: [u8; 9] = [2, 0, 0, 0, 0, 0, 0, 0, 0];
+
+const HAVE: [u8; 9] = [3, 0, 0, 0, 0, 0, 0, 0, 0];
+
+const INTEGRITY: [u8; 9] = [4, 0, 0, 0, 0, 0, 0, 0, 0];
+
+const REQUEST: [u8; 9] = [8, 0, 0, 0, 0, 0, 0, 0, 0];
 
 // SHA-256 of `abc`.
 const ROOT: [u8; 32] = [
@@ -11,98 +49,265 @@ const ROOT: [u8; 32] = [
     0xb0, 0x03, 0x61, 0xa3, 0x96, 0x17, 0x7a, 0x9c, 0xb4, 0x10, 0xff, 0x61, 0xf2, 0x00, 0x15, 0xad,
 ];
 
-const STORE: [u8; 67] = [
-    0x50, 0x50, 0x53, 0x54, 0x4f, 0x52, 0x45, 0x31, 0x00, 0x00, 0x04, 0x00, 0x00, 0x00, 0x00, 0x00,
-    0x00, 0x00, 0x00, 0x03, 0xba, 0x78, 0x16, 0xbf, 0x8f, 0x01, 0xcf, 0xea, 0x41, 0x41, 0x40, 0xde,
-    0x5d, 0xae, 0x22, 0x23, 0xb0, 0x03, 0x61, 0xa3, 0x96, 0x17, 0x7a, 0x9c, 0xb4, 0x10, 0xff, 0x61,
-    0xf2, 0x00, 0x15, 0xad, 0x00, 0x00, 0x00, 0x00, 0x00, 0x00, 0x00, 0x00, 0x00, 0x00, 0x00, 0x00,
-    0x61, 0x62, 0x63,
-];
-
-// To channel 0: the handshake of channel 0a0b0c0d.
-const GREETING: [u8; 64] = [
-    0, 0, 0, 0, 0, 0x0a, 0x0b, 0x0c, 0x0d, 0, 1, 1, 1, 2, 0, 0x20, 0xba, 0x78, 0x16, 0xbf, 0x8f,
-    0x01, 0xcf, 0xea, 0x41, 0x41, 0x40, 0xde, 0x5d, 0xae, 0x22, 0x23, 0xb0, 0x03, 0x61, 0xa3, 0x96,
-    0x17, 0x7a, 0x9c, 0xb4, 0x10, 0xff, 0x61, 0xf2, 0x00, 0x15, 0xad, 3, 1, 4, 2, 6, 2, 8, 2, 0xfe,
-    0xf8, 9, 0, 0, 4, 0, 0xff,
-];
-
-// To channel ade0b876: REQUEST of chunk 0.
-const REQUEST: [u8; 13] = [0xad, 0xe0, 0xb8, 0x76, 8, 0, 0, 0, 0, 0, 0, 0, 0];
-
 const PEER: Address = Address::V4([127, 0, 0, 1], 7000);
 
-const LISTEN: Address = Address::V4([127, 0, 0, 1], 7001);
+// The moment of the first datagram.
+const BEGIN: u64 = 0x0102_0304_0506_0700;
 
-const REPORT: &str =
-    "held 1 of 1 0-0\nturns 3\ndatagrams 2\nsent 2\nstored 0\nkeepalives 0\nshort 0\n\
-stranger 0\nrefused_handshakes 0\nno_seat 0\ncut 0\noutside 0\nnot_a_node 0\nfull 0\nchoked 0\nunheld 0\n\
-missing 0\nwrong 0\nrepeats 0\ndamaged 0\nread_faults 0\nsend_faults 0\nreceive_faults 0\n";
+fn joined(alloc: Global, parts: &[&[u8]]) -> Result<Vec<u8>, AllocError> {
+    let mut bytes = Vec::new(alloc);
+    for part in parts {
+        bytes.extend_from_slice(part)?;
+    }
+    Ok(bytes)
+}
 
-// What three turns answer.
-fn seeded(
+fn front(bytes: &[u8], end: usize) -> &[u8] {
+    match bytes.get(..end) {
+        Some(front) => front,
+        None => bytes,
+    }
+}
+
+// Datagrams of the peer that a link brings, each a microsecond after the one before.
+#[derive(Drop)]
+struct Coming {
     alloc: Global,
-    disk: &mut MemoryDisk,
-    link: &mut MemoryLink,
-    sink: &mut MemorySink,
-) -> Option<Status> {
-    let mut book = Book::empty(alloc);
-    match Descriptor::new(Digest::new(ROOT), 1024, 3, Method::Range32) {
-        Ok(descriptor) if descriptor.chunks() == 1 => Some(seed(
+    link: MemoryLink,
+    count: u64,
+}
+
+impl Coming {
+    fn none(alloc: Global) -> Result<Coming, AllocError> {
+        Ok(Coming {
             alloc,
-            "s",
-            &descriptor,
-            &LISTEN,
-            3,
+            link: MemoryLink::new(alloc)?,
+            count: 0,
+        })
+    }
+
+    // The peer's handshake.
+    fn greeting(alloc: Global) -> Result<Coming, Fail> {
+        let mut coming = Coming::none(alloc)?;
+        coming.add(&[&GREETING, &OPTIONS])?;
+        Ok(coming)
+    }
+
+    fn add(&mut self, parts: &[&[u8]]) -> Result<(), Fail> {
+        let bytes = joined(self.alloc, parts)?;
+        if bytes.len() > 65536 {
+            return Err("too long".into());
+        }
+        let event = Event::Datagram {
+            from: PEER,
+            len: bytes.len(),
+            at: BEGIN.saturating_add(self.count),
+        };
+        self.link.add(event, &bytes)?;
+        self.count = self.count.saturating_add(1);
+        Ok(())
+    }
+
+    // Seeds the store of `abc` for a turn for each datagram and a quiet one.
+    fn seed<D: Disk>(self, disk: &mut D) -> Result<Ran, Fail> {
+        self.seed_as(DESCRIPTOR_OF_ABC, Method::Range32, disk)
+    }
+
+    // The same under a descriptor that names chunks by this method.
+    fn seed_as<D: Disk>(self, described: &str, method: Method, disk: &mut D) -> Result<Ran, Fail> {
+        let Coming {
+            alloc,
+            mut link,
+            count,
+        } = self;
+        let turns = format!(in alloc; "{}", count.saturating_add(1))?;
+        let mut sink = MemorySink::new(alloc);
+        let mut book = Book::empty(alloc);
+        let status = run(
+            alloc,
+            &words_of(
+                alloc,
+                &["seed", "abc.store", described, "127.0.0.1:7001", &turns],
+            )?,
             [0; 32],
             disk,
+            &mut link,
+            &mut MemorySource::new(&[]),
+            &mut sink,
+            &mut book,
+        );
+        let serves = audit(alloc, &descriptor_of(method)?, &book, &link)?;
+        Ok(Ran {
+            alloc,
+            status,
             link,
             sink,
-            &mut book,
-        )),
-        _ => None,
+            serves,
+        })
     }
+}
+
+// The content `abc`, whose chunks are named by this method.
+fn descriptor_of(method: Method) -> Result<Descriptor, Fail> {
+    match Descriptor::new(Digest::new(ROOT), 1024, 3, method) {
+        Ok(descriptor) => Ok(descriptor),
+        Err(_) => Err("no descriptor".into()),
+    }
+}
+
+// What a run left beside the disk, and what it answered.
+#[derive(Drop)]
+struct Ran {
+    alloc: Global,
+    status: u8,
+    link: MemoryLink,
+    sink: MemorySink,
+    // Whether each chunk that was sent was served, by the book at the return; None where that knows no node.
+    serves: Option<bool>,
+}
+
+impl Ran {
+    // Whether the datagram that was sent as number `n` has these bytes, and went to the peer.
+    fn has_sent(&self, n: usize, parts: &[&[u8]]) -> Result<bool, AllocError> {
+        let want = joined(self.alloc, parts)?;
+        let mut before = n;
+        for k in 0..self.link.marks() {
+            if let Mark::Sent { to, .. } = self.link.mark(k) {
+                if before == 0 {
+                    return Ok(to == PEER && self.link.mark_bytes(k) == want.as_slice());
+                }
+                before -= 1;
+            }
+        }
+        Ok(false)
+    }
+
+    // Whether that one is the reply, with the news that the chunk is there.
+    fn has_replied(&self, n: usize) -> Result<bool, AllocError> {
+        self.has_sent(n, &[&ANSWER, &OPTIONS, &HAVE])
+    }
+
+    // Whether that one is the chunk behind its hash, with this time.
+    fn has_served(&self, n: usize, time: u64) -> Result<bool, AllocError> {
+        let time = time.to_be_bytes();
+        self.has_sent(n, &[&THEIRS, &INTEGRITY, &ROOT, &DATA, &time, b"abc"])
+    }
+
+    // Whether the sink has this line, behind another one.
+    fn has_said(&self, line: &str) -> Result<bool, AllocError> {
+        let text = joined(self.alloc, &[b"\n", line.as_bytes()])?;
+        Ok(has_part(self.sink.bytes(), &text))
+    }
+}
+
+// Whether the part stands somewhere in the bytes.
+fn has_part(bytes: &[u8], part: &[u8]) -> bool {
+    for n in 0..bytes.len() {
+        if bytes[n..].starts_with(part) {
+            return true;
+        }
+    }
+    false
+}
+
+// What the link carried.
+fn entries_of<'m>(alloc: Global, link: &'m MemoryLink) -> Result<Vec<Entry<'m>>, AllocError> {
+    let mut entries = Vec::new(alloc);
+    for n in 0..link.marks() {
+        let bytes = link.mark_bytes(n);
+        entries.push(match link.mark(n) {
+            Mark::Received { at, from } => Entry::Received { at, from, bytes },
+            Mark::Quiet { at } => Entry::Quiet { at },
+            Mark::Sent { moment, to } => Entry::Sent { moment, to, bytes },
+        })?;
+    }
+    Ok(entries)
+}
+
+// Whether each chunk that was sent was served, by the book; None where that doesn't know the root. The tree of one chunk has
+// no other node, so a book that was prepared anew stands for it.
+fn audit_entries<'m>(
+    alloc: Global,
+    descriptor: &Descriptor,
+    book: &Book,
+    entries: &'m [Entry<'m>],
+) -> Result<Option<bool>, AllocError> {
+    let mut prepared = Book::empty(alloc);
+    prepared.prepare(alloc, descriptor)?;
+    let layer = descriptor.height();
+    let offset = 0;
+    if layer != 0 || book.get(Node { layer, offset }) != prepared.get(Node { layer, offset }) {
+        return Ok(None);
+    }
+    Ok(Some(serves(descriptor, &prepared, entries)))
+}
+
+fn audit(
+    alloc: Global,
+    descriptor: &Descriptor,
+    book: &Book,
+    link: &MemoryLink,
+) -> Result<Option<bool>, AllocError> {
+    let entries = entries_of(alloc, link)?;
+    audit_entries(alloc, descriptor, book, &entries)
+}
+
+// The datagram that was sent last, if the last record is one.
+fn sent_last(link: &MemoryLink) -> &[u8] {
+    let count = link.marks();
+    if count == 0 {
+        return &[];
+    }
+    link.mark_bytes(count - 1)
 }
 
 #[test]
 fn seeds_one_chunk(rt: HostRuntime) -> Result<(), Fail> {
     let alloc = rt.alloc();
-    let mut disk = MemoryDisk::new(alloc, &STORE)?;
-    let mut link = MemoryLink::new(alloc)?;
-    let mut sink = MemorySink::new(alloc);
-    link.add(
-        Event::Datagram {
-            from: PEER,
-            len: 64,
-            at: 5,
-        },
-        &GREETING,
-    )?;
-    link.add(
-        Event::Datagram {
-            from: PEER,
-            len: 13,
-            at: 7,
-        },
-        &REQUEST,
-    )?;
-    let status = seeded(alloc, &mut disk, &mut link, &mut sink);
-    assert_eq!(rt; status, Some(Status::Done));
-    assert_eq!(rt; link.sent(), 2);
-    assert_eq!(rt; sink.bytes(), REPORT.as_bytes());
+    let mut disk = MemoryDisk::new(alloc, &STORE_OF_ABC)?;
+    let mut coming = Coming::greeting(alloc)?;
+    coming.add(&[&OURS, &REQUEST])?;
+    let ran = coming.seed(&mut disk)?;
+    assert_eq!(rt; ran.status, 0);
+    assert_eq!(rt; ran.link.sent(), 2);
+    assert!(rt; ran.has_replied(0)?);
+    assert!(rt; ran.has_served(1, BEGIN + 1)?);
+    assert_eq!(rt; ran.serves, Some(true));
+    assert_eq!(rt; disk.bytes(), STORE_OF_ABC.as_slice());
     Ok(())
 }
 
+// The traffic of such a run, with the last byte of the chunk changed.
 #[test]
-fn says_that_the_link_refuses_to_listen(rt: HostRuntime) -> Result<(), Fail> {
+fn audits_a_changed_byte(rt: HostRuntime) -> Result<(), Fail> {
     let alloc = rt.alloc();
-    let mut disk = MemoryDisk::new(alloc, &STORE)?;
-    let mut link = MemoryLink::new(alloc)?;
-    let mut sink = MemorySink::new(alloc);
-    link.fail_next(Call::Bind);
-    let status = seeded(alloc, &mut disk, &mut link, &mut sink);
-    assert_eq!(rt; status, Some(Status::LinkFault));
-    assert_eq!(rt; link.sent(), 0);
-    assert_eq!(rt; sink.bytes(), b"link fault\n".as_slice());
+    let mut coming = Coming::greeting(alloc)?;
+    coming.add(&[&OURS, &REQUEST])?;
+    // the last turn sends the chunk
+    coming.count = 1;
+    let ran = coming.seed(&mut MemoryDisk::new(alloc, &STORE_OF_ABC)?)?;
+    assert!(rt; ran.has_served(1, BEGIN + 1)?);
+    assert_eq!(rt; ran.serves, Some(true));
+    let mut changed = joined(alloc, &[sent_last(&ran.link)])?;
+    let last = changed.len().saturating_sub(1);
+    let Some(byte) = changed.get_mut(last) else {
+        return Err("nothing was sent".into());
+    };
+    assert_eq!(rt; *byte, b'c');
+    *byte = b'b';
+    let mut entries = entries_of(alloc, &ran.link)?;
+    let Some(Entry::Sent { moment, to, .. }) = entries.pop() else {
+        return Err("nothing was sent last".into());
+    };
+    entries.push(Entry::Sent {
+        moment,
+        to,
+        bytes: &changed,
+    })?;
+    let descriptor = descriptor_of(Method::Range32)?;
+    let mut book = Book::empty(alloc);
+    book.prepare(alloc, &descriptor)?;
+    let changed_serves = audit_entries(alloc, &descriptor, &book, &entries)?;
+    assert_eq!(rt; changed_serves, Some(false));
     Ok(())
 }

@@ -1,0 +1,188 @@
+// What is counted, as the report prints it.
+use super::*;
+use pp_outside::LyingDisk;
+
+const NAMES: [&str; 22] = [
+    "turns",
+    "datagrams",
+    "sent",
+    "stored",
+    "keepalives",
+    "short",
+    "stranger",
+    "refused_handshakes",
+    "no_seat",
+    "cut",
+    "outside",
+    "not_a_node",
+    "full",
+    "choked",
+    "unheld",
+    "missing",
+    "wrong",
+    "repeats",
+    "damaged",
+    "read_faults",
+    "send_faults",
+    "receive_faults",
+];
+
+// The report of a run that holds the chunk, with these counts and no others.
+fn report(alloc: Global, counts: &[(&str, u64)]) -> Result<String, Fail> {
+    let mut text = String::from_str(alloc, "held 1 of 1 0-0\n")?;
+    for name in NAMES {
+        let mut count = 0;
+        for (counted, n) in counts {
+            if *counted == name {
+                count = *n;
+            }
+        }
+        let line = format!(in alloc; "{name} {count}\n")?;
+        text.push_str(&line)?;
+    }
+    Ok(text)
+}
+
+#[test]
+fn reports_what_was_served(rt: HostRuntime) -> Result<(), Fail> {
+    let alloc = rt.alloc();
+    let mut coming = Coming::greeting(alloc)?;
+    coming.add(&[&OURS, &REQUEST])?;
+    let ran = coming.seed(&mut MemoryDisk::new(alloc, &STORE_OF_ABC)?)?;
+    let want = report(alloc, &[("turns", 3), ("datagrams", 2), ("sent", 2)])?;
+    assert_eq!(rt; ran.status, 0);
+    assert_eq!(rt; ran.sink.bytes(), want.as_bytes());
+    assert_eq!(rt; ran.serves, Some(true));
+    Ok(())
+}
+
+// A run of the greeting and one datagram behind it, which isn't answered.
+fn drops(
+    rt: &impl Abort,
+    alloc: Global,
+    datagram: &[u8],
+    want: &[(&str, u64)],
+) -> Result<(), Fail> {
+    let mut coming = Coming::greeting(alloc)?;
+    coming.add(&[datagram])?;
+    let ran = coming.seed(&mut MemoryDisk::new(alloc, &STORE_OF_ABC)?)?;
+    assert_eq!(rt; ran.status, 0);
+    assert_eq!(rt; ran.link.sent(), 1);
+    assert!(rt; ran.has_replied(0)?);
+    assert_eq!(rt; ran.sink.bytes(), report(alloc, want)?.as_bytes());
+    assert_eq!(rt; ran.serves, Some(true));
+    Ok(())
+}
+
+#[test]
+fn counts_short_datagrams(rt: HostRuntime) -> Result<(), Fail> {
+    let alloc = rt.alloc();
+    drops(
+        &rt,
+        alloc,
+        &OURS,
+        &[
+            ("turns", 3),
+            ("datagrams", 2),
+            ("sent", 1),
+            ("keepalives", 1),
+        ],
+    )?;
+    drops(
+        &rt,
+        alloc,
+        &[1, 2, 3],
+        &[("turns", 3), ("datagrams", 2), ("sent", 1), ("short", 1)],
+    )?;
+
+    // with nothing before it
+    let mut coming = Coming::none(alloc)?;
+    coming.add(&[&[1, 2, 3]])?;
+    let ran = coming.seed(&mut MemoryDisk::new(alloc, &STORE_OF_ABC)?)?;
+    let want = report(alloc, &[("turns", 2), ("datagrams", 1), ("short", 1)])?;
+    assert_eq!(rt; ran.status, 0);
+    assert_eq!(rt; ran.link.sent(), 0);
+    assert_eq!(rt; ran.sink.bytes(), want.as_bytes());
+    assert_eq!(rt; ran.serves, Some(true));
+    Ok(())
+}
+
+// The options of the handshake from the last to the first.
+#[test]
+fn takes_options_in_any_order(rt: HostRuntime) -> Result<(), Fail> {
+    let alloc = rt.alloc();
+    let mut coming = Coming::none(alloc)?;
+    coming.add(&[
+        &GREETING,
+        &[9, 0, 0, 4, 0],
+        &[8, 2, 0xfe, 0xf8],
+        &[6, 2],
+        &[4, 2],
+        &[3, 1],
+        &[2, 0, 0x20],
+        &ROOT,
+        &[1, 1],
+        &[0, 1],
+        &[0xff],
+    ])?;
+    coming.add(&[&OURS, &REQUEST])?;
+    let ran = coming.seed(&mut MemoryDisk::new(alloc, &STORE_OF_ABC)?)?;
+    assert_eq!(rt; ran.status, 0);
+    assert_eq!(rt; ran.link.sent(), 2);
+    assert!(rt; ran.has_replied(0)?);
+    assert!(rt; ran.has_served(1, BEGIN + 1)?);
+    assert_eq!(rt; ran.serves, Some(true));
+    Ok(())
+}
+
+// Another hash function, and the root twice.
+#[test]
+fn refuses_other_options(rt: HostRuntime) -> Result<(), Fail> {
+    let alloc = rt.alloc();
+    let root: [&[u8]; 2] = [&[2, 0, 0x20], &ROOT];
+    for (hash, again) in [(0, false), (2, true)] {
+        let root = joined(alloc, &root)?;
+        let repeated: &[u8] = if again { &root } else { &[] };
+        let mut coming = Coming::none(alloc)?;
+        coming.add(&[
+            &GREETING,
+            &[0, 1, 1, 1],
+            &root,
+            &[3, 1, 4, hash, 6, 2, 8, 2, 0xfe, 0xf8, 9, 0, 0, 4, 0],
+            repeated,
+            &[0xff],
+        ])?;
+        let ran = coming.seed(&mut MemoryDisk::new(alloc, &STORE_OF_ABC)?)?;
+        let want = report(
+            alloc,
+            &[("turns", 2), ("datagrams", 1), ("refused_handshakes", 1)],
+        )?;
+        assert_eq!(rt; ran.status, 0);
+        assert_eq!(rt; ran.link.sent(), 0, "hash {hash}");
+        assert_eq!(rt; ran.sink.bytes(), want.as_bytes(), "hash {hash}");
+        assert_eq!(rt; ran.serves, Some(true));
+    }
+    Ok(())
+}
+
+// The scan reads the chunk as it is, and then the store has another byte.
+#[test]
+fn sends_no_forged_byte(rt: HostRuntime) -> Result<(), Fail> {
+    let alloc = rt.alloc();
+    for place in 64..67 {
+        let mut disk = LyingDisk::new(MemoryDisk::new(alloc, &STORE_OF_ABC)?, place, 1, 1);
+        let mut coming = Coming::greeting(alloc)?;
+        coming.add(&[&OURS, &REQUEST])?;
+        let ran = coming.seed(&mut disk)?;
+        let want = report(
+            alloc,
+            &[("turns", 3), ("datagrams", 2), ("sent", 1), ("damaged", 1)],
+        )?;
+        assert_eq!(rt; ran.status, 0);
+        assert_eq!(rt; ran.link.sent(), 1, "place {place}");
+        assert!(rt; ran.has_replied(0)?);
+        assert_eq!(rt; ran.sink.bytes(), want.as_bytes(), "place {place}");
+        assert_eq!(rt; ran.serves, Some(true));
+    }
+    Ok(())
+}

@@ -1,0 +1,91 @@
+// Runs that end before their first turn.
+use super::*;
+use pp_outside::Call;
+
+#[test]
+fn says_that_the_link_refuses_to_listen(rt: HostRuntime) -> Result<(), Fail> {
+    let alloc = rt.alloc();
+    for image in [STORE_OF_ABC.as_slice(), &[]] {
+        let mut disk = MemoryDisk::new(alloc, image)?;
+        let mut coming = Coming::greeting(alloc)?;
+        coming.link.fail_next(Call::Bind);
+        let ran = coming.seed(&mut disk)?;
+        assert_eq!(rt; ran.status, 5);
+        assert_eq!(rt; ran.sink.bytes(), b"link fault\n".as_slice());
+        // nothing came, was sent or written
+        assert_eq!(rt; ran.link.marks(), 0);
+        assert_eq!(rt; disk.bytes(), image);
+    }
+    Ok(())
+}
+
+#[test]
+fn says_that_the_disk_refuses_to_sync(rt: HostRuntime) -> Result<(), Fail> {
+    let alloc = rt.alloc();
+    for image in [STORE_OF_ABC.as_slice(), &[]] {
+        let mut disk = MemoryDisk::new(alloc, image)?;
+        disk.fail_next(Call::Sync);
+        let ran = Coming::greeting(alloc)?.seed(&mut disk)?;
+        assert_eq!(rt; ran.status, 4);
+        assert_eq!(rt; ran.sink.bytes(), b"disk fault\n".as_slice());
+        assert_eq!(rt; ran.link.marks(), 0);
+    }
+    Ok(())
+}
+
+#[test]
+fn names_the_byte_of_another_file(rt: HostRuntime) -> Result<(), Fail> {
+    let alloc = rt.alloc();
+    let mut image = STORE_OF_ABC;
+    image[7] = b'2';
+    let mut disk = MemoryDisk::new(alloc, &image)?;
+    let ran = Coming::greeting(alloc)?.seed(&mut disk)?;
+    assert_eq!(rt; ran.status, 2);
+    assert_eq!(rt;
+        ran.sink.bytes(),
+        b"not a store: byte 7 is 50, wanted 49\n".as_slice()
+    );
+    assert_eq!(rt; ran.link.marks(), 0);
+    assert_eq!(rt; disk.bytes(), image.as_slice());
+    Ok(())
+}
+
+// Contents of two chunks and of the most.
+#[test]
+fn refuses_to_seed_more_chunks(rt: HostRuntime) -> Result<(), Fail> {
+    let alloc = rt.alloc();
+    let contents: [(&str, &[u8]); 3] = [
+        ("1024:1025:2", b"usage: word 2: descriptor size at 77\n"),
+        ("256:257:0", b"usage: word 2: descriptor size at 76\n"),
+        (
+            "8192:8589934592:4",
+            b"usage: word 2: descriptor size at 77\n",
+        ),
+    ];
+    for (rest, want) in contents {
+        let descriptor = format!(in alloc;
+            "ppspp1:ba7816bf8f01cfea414140de5dae2223b00361a396177a9cb410ff61f20015ad:{rest}"
+        )?;
+        let mut disk = MemoryDisk::new(alloc, &STORE_OF_ABC)?;
+        let mut coming = Coming::greeting(alloc)?;
+        let mut sink = MemorySink::new(alloc);
+        let status = run(
+            alloc,
+            &words_of(
+                alloc,
+                &["seed", "abc.store", &descriptor, "127.0.0.1:7001", "1"],
+            )?,
+            [0; 32],
+            &mut disk,
+            &mut coming.link,
+            &mut MemorySource::new(&[]),
+            &mut sink,
+            &mut Book::empty(alloc),
+        );
+        assert_eq!(rt; status, 1, "{rest}");
+        assert_eq!(rt; sink.bytes(), want, "{rest}");
+        assert_eq!(rt; coming.link.marks(), 0);
+        assert_eq!(rt; disk.bytes(), STORE_OF_ABC.as_slice());
+    }
+    Ok(())
+}
