@@ -252,8 +252,8 @@ fn audit(
     audit_entries(alloc, descriptor, book, &entries)
 }
 
-// The datagram that was sent last, if the last record is one.
-fn sent_last(link: &MemoryLink) -> &[u8] {
+// The datagram of the last record.
+fn last_bytes(link: &MemoryLink) -> &[u8] {
     let count = link.marks();
     if count == 0 {
         return &[];
@@ -288,7 +288,7 @@ fn audits_a_changed_byte(rt: HostRuntime) -> Result<(), Fail> {
     let ran = coming.seed(&mut MemoryDisk::new(alloc, &STORE_OF_ABC)?)?;
     assert!(rt; ran.has_served(1, BEGIN + 1)?);
     assert_eq!(rt; ran.serves, Some(true));
-    let mut changed = joined(alloc, &[sent_last(&ran.link)])?;
+    let mut changed = joined(alloc, &[last_bytes(&ran.link)])?;
     let last = changed.len().saturating_sub(1);
     let Some(byte) = changed.get_mut(last) else {
         return Err("nothing was sent".into());

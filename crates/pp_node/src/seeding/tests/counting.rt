@@ -2,44 +2,44 @@
 use super::*;
 use pp_outside::LyingDisk;
 
-const NAMES: [&str; 22] = [
-    "turns",
-    "datagrams",
-    "sent",
-    "stored",
-    "keepalives",
-    "short",
-    "stranger",
-    "refused_handshakes",
-    "no_seat",
-    "cut",
-    "outside",
-    "not_a_node",
-    "full",
-    "choked",
-    "unheld",
-    "missing",
-    "wrong",
-    "repeats",
-    "damaged",
-    "read_faults",
-    "send_faults",
-    "receive_faults",
-];
+// What a run counts.
+#[derive(Clone, Copy)]
+struct Counted {
+    turns: u64,
+    datagrams: u64,
+    sent: u64,
+    keepalives: u64,
+    short: u64,
+    refused_handshakes: u64,
+    damaged: u64,
+}
+
+const NOTHING: Counted = Counted {
+    turns: 0,
+    datagrams: 0,
+    sent: 0,
+    keepalives: 0,
+    short: 0,
+    refused_handshakes: 0,
+    damaged: 0,
+};
 
 // The report of a run that holds the chunk, with these counts and no others.
-fn report(alloc: Global, counts: &[(&str, u64)]) -> Result<String, Fail> {
-    let mut text = String::from_str(alloc, "held 1 of 1 0-0\n")?;
-    for name in NAMES {
-        let mut count = 0;
-        for (counted, n) in counts {
-            if *counted == name {
-                count = *n;
-            }
-        }
-        let line = format!(in alloc; "{name} {count}\n")?;
-        text.push_str(&line)?;
-    }
+fn report(alloc: Global, counted: Counted) -> Result<String, Fail> {
+    let Counted {
+        turns,
+        datagrams,
+        sent,
+        keepalives,
+        short,
+        refused_handshakes,
+        damaged,
+    } = counted;
+    let text = format!(in alloc;
+        "held 1 of 1 0-0\nturns {turns}\ndatagrams {datagrams}\nsent {sent}\nstored 0\nkeepalives {keepalives}\n\
+short {short}\nstranger 0\nrefused_handshakes {refused_handshakes}\nno_seat 0\ncut 0\noutside 0\nnot_a_node 0\nfull 0\n\
+choked 0\nunheld 0\nmissing 0\nwrong 0\nrepeats 0\ndamaged {damaged}\nread_faults 0\nsend_faults 0\nreceive_faults 0\n"
+    )?;
     Ok(text)
 }
 
@@ -49,7 +49,15 @@ fn reports_what_was_served(rt: HostRuntime) -> Result<(), Fail> {
     let mut coming = Coming::greeting(alloc)?;
     coming.add(&[&OURS, &REQUEST])?;
     let ran = coming.seed(&mut MemoryDisk::new(alloc, &STORE_OF_ABC)?)?;
-    let want = report(alloc, &[("turns", 3), ("datagrams", 2), ("sent", 2)])?;
+    let want = report(
+        alloc,
+        Counted {
+            turns: 3,
+            datagrams: 2,
+            sent: 2,
+            ..NOTHING
+        },
+    )?;
     assert_eq!(rt; ran.status, 0);
     assert_eq!(rt; ran.sink.bytes(), want.as_bytes());
     assert_eq!(rt; ran.serves, Some(true));
@@ -57,12 +65,7 @@ fn reports_what_was_served(rt: HostRuntime) -> Result<(), Fail> {
 }
 
 // A run of the greeting and one datagram behind it, which isn't answered.
-fn drops(
-    rt: &impl Abort,
-    alloc: Global,
-    datagram: &[u8],
-    want: &[(&str, u64)],
-) -> Result<(), Fail> {
+fn drops(rt: &impl Abort, alloc: Global, datagram: &[u8], want: Counted) -> Result<(), Fail> {
     let mut coming = Coming::greeting(alloc)?;
     coming.add(&[datagram])?;
     let ran = coming.seed(&mut MemoryDisk::new(alloc, &STORE_OF_ABC)?)?;
@@ -81,25 +84,40 @@ fn counts_short_datagrams(rt: HostRuntime) -> Result<(), Fail> {
         &rt,
         alloc,
         &OURS,
-        &[
-            ("turns", 3),
-            ("datagrams", 2),
-            ("sent", 1),
-            ("keepalives", 1),
-        ],
+        Counted {
+            turns: 3,
+            datagrams: 2,
+            sent: 1,
+            keepalives: 1,
+            ..NOTHING
+        },
     )?;
     drops(
         &rt,
         alloc,
         &[1, 2, 3],
-        &[("turns", 3), ("datagrams", 2), ("sent", 1), ("short", 1)],
+        Counted {
+            turns: 3,
+            datagrams: 2,
+            sent: 1,
+            short: 1,
+            ..NOTHING
+        },
     )?;
 
     // with nothing before it
     let mut coming = Coming::none(alloc)?;
     coming.add(&[&[1, 2, 3]])?;
     let ran = coming.seed(&mut MemoryDisk::new(alloc, &STORE_OF_ABC)?)?;
-    let want = report(alloc, &[("turns", 2), ("datagrams", 1), ("short", 1)])?;
+    let want = report(
+        alloc,
+        Counted {
+            turns: 2,
+            datagrams: 1,
+            short: 1,
+            ..NOTHING
+        },
+    )?;
     assert_eq!(rt; ran.status, 0);
     assert_eq!(rt; ran.link.sent(), 0);
     assert_eq!(rt; ran.sink.bytes(), want.as_bytes());
@@ -155,7 +173,12 @@ fn refuses_other_options(rt: HostRuntime) -> Result<(), Fail> {
         let ran = coming.seed(&mut MemoryDisk::new(alloc, &STORE_OF_ABC)?)?;
         let want = report(
             alloc,
-            &[("turns", 2), ("datagrams", 1), ("refused_handshakes", 1)],
+            Counted {
+                turns: 2,
+                datagrams: 1,
+                refused_handshakes: 1,
+                ..NOTHING
+            },
         )?;
         assert_eq!(rt; ran.status, 0);
         assert_eq!(rt; ran.link.sent(), 0, "hash {hash}");
@@ -176,7 +199,13 @@ fn sends_no_forged_byte(rt: HostRuntime) -> Result<(), Fail> {
         let ran = coming.seed(&mut disk)?;
         let want = report(
             alloc,
-            &[("turns", 3), ("datagrams", 2), ("sent", 1), ("damaged", 1)],
+            Counted {
+                turns: 3,
+                datagrams: 2,
+                sent: 1,
+                damaged: 1,
+                ..NOTHING
+            },
         )?;
         assert_eq!(rt; ran.status, 0);
         assert_eq!(rt; ran.link.sent(), 1, "place {place}");
