@@ -1,0 +1,185 @@
+// What the seats offer.
+ghost use Rattle.std.specs.Prelude.{◌≡◌, ℕ, ◌^◌, ◌<◌, ◌≤◌, ◌==◌, ◌&&◌, ◌||◌, nat_le, not, true, false, List, [], ◌∷◌, length, replicate, slice_set, slice_index_or, IfOk, MatchOption};
+ghost use Rattle.pp_avail.specs.Offers.{Deed, Offer, Leave, Tells, offers_of, lies_in};
+ghost use Rattle.pp_avail.specs.Offers as offers;
+
+use pp_ranges::ChunkRange;
+use pp_tree::ChunkSet;
+use std::alloc::{AllocError, Global};
+use std::marker::Model;
+
+const SEATS: usize = 64;
+
+/// The chunks that each of 64 seats offers, of one content.
+#[derive(Drop)]
+pub struct Avail {
+    chunks: u32,
+    seats: Vec<ChunkSet>,
+    // How many seats have each chunk.
+    counts: Vec<u8>,
+}
+
+impl Model for Avail {
+    ghost use Rattle.pp_avail.specs.Offers.{Offers};
+
+    ghost Value = { Offers };
+
+    ghost use Rattle.pp_avail.specs.Counts.{IsCounted};
+
+    ghost view = { λ a. record { chunks = a.chunks; seats = a.seats.items } };
+
+    ghost invariant = { λ a. IsCounted a.chunks a.seats.items a.counts.items };
+}
+
+fn zeros(alloc: Global, count: usize) -> Result<Vec<u8>, AllocError>
+    ensures { IfOk result (λ counts. counts.items ≡ replicate count 0) }
+{
+    vec![in alloc; 0; count]
+}
+
+// One empty set for each seat.
+fn empty_sets(alloc: Global, chunks: u32) -> Result<Vec<ChunkSet>, AllocError>
+    ensures { IfOk result (λ sets. sets.items ≡ replicate 64 (replicate chunks false)) }
+{
+    let mut sets = Vec::with_capacity(alloc, SEATS)?;
+    for _ in 0..SEATS {
+        sets.push(ChunkSet::none(alloc, chunks)?)?;
+    }
+    Ok(sets)
+}
+
+impl Avail {
+    /// No seat offers any chunk, of a content of up to 2^20.
+    pub fn new(alloc: Global, chunks: u32) -> Result<Avail, AllocError>
+        requires { chunks ≤ 2 ^ 20 }
+        ensures chunks { IfOk result (λ a. a.chunks ≡ chunks) }
+        ensures nothing { IfOk result (λ a. Tells [] a) }
+    {
+        let seats = empty_sets(alloc, chunks)?;
+        let counts = zeros(alloc, chunks as usize)?;
+        Ok(Avail {
+            chunks,
+            seats,
+            counts,
+        })
+    }
+
+    /// Whether a seat offers a chunk.
+    pub fn has(&self, seat: u8, i: u32) -> bool
+        requires seat { seat < 64 }
+        requires chunk { i < self.now.chunks }
+        ensures { result ≡ offers.has self.now seat i }
+    {
+        let set = &self.seats[seat as usize];
+        set.contains(i)
+    }
+
+    /// How many seats have a chunk.
+    pub fn copies(&self, i: u32) -> u32
+        requires chunk { i < self.now.chunks }
+        ensures copies { result ≡ offers.copies self.now i }
+        ensures range { result ≤ 64 }
+        ensures deeds { (deeds : List Deed) → Tells deeds self.now → result ≡ offers_of deeds i }
+    {
+        u32::from(self.counts[i as usize])
+    }
+
+    // A seat has one more chunk.
+    fn add(&mut self, seat: u8, i: u32)
+        requires seat { seat < 64 }
+        requires chunk { i < self.old.chunks }
+        requires absent { offers.has self.old seat i ≡ false }
+        ensures chunks { self.new.chunks ≡ self.old.chunks }
+        ensures seats { (s k : ℕ) → offers.has self.new s k ≡ (offers.has self.old s k || (s == seat && k == i)) }
+    {
+        let set = &mut self.seats[seat as usize];
+        set.insert(i);
+        self.counts[i as usize] += 1;
+    }
+
+    // A seat has one chunk fewer.
+    fn take(&mut self, seat: u8, i: u32)
+        requires seat { seat < 64 }
+        requires chunk { i < self.old.chunks }
+        requires held { offers.has self.old seat i ≡ true }
+        ensures chunks { self.new.chunks ≡ self.old.chunks }
+        ensures seats { self.new.seats ≡ slice_set self.old.seats seat (slice_set (slice_index_or self.old.seats seat []) i false) }
+    {
+        let set = &mut self.seats[seat as usize];
+        set.remove(i);
+        self.counts[i as usize] -= 1;
+    }
+
+    /// A seat offers the chunks of a range, which lies in the content.
+    pub fn offer(&mut self, seat: u8, range: ChunkRange)
+        requires seat { seat < 64 }
+        requires inside { range.last < self.old.chunks }
+        ensures chunks { self.new.chunks ≡ self.old.chunks }
+        ensures seats { (s i : ℕ) → offers.has self.new s i ≡ (offers.has self.old s i || (s == seat && lies_in range i)) }
+        ensures deeds { (deeds : List Deed) → Tells deeds self.old → Tells (Offer seat range ∷ deeds) self.new }
+    {
+        self.fill(seat, range.first(), range.last());
+    }
+
+    // A seat offers the chunks from one to another.
+    fn fill(&mut self, seat: u8, first: u32, last: u32)
+        requires seat { seat < 64 }
+        requires inside { last < self.old.chunks }
+        ensures chunks { self.new.chunks ≡ self.old.chunks }
+        ensures seats { (s i : ℕ) → offers.has self.new s i ≡ (offers.has self.old s i || (s == seat && (nat_le first i && nat_le i last))) }
+    {
+        let mut next = first;
+        while let Some(i) = self.first_absent(seat, next, last) {
+            self.add(seat, i);
+            next = i + 1;
+        }
+    }
+
+    // The least chunk from one to another that a seat doesn't offer.
+    fn first_absent(&self, seat: u8, from: u32, last: u32) -> Option<u32>
+        requires seat { seat < 64 }
+        requires inside { last < self.now.chunks }
+        ensures most { self.now.chunks ≤ 2 ^ 20 }
+        ensures first { MatchOption result ((i : ℕ) → from ≤ i → i ≤ last → offers.has self.now seat i ≡ true)
+            (λ i. (from ≤ i) × (i ≤ last) × (offers.has self.now seat i ≡ false)
+            × ((k : ℕ) → from ≤ k → k < i → offers.has self.now seat k ≡ true)) }
+    {
+        let _ = &self.chunks;
+        for i in from..last + 1 {
+            if !self.has(seat, i) {
+                return Some(i);
+            }
+        }
+        None
+    }
+
+    // The least chunk from one on that a seat offers.
+    fn first_offered(&self, seat: u8, from: u32) -> Option<u32>
+        requires { seat < 64 }
+        ensures most { self.now.chunks ≤ 2 ^ 20 }
+        ensures first { MatchOption result ((i : ℕ) → from ≤ i → offers.has self.now seat i ≡ false)
+            (λ i. (from ≤ i) × (i < self.now.chunks) × (offers.has self.now seat i ≡ true)
+            × ((k : ℕ) → from ≤ k → k < i → offers.has self.now seat k ≡ false)) }
+    {
+        for i in from..self.chunks {
+            if self.has(seat, i) {
+                return Some(i);
+            }
+        }
+        None
+    }
+
+    /// A seat offers nothing any more.
+    pub fn leave(&mut self, seat: u8)
+        requires seat { seat < 64 }
+        ensures chunks { self.new.chunks ≡ self.old.chunks }
+        ensures seats { (s i : ℕ) → offers.has self.new s i ≡ (not (s == seat) && offers.has self.old s i) }
+        ensures deeds { (deeds : List Deed) → Tells deeds self.old → Tells (Leave seat ∷ deeds) self.new }
+    {
+        let mut next = 0;
+        while let Some(i) = self.first_offered(seat, next) {
+            self.take(seat, i);
+            next = i + 1;
+        }
+    }
+}
