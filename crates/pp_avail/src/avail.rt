@@ -64,6 +64,14 @@ impl Avail {
         })
     }
 
+    pub(crate) fn chunks(&self) -> u32
+        ensures value { result ≡ self.now.chunks }
+        ensures most { result ≤ 2 ^ 20 }
+        ensures past { (seat i : ℕ) → self.now.chunks ≤ i → offers.has self.now seat i ≡ false }
+    {
+        self.chunks
+    }
+
     /// Whether a seat offers a chunk.
     pub fn has(&self, seat: u8, i: u32) -> bool
         requires seat { seat < 64 }
@@ -79,6 +87,7 @@ impl Avail {
         requires chunk { i < self.now.chunks }
         ensures copies { result ≡ offers.copies self.now i }
         ensures range { result ≤ 64 }
+        ensures most { self.now.chunks ≤ 2 ^ 20 }
         ensures deeds { (deeds : List Deed) → Tells deeds self.now → result ≡ offers_of deeds i }
     {
         u32::from(self.counts[i as usize])

@@ -2,7 +2,10 @@
 #![tactic(auto)]
 
 mod avail;
+mod choice;
+mod plain;
 mod ranker;
 
 pub use avail::Avail;
-pub use ranker::{Rank, Ranker};
+pub use plain::pick;
+pub use ranker::{Rank, Ranker, Rule};
