@@ -1,5 +1,5 @@
 -- How many seats have a chunk.
-use Rattle.std.proofs.Common.{◌≡◌, ◌≢◌, ℕ, zero, suc, ◌+◌, ◌^◌, ◌<◌, ◌≤◌, Bool, true, false, cond, List, [], ◌∷◌, length, replicate, slice_index_or, refl, sym, ◌∙◌, ap, arith, ⊎_elim, subst, ◌-◌, ◌==◌, ◌&&◌, ◌||◌, ◌⊎◌, inl, inr, nat_le, nat_lt, max}
+use Rattle.std.proofs.Common.{◌≡◌, ◌≢◌, ℕ, zero, suc, ◌+◌, ◌^◌, ◌<◌, ◌≤◌, Bool, true, false, not, cond, List, [], ◌∷◌, length, replicate, slice_index_or, refl, sym, ◌∙◌, ap, arith, ⊎_elim, subst, ◌-◌, ◌==◌, ◌&&◌, ◌||◌, ◌⊎◌, inl, inr, nat_le, nat_lt, max}
 use Rattle.std.specs.Prelude.{count_by, slice_set, slice_index}
 use Rattle.std.specs.List.{range_with_len}
 use Rattle.std.proofs.lemmas.List.{length-set, length-replicate, get_or-set_same, get_or-set_other, get_or-replicate, get_or_past, get_or_default}
@@ -7,7 +7,7 @@ use Rattle.std.proofs.lemmas.List.Sums.{sum_by-set, sum_by-cons, count_by-le-len
 use Rattle.std.proofs.lemmas.Bool.{cases_eq, cases_lt}
 use Rattle.std.proofs.lemmas.Bool.Decides.{nat_tests}
 use Rattle.pp_avail.specs.Offers.{Offers, copies_in, offered, offers_of, Tells, Deed}
-use Rattle.pp_avail.specs.Counts.{IsCounted}
+use Rattle.pp_avail.specs.Counts.{IsCounted, IsSorted, is_in}
 
 pub no_bit : (m i : ℕ) → slice_index_or (replicate m false) i false ≡ false
 no_bit zero i = refl
@@ -209,3 +209,67 @@ pub filled : (old cur : Bool) (s seat i next first last : ℕ) → first ≤ nex
     → cur ≡ (old || (s == seat && (nat_le first i && nat_le i last)))
 filled true cur s seat i next first last low high now rest = now
 filled false cur s seat i next first last low high now rest = grind (arith, nat_tests)
+
+-- The sets by the number of copies once one bit of one seat's list is written anew.
+pub sorted_anew : (chunks : ℕ) (seats : List (List Bool)) (counts : List ℕ) (levels changed : List (List Bool)) (s i from to : ℕ) (b : Bool)
+    → IsCounted chunks seats counts → IsSorted chunks seats levels → s < 64 → i < chunks
+    → from ≡ copies_in seats i → to ≡ copies_in (slice_set seats s (slice_set (slice_index_or seats s []) i b)) i
+    → length changed ≡ 64 → ((k : ℕ) → length (slice_index_or changed k []) ≡ length (slice_index_or levels k []))
+    → ((k j : ℕ) → is_in changed k j ≡ ((is_in levels k j && not (j == i && k + 1 == from)) || (j == i && k + 1 == to)))
+    → IsSorted chunks (slice_set seats s (slice_set (slice_index_or seats s []) i b)) changed
+sorted_anew chunks seats counts levels changed s i from to b is were inside within old new width sizes bits = record {
+  width = width;
+  sizes = λ k lt. sizes k ∙ were.sizes k lt;
+  sorted = λ k j lt low. bits k j ∙ ⊎_elim
+      (λ here.
+      at_one (is_in levels k j) j i k from to here (were.sorted k j lt low ∙ ap (λ (n : ℕ). n == k + 1) (ap (λ (m : ℕ). copies_in seats m) here ∙ sym old))
+      ∙ ap (λ (n : ℕ). n == k + 1) (new ∙ ap (λ (m : ℕ). copies_in (slice_set seats s (slice_set (slice_index_or seats s []) i b)) m) (sym here)))
+      (λ other.
+      elsewhere (is_in levels k j) j i (k + 1 == from) (k + 1 == to) other ∙ were.sorted k j lt low
+      ∙ ap (λ (n : ℕ). n == k + 1) (sym (others_stay seats s i j b (omega (arith, is.width, inside)) other)))
+      (cases_eq j i);
+}
+  where
+    at_one : (b : Bool) (j i k from to : ℕ) → j ≡ i → b ≡ (from == k + 1) → ((b && not (j == i && k + 1 == from)) || (j == i && k + 1 == to)) ≡ (to == k + 1)
+    at_one b j i k from to here is = grind (arith, nat_tests)
+
+    elsewhere : (b : Bool) (j i : ℕ) (c d : Bool) → j ≢ i → ((b && not (j == i && c)) || (j == i && d)) ≡ b
+    elsewhere true j i c d apart = grind (arith, nat_tests)
+    elsewhere false j i c d apart = grind (arith, nat_tests)
+
+pub sorted_more : (chunks : ℕ) (seats : List (List Bool)) (counts : List ℕ) (levels changed : List (List Bool)) (s i count : ℕ) (seat : List Bool)
+    → IsCounted chunks seats counts → IsSorted chunks seats levels → s < 64 → i < chunks
+    → slice_index_or (slice_index_or seats s []) i false ≡ false → count ≡ copies_in seats i → seat ≡ slice_set (slice_index_or seats s []) i true
+    → length changed ≡ 64 → ((k : ℕ) → length (slice_index_or changed k []) ≡ length (slice_index_or levels k []))
+    → ((k j : ℕ) → is_in changed k j ≡ ((is_in levels k j && not (j == i && k + 1 == count)) || (j == i && k + 1 == count + 1)))
+    → IsSorted chunks (slice_set seats s seat) changed
+sorted_more chunks seats counts levels changed s i count seat is were inside within absent read written width sizes bits =
+    subst (λ (xs : List Bool). IsSorted chunks (slice_set seats s xs) changed) (sym written)
+    (sorted_anew chunks seats counts levels changed s i count (count + 1) true is were inside within read
+    (ap (λ (n : ℕ). n + 1) read ∙ sym (raised seats s i (omega (arith, is.width, inside)) (omega (arith, is.sizes s inside, within)) absent))
+    width sizes bits)
+
+pub sorted_fewer : (chunks : ℕ) (seats : List (List Bool)) (counts : List ℕ) (levels changed : List (List Bool)) (s i count : ℕ) (seat : List Bool)
+    → IsCounted chunks seats counts → IsSorted chunks seats levels → s < 64 → i < chunks
+    → slice_index_or (slice_index_or seats s []) i false ≡ true → count ≡ copies_in seats i → seat ≡ slice_set (slice_index_or seats s []) i false
+    → length changed ≡ 64 → ((k : ℕ) → length (slice_index_or changed k []) ≡ length (slice_index_or levels k []))
+    → ((k j : ℕ) → is_in changed k j ≡ ((is_in levels k j && not (j == i && k + 1 == count)) || (j == i && k + 1 == count - 1)))
+    → IsSorted chunks (slice_set seats s seat) changed
+sorted_fewer chunks seats counts levels changed s i count seat is were inside within held read written width sizes bits =
+    let down = lowered seats s i (omega (arith, is.width, inside)) (omega (arith, is.sizes s inside, within)) held in
+    subst (λ (xs : List Bool). IsSorted chunks (slice_set seats s xs) changed) (sym written)
+    (sorted_anew chunks seats counts levels changed s i count (count - 1) false is were inside within read (omega (arith, down, read)) width sizes bits)
+
+pub none_sorted : (chunks : ℕ) (seats levels : List (List Bool)) → seats ≡ replicate 64 (replicate chunks false) → levels ≡ replicate 64 (replicate chunks false)
+    → IsSorted chunks seats levels
+none_sorted chunks seats levels empty none = record {
+  width = ap (λ (xs : List (List Bool)). length xs) none ∙ length-replicate 64 (replicate chunks false);
+  sizes = λ k lt. ap (λ (xs : List (List Bool)). length (slice_index_or xs k [])) none
+      ∙ ap (λ (xs : List Bool). length xs) (get_or-replicate 64 k (replicate chunks false) [] lt) ∙ length-replicate chunks false;
+  sorted = λ k i lt low. ap (λ (xs : List (List Bool)). is_in xs k i) none
+      ∙ ap (λ (xs : List Bool). slice_index_or xs i false) (get_or-replicate 64 k (replicate chunks false) [] lt) ∙ no_bit chunks i
+      ∙ sym (ap (λ (xs : List (List Bool)). copies_in xs i == k + 1) empty ∙ ap (λ (n : ℕ). n == k + 1) (no_copies 64 chunks i) ∙ above k);
+}
+  where
+    above : (k : ℕ) → (0 == k + 1) ≡ false
+    above k = grind (arith, nat_tests)

@@ -3,6 +3,7 @@ ghost use Rattle.std.specs.Prelude.{◌≡◌, ℕ, ◌^◌, ◌<◌, ◌≤◌,
 ghost use Rattle.pp_avail.specs.Offers.{Deed, Offer, Leave, Tells, offers_of, lies_in};
 ghost use Rattle.pp_avail.specs.Offers as offers;
 
+use crate::levels::shift;
 use pp_ranges::ChunkRange;
 use pp_tree::ChunkSet;
 use std::alloc::{AllocError, Global};
@@ -17,6 +18,8 @@ pub struct Avail {
     seats: Vec<ChunkSet>,
     // How many seats have each chunk.
     counts: Vec<u8>,
+    // The chunks of one copy, those of two, and so on.
+    levels: Vec<ChunkSet>,
 }
 
 impl Model for Avail {
@@ -24,11 +27,11 @@ impl Model for Avail {
 
     ghost Value = { Offers };
 
-    ghost use Rattle.pp_avail.specs.Counts.{IsCounted};
+    ghost use Rattle.pp_avail.specs.Counts.{IsCounted, IsSorted};
 
     ghost view = { λ a. record { chunks = a.chunks; seats = a.seats.items } };
 
-    ghost invariant = { λ a. IsCounted a.chunks a.seats.items a.counts.items };
+    ghost invariant = { λ a. IsCounted a.chunks a.seats.items a.counts.items × IsSorted a.chunks a.seats.items a.levels.items };
 }
 
 fn zeros(alloc: Global, count: usize) -> Result<Vec<u8>, AllocError>
@@ -37,7 +40,7 @@ fn zeros(alloc: Global, count: usize) -> Result<Vec<u8>, AllocError>
     vec![in alloc; 0; count]
 }
 
-// One empty set for each seat.
+// One empty set for each seat, and for each number of copies.
 fn empty_sets(alloc: Global, chunks: u32) -> Result<Vec<ChunkSet>, AllocError>
     ensures { IfOk result (λ sets. sets.items ≡ replicate 64 (replicate chunks false)) }
 {
@@ -57,10 +60,12 @@ impl Avail {
     {
         let seats = empty_sets(alloc, chunks)?;
         let counts = zeros(alloc, chunks as usize)?;
+        let levels = empty_sets(alloc, chunks)?;
         Ok(Avail {
             chunks,
             seats,
             counts,
+            levels,
         })
     }
 
@@ -103,7 +108,9 @@ impl Avail {
     {
         let set = &mut self.seats[seat as usize];
         set.insert(i);
-        self.counts[i as usize] += 1;
+        let count = self.counts[i as usize];
+        self.counts[i as usize] = count + 1;
+        shift(&mut self.levels, i, count, count + 1);
     }
 
     // A seat has one chunk fewer.
@@ -116,7 +123,9 @@ impl Avail {
     {
         let set = &mut self.seats[seat as usize];
         set.remove(i);
-        self.counts[i as usize] -= 1;
+        let count = self.counts[i as usize];
+        self.counts[i as usize] = count - 1;
+        shift(&mut self.levels, i, count, count - 1);
     }
 
     /// A seat offers the chunks of a range, which lies in the content.

@@ -3,6 +3,7 @@
 
 mod avail;
 mod choice;
+mod levels;
 mod plain;
 mod ranker;
 

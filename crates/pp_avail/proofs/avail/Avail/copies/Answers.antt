@@ -7,13 +7,13 @@ pub returns-clause-range : goal.returns-clause-range
 returns-clause-range c =
     let inside : c.args.i < c.self.inside.chunks = omega (arith, ap (λ o. o.chunks) c.self.view_is, c.requires.chunk) in
     let read : c.index.result.now ≡ copies_in c.self.inside.seats.items c.args.i =
-    count_read c.self.inside.chunks c.self.inside.seats.items c.self.inside.counts.items c.args.i c.index.result.now c.self.invariant inside c.index.ensures in
-    omega (arith, c.from.ensures, read, copies_at_most c.self.inside.seats.items c.args.i, c.self.invariant.width)
+    count_read c.self.inside.chunks c.self.inside.seats.items c.self.inside.counts.items c.args.i c.index.result.now c.self.invariant.0 inside c.index.ensures in
+    omega (arith, c.from.ensures, read, copies_at_most c.self.inside.seats.items c.args.i, c.self.invariant.0.width)
 
 pub returns-clause-deeds : goal.returns-clause-deeds
 returns-clause-deeds c = λ deeds tells.
     let inside : c.args.i < c.self.inside.chunks = omega (arith, ap (λ o. o.chunks) c.self.view_is, c.requires.chunk) in
     c.from.ensures
-    ∙ count_read c.self.inside.chunks c.self.inside.seats.items c.self.inside.counts.items c.args.i c.index.result.now c.self.invariant inside c.index.ensures
+    ∙ count_read c.self.inside.chunks c.self.inside.seats.items c.self.inside.counts.items c.args.i c.index.result.now c.self.invariant.0 inside c.index.ensures
     ∙ ap (λ o. copies_in o.seats c.args.i) c.self.view_is
-    ∙ told_copies deeds c.args.self.now c.args.i (ap (λ o. length o.seats) (sym c.self.view_is) ∙ c.self.invariant.width) tells
+    ∙ told_copies deeds c.args.self.now c.args.i (ap (λ o. length o.seats) (sym c.self.view_is) ∙ c.self.invariant.0.width) tells
