@@ -1,10 +1,14 @@
 -- The best of several chunks.
-use Rattle.std.proofs.Common.{◌≡◌, ◌⊎◌, inl, inr, ⊎_elim, ℕ, ◌+◌, ◌<◌, ◌≤◌, Bool, true, false, ◌&&◌, List, Option, None, Some, refl, sym, ◌∙◌, ap, subst, arith, slice_index_or}
+use Rattle.std.proofs.Common.{◌≡◌, ◌≢◌, ◌==◌, ◌⊎◌, inl, inr, ⊎_elim, ℕ, ◌+◌, ◌<◌, ◌≤◌, Bool, true, false, ◌&&◌, List, [], length, Option, None, Some, refl, sym, ◌∙◌, ap, subst, arith, slice_index_or}
 use Rattle.std.specs.Prelude.{MatchOption}
-use Rattle.std.proofs.lemmas.Bool.{cases_lt}
+use Rattle.std.proofs.lemmas.Bool.{cases_lt, eqb-true, eq-eqb}
+use Rattle.std.proofs.lemmas.List.{get_or_past}
+use Rattle.pp_tree.specs.Sets.{is_in_all}
 use Rattle.pp_avail.specs.declared.ranker.Rank.{Rank}
+use Rattle.pp_avail.specs.declared.ranker.Rank.TheVariants.{Sequential, Rarest}
 use Rattle.pp_avail.specs.declared.choice.Choice.{Choice}
-use Rattle.pp_avail.specs.Offers.{Offers, has}
+use Rattle.pp_avail.specs.Offers.{Offers, has, copies}
+use Rattle.pp_avail.specs.Ranks.{rank_of}
 use Rattle.pp_avail.specs.Picks.{is_candidate, rank_in, Precedes, IsLeast, IsPick}
 use Rattle.pp_avail.specs.Choices.{IsBest, ComesFirst}
 
@@ -96,3 +100,108 @@ candidates_inside o seat wanted past j candidate = ⊎_elim (λ lt. lt) (λ ge. 
     apart : (a b : Bool) → (a && b) ≡ true → b ≡ false → ⊥
     apart true b both none = cc
     apart false b both none = cc
+
+both_true : (a b : Bool) → (a && b) ≡ true → (a ≡ true) × (b ≡ true)
+both_true true b both = (refl, both)
+both_true false b both = cc
+
+and_true : (a b : Bool) → a ≡ true → b ≡ true → (a && b) ≡ true
+and_true a b one two = cc (ap (λ (x : Bool). x && b) one)
+
+-- what is set lies in the list
+pub set_inside : (xs : List Bool) (j : ℕ) → slice_index_or xs j false ≡ true → j < length xs
+set_inside xs j set = ⊎_elim (λ lt. lt) (λ ge. let past : slice_index_or xs j false ≡ false = get_or_past xs j false ge in absurd (cc (set, past))) (cases_lt j (length xs))
+
+-- a candidate of so many copies is in all three sets
+in_all : (o : Offers) (seat : ℕ) (wanted set level : List Bool) (count j : ℕ)
+    → length wanted ≡ o.chunks → set ≡ slice_index_or o.seats seat []
+    → ((k : ℕ) → k < o.chunks → slice_index_or level k false ≡ (copies o k == count))
+    → is_candidate o seat wanted j ≡ true → copies o j ≡ count → is_in_all wanted set level j ≡ true
+in_all o seat wanted set level count j size is counted candidate equal =
+    let parts = both_true (slice_index_or wanted j false) (has o seat j) candidate in
+    let inside : j < o.chunks = omega (arith, set_inside wanted j parts.0, size) in
+    and_true (slice_index_or wanted j false) (slice_index_or set j false && slice_index_or level j false) parts.0
+    (and_true (slice_index_or set j false) (slice_index_or level j false)
+    (ap (λ (xs : List Bool). slice_index_or xs j false) is ∙ parts.1) (counted j inside ∙ eq-eqb (copies o j) count equal))
+
+-- The first of the wanted chunks that the seat has, among those of so many copies.
+pub first_of_level : (o : Offers) (seat : ℕ) (wanted set level : List Bool) (count : ℕ) (result : Option ℕ)
+    → length wanted ≡ o.chunks → set ≡ slice_index_or o.seats seat []
+    → ((j : ℕ) → j < o.chunks → slice_index_or level j false ≡ (copies o j == count))
+    → MatchOption result ((k : ℕ) → is_in_all wanted set level k ≡ false)
+    (λ i. (i < length wanted) × (is_in_all wanted set level i ≡ true) × ((k : ℕ) → k < i → is_in_all wanted set level k ≡ false))
+    → MatchOption result ((j : ℕ) → is_candidate o seat wanted j ≡ true → copies o j ≢ count)
+    (λ i. (i < o.chunks) × (is_candidate o seat wanted i ≡ true) × (copies o i ≡ count)
+    × ((j : ℕ) → is_candidate o seat wanted j ≡ true → copies o j ≡ count → i ≤ j))
+first_of_level o seat wanted set level count None size is counted none = λ j candidate equal.
+    let all = in_all o seat wanted set level count j size is counted candidate equal in
+    let out = none j in cc (all, out)
+first_of_level o seat wanted set level count (Some i) size is counted found =
+    let parts = both_true (slice_index_or wanted i false) (slice_index_or set i false && slice_index_or level i false) found.1 in
+    let rest = both_true (slice_index_or set i false) (slice_index_or level i false) parts.1 in
+    let inside : i < o.chunks = omega (arith, found.0, size) in (
+      inside,
+      and_true (slice_index_or wanted i false) (has o seat i) parts.0 (ap (λ (xs : List Bool). slice_index_or xs i false) (sym is) ∙ rest.0),
+      eqb-true (copies o i) count (sym (counted i inside) ∙ rest.1),
+      λ j candidate equal. ⊎_elim
+        (λ below. let all = in_all o seat wanted set level count j size is counted candidate equal in let out = found.2 j below in absurd (cc (all, out)))
+        (λ from. from) (cases_lt j i),
+    )
+
+-- among chunks of as many copies, the rank never falls with the number
+pub rank_rises : (kind : Rank) (i j count : ℕ) → i ≤ j → rank_of kind i count ≤ rank_of kind j count
+rank_rises Sequential i j count up = omega arith
+rank_rises Rarest i j count up = omega arith
+
+-- the candidates of up to one copy more
+pub level_taken : (kind : Rank) (o : Offers) (seat : ℕ) (wanted : List Bool) (fewer : ℕ) (best : Option Choice) (choice result : Choice)
+    → IsChoice kind o seat wanted choice → copies o choice.chunk ≡ fewer + 1
+    → ((j : ℕ) → is_candidate o seat wanted j ≡ true → copies o j ≡ fewer + 1 → choice.chunk ≤ j)
+    → IsBest kind o seat wanted (λ j. (0 < copies o j) × (copies o j ≤ fewer)) best
+    → MatchOption best (result ≡ choice) (λ b. ((result ≡ choice) ⊎ (result ≡ b)) × ComesFirst result choice × ComesFirst result b)
+    → IsLeast kind o seat wanted (λ j. (0 < copies o j) × (copies o j ≤ fewer + 1)) result.rank result.chunk
+level_taken kind o seat wanted fewer best choice result is count least before first =
+    better kind o seat wanted (λ j. (0 < copies o j) × (copies o j ≤ fewer)) (λ j. (0 < copies o j) × (copies o j ≤ fewer + 1)) best choice result is before first
+    (λ j candidate now. ⊎_elim
+    (λ below. inl (now.0, omega (arith, below)))
+    (λ from. let equal : copies o j ≡ fewer + 1 = omega (arith, now.1, from) in
+    let after : choice.chunk ≤ j = least j candidate equal in
+    let rises : rank_of kind choice.chunk (fewer + 1) ≤ rank_of kind j (fewer + 1) = rank_rises kind choice.chunk j (fewer + 1) after in
+    let mine : choice.rank ≡ rank_of kind choice.chunk (fewer + 1) = is.ranked ∙ ap (λ (n : ℕ). rank_of kind choice.chunk n) count in
+    let other : rank_in kind o j ≡ rank_of kind j (fewer + 1) = ap (λ (n : ℕ). rank_of kind j n) equal in
+    inr (omega (arith, rises, mine, other), λ e. after))
+    (cases_lt (copies o j) (fewer + 1)))
+
+-- no chunk of the level is a candidate
+pub level_empty : (kind : Rank) (o : Offers) (seat : ℕ) (wanted : List Bool) (fewer : ℕ) (best : Option Choice)
+    → ((j : ℕ) → is_candidate o seat wanted j ≡ true → copies o j ≢ fewer + 1)
+    → IsBest kind o seat wanted (λ j. (0 < copies o j) × (copies o j ≤ fewer)) best
+    → IsBest kind o seat wanted (λ j. (0 < copies o j) × (copies o j ≤ fewer + 1)) best
+level_empty kind o seat wanted fewer best none is =
+    stays kind o seat wanted (λ j. (0 < copies o j) × (copies o j ≤ fewer)) (λ j. (0 < copies o j) × (copies o j ≤ fewer + 1)) best is
+    (λ j candidate now. (now.0, ⊎_elim (λ below. omega (arith, below)) (λ from. absurd (none j candidate (omega (arith, now.1, from)))) (cases_lt (copies o j) (fewer + 1))))
+
+-- no chunk of the level has so low a rank
+pub level_later : (kind : Rank) (o : Offers) (seat : ℕ) (wanted : List Bool) (fewer : ℕ) (best : Choice)
+    → best.rank < rank_of kind 0 (fewer + 1)
+    → IsLeast kind o seat wanted (λ j. (0 < copies o j) × (copies o j ≤ fewer)) best.rank best.chunk
+    → IsLeast kind o seat wanted (λ j. (0 < copies o j) × (copies o j ≤ fewer + 1)) best.rank best.chunk
+level_later kind o seat wanted fewer best low is = record {
+  inside = is.inside;
+  candidate = is.candidate;
+  ranked = is.ranked;
+  least = λ j candidate now. ⊎_elim
+    (λ below. is.least j candidate (now.0, omega (arith, below)))
+    (λ from. let equal : copies o j ≡ fewer + 1 = omega (arith, now.1, from) in
+    let rises : rank_of kind 0 (fewer + 1) ≤ rank_of kind j (fewer + 1) = rank_rises kind 0 j (fewer + 1) (omega arith) in
+    let other : rank_in kind o j ≡ rank_of kind j (fewer + 1) = ap (λ (n : ℕ). rank_of kind j n) equal in
+    (omega (arith, low, rises, other), λ e. absurd (omega (arith, low, rises, other, e))))
+    (cases_lt (copies o j) (fewer + 1));
+}
+
+-- a candidate has from 1 to 64 copies
+pub candidates_counted : (o : Offers) (seat : ℕ) (wanted : List Bool) (end : ℕ)
+    → ((s i : ℕ) → has o s i ≡ true → (0 < copies o i) × (copies o i ≤ 64)) → 64 ≤ end
+    → (j : ℕ) → is_candidate o seat wanted j ≡ true → (0 < copies o j) × (copies o j ≤ end)
+candidates_counted o seat wanted end counted all j candidate =
+    let is = counted seat j ((both_true (slice_index_or wanted j false) (has o seat j) candidate).1) in (is.0, omega (arith, is.1, all))

@@ -273,3 +273,17 @@ none_sorted chunks seats levels empty none = record {
   where
     above : (k : ℕ) → (0 == k + 1) ≡ false
     above k = grind (arith, nat_tests)
+
+-- a chunk that a seat has is counted
+pub some_copies : (chunks : ℕ) (seats : List (List Bool)) (counts : List ℕ) (s i : ℕ) → IsCounted chunks seats counts
+    → slice_index_or (slice_index_or seats s []) i false ≡ true → (0 < copies_in seats i) × (copies_in seats i ≤ 64)
+some_copies chunks seats counts s i is held = (
+  ⊎_elim
+    (λ lt. ⊎_elim
+    (λ low. some_left chunks seats counts s i is lt low held)
+    (λ high. let past : slice_index_or (slice_index_or seats s []) i false ≡ false = get_or_past (slice_index_or seats s []) i false (omega (arith, is.sizes s lt, high)) in absurd (cc (held, past)))
+    (cases_lt i chunks))
+    (λ ge. let none : slice_index_or (slice_index_or seats s []) i false ≡ false = ap (λ (xs : List Bool). slice_index_or xs i false) (get_or_past seats s [] (omega (arith, is.width, ge))) in absurd (cc (held, none)))
+    (cases_lt s 64),
+  omega (arith, copies_at_most seats i, is.width),
+)

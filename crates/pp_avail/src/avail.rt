@@ -1,7 +1,8 @@
 // What the seats offer.
-ghost use Rattle.std.specs.Prelude.{◌≡◌, ℕ, ◌^◌, ◌<◌, ◌≤◌, ◌==◌, ◌&&◌, ◌||◌, nat_le, not, true, false, List, [], ◌∷◌, length, replicate, slice_set, slice_index_or, IfOk, MatchOption};
+ghost use Rattle.std.specs.Prelude.{◌≡◌, ◌≢◌, ℕ, ◌^◌, ◌<◌, ◌≤◌, ◌==◌, ◌&&◌, ◌||◌, nat_le, not, true, false, List, [], ◌∷◌, length, replicate, slice_set, slice_index_or, IfOk, MatchOption};
 ghost use Rattle.pp_avail.specs.Offers.{Deed, Offer, Leave, Tells, offers_of, lies_in};
 ghost use Rattle.pp_avail.specs.Offers as offers;
+ghost use Rattle.pp_avail.specs.Picks.{is_candidate};
 
 use crate::levels::shift;
 use pp_ranges::ChunkRange;
@@ -185,6 +186,30 @@ impl Avail {
             }
         }
         None
+    }
+
+    // As many copies as a chunk can have.
+    pub(crate) fn most_copies(&self) -> u8
+        ensures value { result ≡ 64 }
+        ensures copies { (seat i : ℕ) → offers.has self.now seat i ≡ true → (0 < offers.copies self.now i) × (offers.copies self.now i ≤ 64) }
+    {
+        self.levels.len() as u8
+    }
+
+    // The least chunk of so many copies that is wanted, and that the seat has.
+    pub(crate) fn first_of(&self, seat: u8, wanted: &ChunkSet, copies: u8) -> Option<u32>
+        requires seat { seat < 64 }
+        requires wanted { length wanted.now ≡ self.now.chunks }
+        requires some { 0 < copies }
+        requires copies { copies ≤ 64 }
+        ensures most { self.now.chunks ≤ 2 ^ 20 }
+        ensures first { MatchOption result ((j : ℕ) → is_candidate self.now seat wanted.now j ≡ true → offers.copies self.now j ≢ copies)
+            (λ i. (i < self.now.chunks) × (is_candidate self.now seat wanted.now i ≡ true) × (offers.copies self.now i ≡ copies)
+            × ((j : ℕ) → is_candidate self.now seat wanted.now j ≡ true → offers.copies self.now j ≡ copies → i ≤ j)) }
+    {
+        let set = &self.seats[seat as usize];
+        let level = &self.levels[copies as usize - 1];
+        wanted.first_common(set, level)
     }
 
     /// A seat offers nothing any more.

@@ -4,9 +4,10 @@
 mod avail;
 mod choice;
 mod levels;
+mod picks;
 mod plain;
 mod ranker;
 
 pub use avail::Avail;
-pub use plain::pick;
+pub use picks::pick;
 pub use ranker::{Rank, Ranker, Rule};
