@@ -5,10 +5,8 @@ use Rattle.std.proofs.lemmas.Bool.{cases_lt, eqb-true, eq-eqb}
 use Rattle.std.proofs.lemmas.List.{get_or_past}
 use Rattle.pp_tree.specs.Sets.{is_in_all}
 use Rattle.pp_avail.specs.declared.ranker.Rank.{Rank}
-use Rattle.pp_avail.specs.declared.ranker.Rank.TheVariants.{Sequential, Rarest}
 use Rattle.pp_avail.specs.declared.choice.Choice.{Choice}
 use Rattle.pp_avail.specs.Offers.{Offers, has, copies}
-use Rattle.pp_avail.specs.Ranks.{rank_of}
 use Rattle.pp_avail.specs.Picks.{is_candidate, rank_in, Precedes, IsLeast, IsPick}
 use Rattle.pp_avail.specs.Choices.{IsBest, ComesFirst}
 
@@ -44,19 +42,6 @@ better kind o seat wanted Before Now (Some b) choice result is best first covers
       (λ before. along result.rank result.chunk b.rank b.chunk (rank_in kind o j) j first.2 (best.least j candidate before))
       (λ after. along result.rank result.chunk choice.rank choice.chunk (rank_in kind o j) j first.1 after)
       (covers j candidate now);
-}
-
--- the best stays it where no candidate is newly counted
-pub stays : (kind : Rank) (o : Offers) (seat : ℕ) (wanted : List Bool) (Before Now : ℕ → Type 0) (best : Option Choice)
-    → IsBest kind o seat wanted Before best
-    → ((j : ℕ) → is_candidate o seat wanted j ≡ true → Now j → Before j)
-    → IsBest kind o seat wanted Now best
-stays kind o seat wanted Before Now None none covers = λ j candidate now. none j candidate (covers j candidate now)
-stays kind o seat wanted Before Now (Some b) best covers = record {
-  inside = best.inside;
-  candidate = best.candidate;
-  ranked = best.ranked;
-  least = λ j candidate now. best.least j candidate (covers j candidate now);
 }
 
 not_candidate : (b : Bool) → (b ≡ true → ⊥) → b ≡ false
@@ -144,60 +129,9 @@ first_of_level o seat wanted set level count (Some i) size is counted found =
       and_true (slice_index_or wanted i false) (has o seat i) parts.0 (ap (λ (xs : List Bool). slice_index_or xs i false) (sym is) ∙ rest.0),
       eqb-true (copies o i) count (sym (counted i inside) ∙ rest.1),
       λ j candidate equal. ⊎_elim
-        (λ below. let all = in_all o seat wanted set level count j size is counted candidate equal in let out = found.2 j below in absurd (cc (all, out)))
-        (λ from. from) (cases_lt j i),
+          (λ below. let all = in_all o seat wanted set level count j size is counted candidate equal in let out = found.2 j below in absurd (cc (all, out)))
+          (λ from. from) (cases_lt j i),
     )
-
--- among chunks of as many copies, the rank never falls with the number
-pub rank_rises : (kind : Rank) (i j count : ℕ) → i ≤ j → rank_of kind i count ≤ rank_of kind j count
-rank_rises Sequential i j count up = omega arith
-rank_rises Rarest i j count up = omega arith
-
--- the candidates of up to one copy more
-pub level_taken : (kind : Rank) (o : Offers) (seat : ℕ) (wanted : List Bool) (fewer : ℕ) (best : Option Choice) (choice result : Choice)
-    → IsChoice kind o seat wanted choice → copies o choice.chunk ≡ fewer + 1
-    → ((j : ℕ) → is_candidate o seat wanted j ≡ true → copies o j ≡ fewer + 1 → choice.chunk ≤ j)
-    → IsBest kind o seat wanted (λ j. (0 < copies o j) × (copies o j ≤ fewer)) best
-    → MatchOption best (result ≡ choice) (λ b. ((result ≡ choice) ⊎ (result ≡ b)) × ComesFirst result choice × ComesFirst result b)
-    → IsLeast kind o seat wanted (λ j. (0 < copies o j) × (copies o j ≤ fewer + 1)) result.rank result.chunk
-level_taken kind o seat wanted fewer best choice result is count least before first =
-    better kind o seat wanted (λ j. (0 < copies o j) × (copies o j ≤ fewer)) (λ j. (0 < copies o j) × (copies o j ≤ fewer + 1)) best choice result is before first
-    (λ j candidate now. ⊎_elim
-    (λ below. inl (now.0, omega (arith, below)))
-    (λ from. let equal : copies o j ≡ fewer + 1 = omega (arith, now.1, from) in
-    let after : choice.chunk ≤ j = least j candidate equal in
-    let rises : rank_of kind choice.chunk (fewer + 1) ≤ rank_of kind j (fewer + 1) = rank_rises kind choice.chunk j (fewer + 1) after in
-    let mine : choice.rank ≡ rank_of kind choice.chunk (fewer + 1) = is.ranked ∙ ap (λ (n : ℕ). rank_of kind choice.chunk n) count in
-    let other : rank_in kind o j ≡ rank_of kind j (fewer + 1) = ap (λ (n : ℕ). rank_of kind j n) equal in
-    inr (omega (arith, rises, mine, other), λ e. after))
-    (cases_lt (copies o j) (fewer + 1)))
-
--- no chunk of the level is a candidate
-pub level_empty : (kind : Rank) (o : Offers) (seat : ℕ) (wanted : List Bool) (fewer : ℕ) (best : Option Choice)
-    → ((j : ℕ) → is_candidate o seat wanted j ≡ true → copies o j ≢ fewer + 1)
-    → IsBest kind o seat wanted (λ j. (0 < copies o j) × (copies o j ≤ fewer)) best
-    → IsBest kind o seat wanted (λ j. (0 < copies o j) × (copies o j ≤ fewer + 1)) best
-level_empty kind o seat wanted fewer best none is =
-    stays kind o seat wanted (λ j. (0 < copies o j) × (copies o j ≤ fewer)) (λ j. (0 < copies o j) × (copies o j ≤ fewer + 1)) best is
-    (λ j candidate now. (now.0, ⊎_elim (λ below. omega (arith, below)) (λ from. absurd (none j candidate (omega (arith, now.1, from)))) (cases_lt (copies o j) (fewer + 1))))
-
--- no chunk of the level has so low a rank
-pub level_later : (kind : Rank) (o : Offers) (seat : ℕ) (wanted : List Bool) (fewer : ℕ) (best : Choice)
-    → best.rank < rank_of kind 0 (fewer + 1)
-    → IsLeast kind o seat wanted (λ j. (0 < copies o j) × (copies o j ≤ fewer)) best.rank best.chunk
-    → IsLeast kind o seat wanted (λ j. (0 < copies o j) × (copies o j ≤ fewer + 1)) best.rank best.chunk
-level_later kind o seat wanted fewer best low is = record {
-  inside = is.inside;
-  candidate = is.candidate;
-  ranked = is.ranked;
-  least = λ j candidate now. ⊎_elim
-    (λ below. is.least j candidate (now.0, omega (arith, below)))
-    (λ from. let equal : copies o j ≡ fewer + 1 = omega (arith, now.1, from) in
-    let rises : rank_of kind 0 (fewer + 1) ≤ rank_of kind j (fewer + 1) = rank_rises kind 0 j (fewer + 1) (omega arith) in
-    let other : rank_in kind o j ≡ rank_of kind j (fewer + 1) = ap (λ (n : ℕ). rank_of kind j n) equal in
-    (omega (arith, low, rises, other), λ e. absurd (omega (arith, low, rises, other, e))))
-    (cases_lt (copies o j) (fewer + 1));
-}
 
 -- a candidate has from 1 to 64 copies
 pub candidates_counted : (o : Offers) (seat : ℕ) (wanted : List Bool) (end : ℕ)

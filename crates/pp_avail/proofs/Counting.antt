@@ -163,36 +163,68 @@ some_left chunks seats counts s i is inside within held =
     let down = lowered seats s i (omega (arith, is.width, inside)) (omega (arith, is.sizes s inside, within)) held in
     omega (arith, down)
 
--- what is offered once one more chunk of one seat is
+-- what is offered once one bit of one seat's list is written
+there_written : (seats : List (List Bool)) (seat at s i : ℕ) (b : Bool) → seat < length seats → at < length (slice_index_or seats seat []) → s ≡ seat → i ≡ at
+    → slice_index_or (slice_index_or (slice_set seats seat (slice_set (slice_index_or seats seat []) at b)) s []) i false ≡ b
+there_written seats seat at s i b inside within here there =
+    ap (λ (k : ℕ). slice_index_or (slice_index_or (slice_set seats seat (slice_set (slice_index_or seats seat []) at b)) k []) i false) here
+    ∙ ap (λ (xs : List Bool). slice_index_or xs i false) (get_or-set_same seats seat (slice_set (slice_index_or seats seat []) at b) [] inside)
+    ∙ ap (λ (k : ℕ). slice_index_or (slice_set (slice_index_or seats seat []) at b) k false) there
+    ∙ get_or-set_same (slice_index_or seats seat []) at b false within
+
+elsewhere_kept : (seats : List (List Bool)) (seat at s i : ℕ) (b : Bool) → seat < length seats → (s ≢ seat) ⊎ (i ≢ at)
+    → slice_index_or (slice_index_or (slice_set seats seat (slice_set (slice_index_or seats seat []) at b)) s []) i false ≡ slice_index_or (slice_index_or seats s []) i false
+elsewhere_kept seats seat at s i b inside apart = ⊎_elim
+    (λ here.
+    ap (λ (k : ℕ). slice_index_or (slice_index_or (slice_set seats seat (slice_set (slice_index_or seats seat []) at b)) k []) i false) here
+    ∙ ap (λ (xs : List Bool). slice_index_or xs i false) (get_or-set_same seats seat (slice_set (slice_index_or seats seat []) at b) [] inside)
+    ∙ get_or-set_other (slice_index_or seats seat []) at i b false (⊎_elim (λ other. absurd (other here)) (λ other. other) apart)
+    ∙ ap (λ (k : ℕ). slice_index_or (slice_index_or seats k []) i false) (sym here))
+    (λ other. ap (λ (xs : List Bool). slice_index_or xs i false) (get_or-set_other seats seat s (slice_set (slice_index_or seats seat []) at b) [] other))
+    (cases_eq s seat)
+
+both_cases : (s seat i at : ℕ) → ((s ≡ seat) × (i ≡ at)) ⊎ ((s ≢ seat) ⊎ (i ≢ at))
+both_cases s seat i at = ⊎_elim (λ here. ⊎_elim (λ there. inl (here, there)) (λ aside. inr (inr aside)) (cases_eq i at)) (λ other. inr (inl other)) (cases_eq s seat)
+
+-- one more chunk of one seat
 pub has_added : (seats : List (List Bool)) (seat at s i : ℕ) → seat < length seats → at < length (slice_index_or seats seat [])
     → slice_index_or (slice_index_or (slice_set seats seat (slice_set (slice_index_or seats seat []) at true)) s []) i false
     ≡ (slice_index_or (slice_index_or seats s []) i false || (s == seat && i == at))
 has_added seats seat at s i inside within = ⊎_elim
-    (λ here.
-    ap (λ (k : ℕ). slice_index_or (slice_index_or (slice_set seats seat (slice_set (slice_index_or seats seat []) at true)) k []) i false) here
-    ∙ ap (λ (xs : List Bool). slice_index_or xs i false) (get_or-set_same seats seat (slice_set (slice_index_or seats seat []) at true) [] inside)
-    ∙ ⊎_elim
-    (λ there.
-    ap (λ (k : ℕ). slice_index_or (slice_set (slice_index_or seats seat []) at true) k false) there
-    ∙ get_or-set_same (slice_index_or seats seat []) at true false within
-    ∙ sym (both_yes (slice_index_or (slice_index_or seats s []) i false) s seat i at here there))
-    (λ aside.
-    get_or-set_other (slice_index_or seats seat []) at i true false aside
-    ∙ ap (λ (k : ℕ). slice_index_or (slice_index_or seats k []) i false) (sym here)
-    ∙ sym (one_no (slice_index_or (slice_index_or seats s []) i false) s seat i at (inr aside)))
-    (cases_eq i at))
-    (λ other.
-    ap (λ (xs : List Bool). slice_index_or xs i false) (get_or-set_other seats seat s (slice_set (slice_index_or seats seat []) at true) [] other)
-    ∙ sym (one_no (slice_index_or (slice_index_or seats s []) i false) s seat i at (inl other)))
-    (cases_eq s seat)
+    (λ both. there_written seats seat at s i true inside within both.0 both.1 ∙ sym (is_added (slice_index_or (slice_index_or seats s []) i false) both.0 both.1))
+    (λ apart. elsewhere_kept seats seat at s i true inside apart ∙ sym (isnt (slice_index_or (slice_index_or seats s []) i false) apart))
+    (both_cases s seat i at)
   where
-    both_yes : (b : Bool) (s seat i at : ℕ) → s ≡ seat → i ≡ at → (b || (s == seat && i == at)) ≡ true
-    both_yes true s seat i at here there = refl
-    both_yes false s seat i at here there = grind (arith, nat_tests)
+    is_added : (b : Bool) → s ≡ seat → i ≡ at → (b || (s == seat && i == at)) ≡ true
+    is_added true here there = refl
+    is_added false here there = grind (arith, nat_tests)
 
-    one_no : (b : Bool) (s seat i at : ℕ) → (s ≢ seat) ⊎ (i ≢ at) → (b || (s == seat && i == at)) ≡ b
-    one_no true s seat i at apart = refl
-    one_no false s seat i at apart = grind (arith, nat_tests)
+    isnt : (b : Bool) → (s ≢ seat) ⊎ (i ≢ at) → (b || (s == seat && i == at)) ≡ b
+    isnt true apart = refl
+    isnt false apart = grind (arith, nat_tests)
+
+-- one chunk of one seat fewer
+pub has_fewer : (seats : List (List Bool)) (seat at s i : ℕ) → seat < length seats → at < length (slice_index_or seats seat [])
+    → slice_index_or (slice_index_or (slice_set seats seat (slice_set (slice_index_or seats seat []) at false)) s []) i false
+    ≡ (not (s == seat && i == at) && slice_index_or (slice_index_or seats s []) i false)
+has_fewer seats seat at s i inside within = ⊎_elim
+    (λ both. there_written seats seat at s i false inside within both.0 both.1 ∙ sym (is_gone (slice_index_or (slice_index_or seats s []) i false) both.0 both.1))
+    (λ apart. elsewhere_kept seats seat at s i false inside apart ∙ sym (isnt (slice_index_or (slice_index_or seats s []) i false) apart))
+    (both_cases s seat i at)
+  where
+    is_gone : (b : Bool) → s ≡ seat → i ≡ at → (not (s == seat && i == at) && b) ≡ false
+    is_gone b here there = grind (arith, nat_tests)
+
+    isnt : (b : Bool) → (s ≢ seat) ⊎ (i ≢ at) → (not (s == seat && i == at) && b) ≡ b
+    isnt b apart = grind (arith, nat_tests)
+
+-- how far a seat's list is emptied
+pub emptied_more : (old cur new : Bool) (s seat i at next : ℕ) → next ≤ at
+    → cur ≡ (not (s == seat && nat_lt i next) && old)
+    → new ≡ (not (s == seat && i == at) && cur)
+    → (s ≡ seat → next ≤ i → i < at → cur ≡ false)
+    → new ≡ (not (s == seat && nat_lt i (at + 1)) && old)
+emptied_more old cur new s seat i at next up now then between = grind (arith, nat_tests)
 
 -- how far a range is filled
 pub filled_more : (old cur new : Bool) (s seat i at next first : ℕ) → first ≤ next → next ≤ at
@@ -279,11 +311,11 @@ pub some_copies : (chunks : ℕ) (seats : List (List Bool)) (counts : List ℕ) 
     → slice_index_or (slice_index_or seats s []) i false ≡ true → (0 < copies_in seats i) × (copies_in seats i ≤ 64)
 some_copies chunks seats counts s i is held = (
   ⊎_elim
-    (λ lt. ⊎_elim
-    (λ low. some_left chunks seats counts s i is lt low held)
-    (λ high. let past : slice_index_or (slice_index_or seats s []) i false ≡ false = get_or_past (slice_index_or seats s []) i false (omega (arith, is.sizes s lt, high)) in absurd (cc (held, past)))
-    (cases_lt i chunks))
-    (λ ge. let none : slice_index_or (slice_index_or seats s []) i false ≡ false = ap (λ (xs : List Bool). slice_index_or xs i false) (get_or_past seats s [] (omega (arith, is.width, ge))) in absurd (cc (held, none)))
-    (cases_lt s 64),
+      (λ lt. ⊎_elim
+      (λ low. some_left chunks seats counts s i is lt low held)
+      (λ high. let past : slice_index_or (slice_index_or seats s []) i false ≡ false = get_or_past (slice_index_or seats s []) i false (omega (arith, is.sizes s lt, high)) in absurd (cc (held, past)))
+      (cases_lt i chunks))
+      (λ ge. let none : slice_index_or (slice_index_or seats s []) i false ≡ false = ap (λ (xs : List Bool). slice_index_or xs i false) (get_or_past seats s [] (omega (arith, is.width, ge))) in absurd (cc (held, none)))
+      (cases_lt s 64),
   omega (arith, copies_at_most seats i, is.width),
 )

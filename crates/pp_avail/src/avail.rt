@@ -120,7 +120,7 @@ impl Avail {
         requires chunk { i < self.old.chunks }
         requires held { offers.has self.old seat i ≡ true }
         ensures chunks { self.new.chunks ≡ self.old.chunks }
-        ensures seats { self.new.seats ≡ slice_set self.old.seats seat (slice_set (slice_index_or self.old.seats seat []) i false) }
+        ensures seats { (s k : ℕ) → offers.has self.new s k ≡ (not (s == seat && k == i) && offers.has self.old s k) }
     {
         let set = &mut self.seats[seat as usize];
         set.remove(i);
@@ -163,13 +163,11 @@ impl Avail {
             (λ i. (from ≤ i) × (i ≤ last) × (offers.has self.now seat i ≡ false)
             × ((k : ℕ) → from ≤ k → k < i → offers.has self.now seat k ≡ true)) }
     {
-        let _ = &self.chunks;
-        for i in from..last + 1 {
-            if !self.has(seat, i) {
-                return Some(i);
-            }
+        let set = &self.seats[seat as usize];
+        match set.first_absent_from(from) {
+            Some(i) if i <= last => Some(i),
+            _ => None,
         }
-        None
     }
 
     // The least chunk from one on that a seat offers.
@@ -180,12 +178,8 @@ impl Avail {
             (λ i. (from ≤ i) × (i < self.now.chunks) × (offers.has self.now seat i ≡ true)
             × ((k : ℕ) → from ≤ k → k < i → offers.has self.now seat k ≡ false)) }
     {
-        for i in from..self.chunks {
-            if self.has(seat, i) {
-                return Some(i);
-            }
-        }
-        None
+        let set = &self.seats[seat as usize];
+        set.first_from(from)
     }
 
     // As many copies as a chunk can have.

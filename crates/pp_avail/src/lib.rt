@@ -5,8 +5,11 @@ mod avail;
 mod choice;
 mod levels;
 mod picks;
+#[cfg(test)]
 mod plain;
 mod ranker;
+#[cfg(test)]
+mod tests;
 
 pub use avail::Avail;
 pub use picks::pick;

@@ -43,7 +43,9 @@ fn considered<F: Rule>(
     ensures { IsBest ranker.now avail.now seat wanted.now (λ j. (0 < copies avail.now j) × (copies avail.now j ≤ fewer + 1)) result }
 {
     let copies = fewer + 1;
-    if let Some(best) = best && best.rank < ranker.rank(0, u32::from(copies)) {
+    if let Some(best) = best
+        && best.rank < ranker.rank(0, u32::from(copies))
+    {
         return Some(best);
     }
     let Some(chunk) = avail.first_of(seat, wanted, copies) else {

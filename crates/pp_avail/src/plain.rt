@@ -9,7 +9,12 @@ use crate::ranker::{Ranker, Rule};
 use pp_tree::ChunkSet;
 
 /// As `pick`.
-pub fn pick<F: Rule>(avail: &Avail, seat: u8, wanted: &ChunkSet, ranker: &Ranker<F>) -> Option<u32>
+pub(crate) fn pick<F: Rule>(
+    avail: &Avail,
+    seat: u8,
+    wanted: &ChunkSet,
+    ranker: &Ranker<F>,
+) -> Option<u32>
     requires seat { seat < 64 }
     requires wanted { length wanted.now ≡ avail.now.chunks }
     ensures { IsPick ranker.now avail.now seat wanted.now result }

@@ -1,4 +1,4 @@
-use Rattle.std.proofs.Common.{◌≡◌, ◌+◌, ◌-◌, ◌==◌, [], false, ap, sym, ◌∙◌, arith, length, slice_index_or}
+use Rattle.std.proofs.Common.{◌≡◌, ◌-◌, ◌==◌, [], false, ap, ◌∙◌, arith, slice_index_or}
 use Rattle.pp_avail.specs.Offers.{copies_in}
 use Rattle.pp_avail.proofs.Counting.{seat_read}
 use Rattle.pp_avail.proofs.Choosing.{first_of_level}

@@ -1,4 +1,4 @@
-use Rattle.std.proofs.Common.{◌≡◌, ◌<◌, ◌≤◌, true, false, [], ap, ◌∙◌, subst, slice_index_or}
+use Rattle.std.proofs.Common.{◌<◌, ◌≤◌, false, [], ap, ◌∙◌, subst, slice_index_or}
 use Rattle.pp_avail.specs.Offers.{copies_in}
 use Rattle.pp_avail.proofs.Counting.{some_copies}
 use Rattle.pp_avail.proofs.avail.Avail.most_copies.Goals as goal

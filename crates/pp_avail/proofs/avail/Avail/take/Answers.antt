@@ -3,7 +3,7 @@ use Rattle.std.specs.Vec.{with_items}
 use Rattle.std.proofs.lemmas.List.{with_items_is}
 use Rattle.pp_avail.specs.Offers.{copies_in}
 use Rattle.pp_avail.specs.Counts.{IsSorted, is_in}
-use Rattle.pp_avail.proofs.Counting.{seat_read, count_read, copies_at_most, some_left, counted_fewer, sorted_fewer}
+use Rattle.pp_avail.proofs.Counting.{seat_read, count_read, copies_at_most, some_left, counted_fewer, sorted_fewer, has_fewer}
 use Rattle.pp_avail.proofs.avail.Avail.take.Goals as goal
 
 pub overflow_sub-count : goal.overflow_sub-count
@@ -69,3 +69,13 @@ invariant_of-self c =
           (λ k. c.shift.ensures.sizes k ∙ ap (λ xs. length (slice_index_or xs k [])) c.deref_mut.ensures.value)
           (λ k j. c.shift.ensures.bits k j ∙ ap (λ xs. (is_in xs k j && not (j == c.args.i && k + 1 == c.index-count.result.now)) || (j == c.args.i && k + 1 == c.index-count.result.now - 1)) c.deref_mut.ensures.value)),
     )
+
+pub returns-clause-seats : goal.returns-clause-seats
+returns-clause-seats c = λ s k.
+    let inside : c.args.i < c.self.inside.chunks = omega (arith, ap (λ o. o.chunks) c.self.view_is, c.requires.chunk) in
+    ap (λ seat. slice_index_or (slice_index_or (slice_set c.self.inside.seats.items c.args.seat seat) s []) k false)
+    (c.remove.ensures ∙ ap (λ xs. slice_set xs c.args.i false) (seat_read c.self.inside.seats.items c.args.seat c.index_mut-set.result.now
+    (omega (arith, c.self.invariant.0.width, c.requires.seat)) c.index_mut-set.ensures.value))
+    ∙ has_fewer c.self.inside.seats.items c.args.seat c.args.i s k (omega (arith, c.self.invariant.0.width, c.requires.seat))
+    (omega (arith, c.self.invariant.0.sizes c.args.seat c.requires.seat, inside))
+    ∙ ap (λ o. not (s == c.args.seat && k == c.args.i) && slice_index_or (slice_index_or o.seats s []) k false) c.self.view_is
