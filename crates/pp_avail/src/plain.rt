@@ -5,19 +5,14 @@ ghost use Rattle.pp_avail.specs.Picks.{IsPick};
 
 use crate::avail::Avail;
 use crate::choice::Choice;
-use crate::ranker::{Ranker, Rule};
+use crate::ranker::Ranker;
 use pp_tree::ChunkSet;
 
 /// As `pick`.
-pub(crate) fn pick<F: Rule>(
-    avail: &Avail,
-    seat: u8,
-    wanted: &ChunkSet,
-    ranker: &Ranker<F>,
-) -> Option<u32>
+pub(crate) fn pick(avail: &Avail, seat: u8, wanted: &ChunkSet, ranker: &Ranker) -> Option<u32>
     requires seat { seat < 64 }
     requires wanted { length wanted.now ≡ avail.now.chunks }
-    ensures { IsPick ranker.now avail.now seat wanted.now result }
+    ensures { IsPick ranker.now.kind avail.now seat wanted.now result }
 {
     let mut best = None;
     for i in 0..avail.chunks() {
@@ -30,19 +25,19 @@ pub(crate) fn pick<F: Rule>(
 }
 
 // The best of the chunks up to one, by that of those below it.
-fn considered<F: Rule>(
+fn considered(
     avail: &Avail,
     seat: u8,
     wanted: &ChunkSet,
-    ranker: &Ranker<F>,
+    ranker: &Ranker,
     i: u32,
     best: Option<Choice>,
 ) -> Option<Choice>
     requires seat { seat < 64 }
     requires wanted { length wanted.now ≡ avail.now.chunks }
     requires chunk { i < avail.now.chunks }
-    requires best { IsBest ranker.now avail.now seat wanted.now (λ j. j < i) best }
-    ensures { IsBest ranker.now avail.now seat wanted.now (λ j. j < i + 1) result }
+    requires best { IsBest ranker.now.kind avail.now seat wanted.now (λ j. j < i) best }
+    ensures { IsBest ranker.now.kind avail.now seat wanted.now (λ j. j < i + 1) result }
 {
     if !wanted.contains(i) || !avail.has(seat, i) {
         return best;

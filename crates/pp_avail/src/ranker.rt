@@ -2,8 +2,6 @@
 ghost use Rattle.std.specs.Prelude.{◌≡◌, ℕ, ◌^◌, ◌<◌, ◌≤◌};
 ghost use Rattle.pp_avail.specs.Ranks.{rank_of, Follows};
 
-use std::marker::Model;
-
 /// The kinds of rules.
 #[derive(Clone, Copy, PartialEq, Eq, Debug, Drop)]
 pub enum Rank {
@@ -13,52 +11,30 @@ pub enum Rank {
     Rarest,
 }
 
-/// What ranks chunks: each closure that takes the number of a chunk and of the seats that have it. `can` says where it may be
-/// called, `gives` what it may answer.
-pub trait Rule {
-    ghost can: { Self → ℕ → ℕ → Type 0 };
+/// What ranks chunks, by the number of a chunk and of the seats that have it.
+pub type Rule = Box<dyn Fn(u32, u32) -> u32 + Drop>;
 
-    ghost gives: { Self → ℕ → ℕ → ℕ → Type 0 };
-
-    fn at(&self, i: u32, copies: u32) -> u32
-        requires { can self.now i copies }
-        ensures { gives self.now i copies result };
-}
-
-impl<F: Fn(u32, u32) -> u32> Rule for F {
-    ghost can = { λ f i copies. F.pre f i copies };
-
-    ghost gives = { λ f i copies rank. F.post f i copies rank };
-
-    fn at(&self, i: u32, copies: u32) -> u32 {
-        self(i, copies)
-    }
-}
-
-/// A closure that ranks chunks, kept beside its kind and the fact that it may be called at each chunk below 2^20 and each number
-/// of seats up to 64, and gives the rank of its kind there. It is seen as the kind.
+/// A closure that ranks chunks, kept beside its kind and the fact that it may be called at each chunk below 2^20 and each
+/// number of seats up to 64, and gives the rank of its kind there.
 #[derive(Drop)]
-pub struct Ranker<F: Rule> {
-    kind: Rank,
-    rule: F,
+pub struct Ranker {
+    pub kind: Rank,
+    rule: Rule,
+    ghost follows: { Follows kind (Rule.pre rule) (Rule.post rule) },
 }
 
-impl<F: Rule> Model for Ranker<F> {
-    ghost use Rattle.pp_avail.specs.declared.ranker.Rank.{Rank};
-    ghost use Rattle.pp_avail.specs.Ranks.{Follows};
-
-    ghost Value = { Rank };
-
-    ghost view = { λ r. r.kind };
-
-    ghost invariant = { λ r. Follows r.kind (F.can r.rule) (F.gives r.rule) };
+fn ask(rule: &Rule, i: u32, copies: u32) -> u32
+    requires { Rule.pre rule.now i copies }
+    ensures { Rule.post rule.now i copies result }
+{
+    rule(i, copies)
 }
 
-impl<F: Rule> Ranker<F> {
+impl Ranker {
     /// Keeps a rule of a kind.
-    pub fn new(kind: Rank, rule: F) -> Ranker<F>
-        requires { Follows kind (F.can rule) (F.gives rule) }
-        ensures { result ≡ kind }
+    pub fn new(kind: Rank, rule: Rule) -> Ranker
+        requires { Follows kind (Rule.pre rule) (Rule.post rule) }
+        ensures { result.kind ≡ kind }
     {
         Ranker { kind, rule }
     }
@@ -67,21 +43,26 @@ impl<F: Rule> Ranker<F> {
     pub fn rank(&self, i: u32, copies: u32) -> u32
         requires chunk { i < 2 ^ 20 }
         requires seats { copies ≤ 64 }
-        ensures { result ≡ rank_of self.now i copies }
+        ensures { result ≡ rank_of self.now.kind i copies }
     {
-        self.rule.at(i, copies)
+        ask(&self.rule, i, copies)
     }
 }
 
 #[cfg(test)]
 mod tests {
     use super::*;
+    use std::test::Fail;
 
     #[test]
-    fn keeps_rules(rt: HostRuntime) {
-        let ranker = Ranker::new(Rank::Rarest, |_, copies| copies);
+    fn keeps_rules(rt: HostRuntime) -> Result<(), Fail> {
+        let ranker = Ranker::new(
+            Rank::Rarest,
+            Box::new(rt.alloc(), |_: u32, copies: u32| copies)?,
+        );
         assert_eq!(rt; ranker.rank(7, 3), 3);
-        let ranker = Ranker::new(Rank::Sequential, |_, _| 0);
+        let ranker = Ranker::new(Rank::Sequential, Box::new(rt.alloc(), |_: u32, _: u32| 0)?);
         assert_eq!(rt; ranker.rank(7, 3), 0);
+        Ok(())
     }
 }

@@ -47,13 +47,17 @@ fn counts_seats(rt: HostRuntime) -> Result<(), Fail> {
 fn picks_the_least_rank(rt: HostRuntime) -> Result<(), Fail> {
     let avail = two_seats(rt.alloc())?;
     let mut wanted = all_wanted(rt.alloc(), 7)?;
-    let rarest = Ranker::new(Rank::Rarest, |_, copies| copies);
-    let sequential = Ranker::new(Rank::Sequential, |_, _| 0);
+    let rarest = Ranker::new(
+        Rank::Rarest,
+        Box::new(rt.alloc(), |_: u32, copies: u32| copies)?,
+    );
+    let sequential = Ranker::new(Rank::Sequential, Box::new(rt.alloc(), |_: u32, _: u32| 0)?);
     assert_eq!(rt; pick(&avail, 0, &wanted, &rarest), Some(4));
     assert_eq!(rt; pick(&avail, 0, &wanted, &sequential), Some(0));
-    for i in 0..4 {
-        wanted.remove(i);
-    }
+    wanted.remove(0);
+    wanted.remove(1);
+    wanted.remove(2);
+    wanted.remove(3);
     assert_eq!(rt; pick(&avail, 1, &wanted, &rarest), None);
     assert_eq!(rt; pick(&avail, 1, &wanted, &sequential), None);
     Ok(())
@@ -91,32 +95,42 @@ fn offer(avail: &mut Avail, seat: u8, first: u32, last: u32)
     }
 }
 
-// Every seat asks for a third of the chunks, and both bodies name the same ones.
+// Whether both bodies pick the same for a seat, as the wanted chunks grow fewer.
+fn picks_alike(alloc: Global, avail: &Avail, seat: u8, ranker: &Ranker) -> Result<bool, AllocError>
+    requires seat { seat < 64 }
+    requires chunks { avail.now.chunks ≡ 500 }
+{
+    let mut wanted = all_wanted(alloc, 500)?;
+    for round in 0..120 {
+        let picked = pick(avail, seat, &wanted, ranker);
+        if picked != plain::pick(avail, seat, &wanted, ranker) {
+            return Ok(false);
+        }
+        wanted.remove(round * 3);
+        if let Some(i) = picked {
+            wanted.remove(i);
+        }
+    }
+    Ok(true)
+}
+
 #[test]
 fn agrees_with_the_plain_pick(rt: HostRuntime) -> Result<(), Fail> {
     let avail = spread(rt.alloc())?;
-    let rarest = Ranker::new(Rank::Rarest, |_, copies| copies);
-    let sequential = Ranker::new(Rank::Sequential, |_, _| 0);
+    let rarest = Ranker::new(
+        Rank::Rarest,
+        Box::new(rt.alloc(), |_: u32, copies: u32| copies)?,
+    );
+    let sequential = Ranker::new(Rank::Sequential, Box::new(rt.alloc(), |_: u32, _: u32| 0)?);
     for seat in [0, 1, 2, 3, 4, 5, 63] {
-        let mut wanted = all_wanted(rt.alloc(), 500)?;
-        for round in 0..120 {
-            let least = pick(&avail, seat, &wanted, &rarest);
-            assert_eq!(rt;
-                least,
-                plain::pick(&avail, seat, &wanted, &rarest),
-                "seat {seat}"
-            );
-            let first = pick(&avail, seat, &wanted, &sequential);
-            assert_eq!(rt;
-                first,
-                plain::pick(&avail, seat, &wanted, &sequential),
-                "seat {seat}"
-            );
-            wanted.remove(round * 3);
-            if let Some(i) = least {
-                wanted.remove(i);
-            }
-        }
+        assert!(rt;
+            picks_alike(rt.alloc(), &avail, seat, &rarest)?,
+            "seat {seat}"
+        );
+        assert!(rt;
+            picks_alike(rt.alloc(), &avail, seat, &sequential)?,
+            "seat {seat}"
+        );
     }
     Ok(())
 }
