@@ -7,3 +7,4 @@ pub mod Law
 pub mod Scan
 pub mod Faults
 pub mod Bits
+pub mod Sets

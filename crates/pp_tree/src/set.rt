@@ -1,5 +1,6 @@
 // Sets of chunks.
 ghost use Rattle.std.specs.Prelude.{◌≡◌, ℕ, ◌<◌, ◌≤◌, true, false, replicate, length, count_by, slice_set, slice_index_or, IfOk, MatchOption};
+ghost use Rattle.pp_tree.specs.Sets.{is_in_all};
 
 use std::alloc::{AllocError, Global};
 use std::marker::Model;
@@ -79,6 +80,50 @@ impl ChunkSet {
         for (i, held) in self.held.iter().enumerate() {
             if !*held {
                 return Some(i as u32);
+            }
+        }
+        None
+    }
+
+    /// The least chunk from one on that is in the set.
+    pub fn first_from(&self, from: u32) -> Option<u32>
+        ensures { MatchOption result ((k : ℕ) → from ≤ k → slice_index_or self.now k false ≡ false)
+            (λ i. (from ≤ i) × (i < length self.now) × (slice_index_or self.now i false ≡ true)
+            × ((k : ℕ) → from ≤ k → k < i → slice_index_or self.now k false ≡ false)) }
+    {
+        for i in from..self.held.len() as u32 {
+            if self.held[i as usize] {
+                return Some(i);
+            }
+        }
+        None
+    }
+
+    /// The least chunk from one on that isn't in the set.
+    pub fn first_absent_from(&self, from: u32) -> Option<u32>
+        ensures { MatchOption result ((k : ℕ) → from ≤ k → k < length self.now → slice_index_or self.now k false ≡ true)
+            (λ i. (from ≤ i) × (i < length self.now) × (slice_index_or self.now i true ≡ false)
+            × ((k : ℕ) → from ≤ k → k < i → slice_index_or self.now k false ≡ true)) }
+    {
+        for i in from..self.held.len() as u32 {
+            if !self.held[i as usize] {
+                return Some(i);
+            }
+        }
+        None
+    }
+
+    /// The least chunk that is in this set and in two others of the same content.
+    pub fn first_common(&self, other: &ChunkSet, third: &ChunkSet) -> Option<u32>
+        requires other { length other.now ≡ length self.now }
+        requires third { length third.now ≡ length self.now }
+        ensures { MatchOption result ((k : ℕ) → is_in_all self.now other.now third.now k ≡ false)
+            (λ i. (i < length self.now) × (is_in_all self.now other.now third.now i ≡ true)
+            × ((k : ℕ) → k < i → is_in_all self.now other.now third.now k ≡ false)) }
+    {
+        for i in 0..self.held.len() as u32 {
+            if self.contains(i) && other.contains(i) && third.contains(i) {
+                return Some(i);
             }
         }
         None

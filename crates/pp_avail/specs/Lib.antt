@@ -1,0 +1,5 @@
+pub mod Offers
+pub mod Ranks
+pub mod Counts
+pub mod Picks
+pub mod Choices

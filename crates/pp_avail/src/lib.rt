@@ -1,0 +1,16 @@
+//! What each seat offers, and which chunk to ask of it next.
+#![tactic(auto)]
+
+mod avail;
+mod choice;
+mod levels;
+mod picks;
+#[cfg(test)]
+mod plain;
+mod ranker;
+#[cfg(test)]
+mod tests;
+
+pub use avail::Avail;
+pub use picks::pick;
+pub use ranker::{Rank, Ranker, Rule};

@@ -1,0 +1,68 @@
+// Rules by which a chunk is chosen.
+ghost use Rattle.std.specs.Prelude.{◌≡◌, ℕ, ◌^◌, ◌<◌, ◌≤◌};
+ghost use Rattle.pp_avail.specs.Ranks.{rank_of, Follows};
+
+/// The kinds of rules.
+#[derive(Clone, Copy, PartialEq, Eq, Debug, Drop)]
+pub enum Rank {
+    /// All chunks have the rank 0, so they come in the order of their numbers.
+    Sequential,
+    /// A chunk's rank is the number of seats that have it.
+    Rarest,
+}
+
+/// What ranks chunks, by the number of a chunk and of the seats that have it.
+pub type Rule = Box<dyn Fn(u32, u32) -> u32 + Drop>;
+
+/// A closure that ranks chunks, kept beside its kind and the fact that it may be called at each chunk below 2^20 and each
+/// number of seats up to 64, and gives the rank of its kind there.
+#[derive(Drop)]
+pub struct Ranker {
+    pub kind: Rank,
+    rule: Rule,
+    ghost follows: { Follows kind (Rule.pre rule) (Rule.post rule) },
+}
+
+fn ask(rule: &Rule, i: u32, copies: u32) -> u32
+    requires { Rule.pre rule.now i copies }
+    ensures { Rule.post rule.now i copies result }
+{
+    rule(i, copies)
+}
+
+impl Ranker {
+    /// Keeps a rule of a kind.
+    pub fn new(kind: Rank, rule: Rule) -> Ranker
+        requires { Follows kind (Rule.pre rule) (Rule.post rule) }
+        ensures { result.kind ≡ kind }
+    {
+        Ranker { kind, rule }
+    }
+
+    /// The rank of a chunk that so many seats have.
+    pub fn rank(&self, i: u32, copies: u32) -> u32
+        requires chunk { i < 2 ^ 20 }
+        requires seats { copies ≤ 64 }
+        ensures { result ≡ rank_of self.now.kind i copies }
+    {
+        ask(&self.rule, i, copies)
+    }
+}
+
+#[cfg(test)]
+mod tests {
+    use super::*;
+    use std::test::Fail;
+
+    #[test]
+    fn keeps_rules(rt: HostRuntime) -> Result<(), Fail> {
+        let ranker = Ranker::new(
+            Rank::Rarest,
+            Box::new(rt.alloc(), |_: u32, copies: u32| copies)?,
+        );
+        assert_eq!(rt; ranker.rank(7, 3), 3);
+        let ranker = Ranker::new(Rank::Sequential, Box::new(rt.alloc(), |_: u32, _: u32| 0)?);
+        assert_eq!(rt; ranker.rank(7, 3), 0);
+        Ok(())
+    }
+}

@@ -1,0 +1,136 @@
+// Offers and picks in examples.
+ghost use Rattle.std.specs.Prelude.{◌≡◌, ◌<◌, ◌≤◌, length, IfOk};
+
+use crate::{Avail, Rank, Ranker, pick, plain};
+use pp_ranges::ChunkRange;
+use pp_tree::ChunkSet;
+use std::alloc::{AllocError, Global};
+use std::test::Fail;
+
+// All chunks are wanted.
+fn all_wanted(alloc: Global, chunks: u32) -> Result<ChunkSet, AllocError>
+    ensures { IfOk result (λ set. length set ≡ chunks) }
+{
+    let mut set = ChunkSet::none(alloc, chunks)?;
+    for i in 0..chunks {
+        set.insert(i);
+    }
+    Ok(set)
+}
+
+// Of seven chunks, seat 0 offers all and seat 1 the first four.
+fn two_seats(alloc: Global) -> Result<Avail, AllocError>
+    ensures { IfOk result (λ a. a.chunks ≡ 7) }
+{
+    let mut avail = Avail::new(alloc, 7)?;
+    if let Some(range) = ChunkRange::new(0, 6) {
+        avail.offer(0, range);
+    }
+    if let Some(range) = ChunkRange::new(0, 3) {
+        avail.offer(1, range);
+    }
+    Ok(avail)
+}
+
+#[test]
+fn counts_seats(rt: HostRuntime) -> Result<(), Fail> {
+    let mut avail = two_seats(rt.alloc())?;
+    assert_eq!(rt; (avail.copies(3), avail.copies(4)), (2, 1));
+    assert!(rt; avail.has(1, 3) && !avail.has(1, 4));
+    avail.leave(0);
+    assert_eq!(rt; (avail.copies(3), avail.copies(4)), (1, 0));
+    assert!(rt; avail.has(1, 3) && !avail.has(0, 3));
+    Ok(())
+}
+
+#[test]
+fn picks_the_least_rank(rt: HostRuntime) -> Result<(), Fail> {
+    let avail = two_seats(rt.alloc())?;
+    let mut wanted = all_wanted(rt.alloc(), 7)?;
+    let rarest = Ranker::new(
+        Rank::Rarest,
+        Box::new(rt.alloc(), |_: u32, copies: u32| copies)?,
+    );
+    let sequential = Ranker::new(Rank::Sequential, Box::new(rt.alloc(), |_: u32, _: u32| 0)?);
+    assert_eq!(rt; pick(&avail, 0, &wanted, &rarest), Some(4));
+    assert_eq!(rt; pick(&avail, 0, &wanted, &sequential), Some(0));
+    wanted.remove(0);
+    wanted.remove(1);
+    wanted.remove(2);
+    wanted.remove(3);
+    assert_eq!(rt; pick(&avail, 1, &wanted, &rarest), None);
+    assert_eq!(rt; pick(&avail, 1, &wanted, &sequential), None);
+    Ok(())
+}
+
+// Seats offer ranges of 500 chunks.
+fn spread(alloc: Global) -> Result<Avail, AllocError>
+    ensures { IfOk result (λ a. a.chunks ≡ 500) }
+{
+    let mut avail = Avail::new(alloc, 500)?;
+    for (seat, first, last) in [
+        (0, 0, 499),
+        (1, 63, 64),
+        (2, 64, 300),
+        (3, 100, 499),
+        (4, 7, 7),
+        (2, 290, 310),
+        (63, 128, 447),
+    ] {
+        offer(&mut avail, seat, first, last);
+    }
+    avail.leave(3);
+    offer(&mut avail, 3, 130, 140);
+    Ok(avail)
+}
+
+fn offer(avail: &mut Avail, seat: u8, first: u32, last: u32)
+    ensures { avail.new.chunks ≡ avail.old.chunks }
+{
+    if let Some(range) = ChunkRange::new(first, last)
+        && seat < 64
+        && last < avail.chunks()
+    {
+        avail.offer(seat, range);
+    }
+}
+
+// Whether both bodies pick the same for a seat, as the wanted chunks grow fewer.
+fn picks_alike(alloc: Global, avail: &Avail, seat: u8, ranker: &Ranker) -> Result<bool, AllocError>
+    requires seat { seat < 64 }
+    requires chunks { avail.now.chunks ≡ 500 }
+{
+    let mut wanted = all_wanted(alloc, 500)?;
+    for round in 0..120 {
+        let picked = pick(avail, seat, &wanted, ranker);
+        if picked != plain::pick(avail, seat, &wanted, ranker) {
+            return Ok(false);
+        }
+        wanted.remove(round * 3);
+        if let Some(i) = picked {
+            wanted.remove(i);
+        }
+    }
+    Ok(true)
+}
+
+#[test]
+fn agrees_with_the_plain_pick(rt: HostRuntime) -> Result<(), Fail> {
+    let avail = spread(rt.alloc())?;
+    let rarest = Ranker::new(
+        Rank::Rarest,
+        Box::new(rt.alloc(), |_: u32, copies: u32| copies)?,
+    );
+    let sequential = Ranker::new(Rank::Sequential, Box::new(rt.alloc(), |_: u32, _: u32| 0)?);
+    for seat in [0, 1, 2, 3, 4, 5, 63] {
+        assert!(rt;
+            picks_alike(rt.alloc(), &avail, seat, &rarest)?,
+            "seat {seat}"
+        );
+        assert!(rt;
+            picks_alike(rt.alloc(), &avail, seat, &sequential)?,
+            "seat {seat}"
+        );
+    }
+    Ok(())
+}
