@@ -1,0 +1,52 @@
+-- Peer exchange (RFC 7574, section 3.10): the addresses that were heard, and those that peers suggested. Moments are in
+-- microseconds.
+use Rattle.std.specs.Prelude.{◌≡◌, ◌⊎◌, ℕ, ◌-◌, ◌<◌, ◌≤◌, ◌==◌, ◌&&◌, ◌||◌, nat_lt, nat_le, not, Bool, cond, Option, Some, List, [], ◌∷◌, ◌++◌, length, map, take, position, slice_get}
+use Rattle.std.specs.List.{filter, list_any}
+use Rattle.pp_traffic.specs.Past.{same_address}
+use Rattle.pp_outside.specs.Outside.{address_of}
+use Rattle.pp_outside.specs.declared.link.Address.{Address}
+use Rattle.pp_outside.specs.declared.link.Address.TheVariants.{V4, V6}
+use Rattle.pp_pex.specs.declared.table.Contact.{Contact}
+
+-- The table of the addresses that were heard, and the queue of those that were suggested, the next to be dialled first.
+pub record Exchange : Type 0 where
+  pub table : List Contact
+  pub queue : List Address
+
+-- one address
+abbrev pub is_same : Address → Address → Bool
+is_same a b = same_address (address_of a) (address_of b)
+
+-- ---- the table
+
+-- the place of an address in the table
+abbrev pub place_of : List Contact → Address → Option ℕ
+place_of table a = position (λ contact. is_same contact.address a) table
+
+-- the place of the one that was heard longest ago; of those that were heard at one moment it is the earliest
+pub record IsOldest (table : List Contact) (place : ℕ) : Type 0 where
+  pub contact : Contact
+  pub is_there : slice_get table place ≡ Some contact
+  pub first : (k : ℕ) (other : Contact) → slice_get table k ≡ Some other
+      → (contact.moment < other.moment) ⊎ ((contact.moment ≡ other.moment) × (place ≤ k))
+
+-- It was heard in the last 60 seconds, and is not the asker.
+abbrev pub is_told : Address → ℕ → Contact → Bool
+is_told asker now contact = nat_lt (now - contact.moment) 60_000_000 && not (is_same contact.address asker)
+
+-- the first 16 of those, in the table's order
+abbrev pub answers : List Contact → Address → ℕ → List Address
+answers table asker now = take 16 (map (λ contact. contact.address) (filter (is_told asker now) table))
+
+-- ---- the queue
+
+abbrev pub port_of : Address → ℕ
+port_of (V4 bytes port) = port
+port_of (V6 bytes port) = port
+
+-- An address with port 0, one that is in the queue already, and one more than 64 change nothing.
+abbrev pub is_ignored : List Address → Address → Bool
+is_ignored queue a = (port_of a == 0) || list_any (λ other. is_same other a) queue || nat_le 64 (length queue)
+
+abbrev pub suggested : List Address → Address → List Address
+suggested queue a = cond (is_ignored queue a) queue (queue ++ a ∷ [])

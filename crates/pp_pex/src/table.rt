@@ -1,0 +1,75 @@
+// The table of the addresses that were heard.
+ghost use Rattle.std.specs.Prelude.{◌≡◌, ℕ, ◌<◌, ◌++◌, [], ◌∷◌, None, IfSome, length, position, slice_set};
+ghost use Rattle.pp_pex.specs.Exchange.{is_same, place_of, IsOldest, is_told, answers};
+
+use arrayvec::ArrayVec;
+use pp_outside::Address;
+
+/// How many addresses the table has room for.
+pub(crate) const MOST_HEARD: usize = 64;
+
+/// How many addresses an answer has room for.
+const MOST_TOLD: usize = 16;
+
+// How long an address is told after it was heard, in microseconds.
+const LATELY: u64 = 60_000_000;
+
+/// An address, and the moment in microseconds when it was last heard.
+#[derive(Clone, Copy, Debug, Default)]
+pub struct Contact {
+    pub address: Address,
+    pub moment: u64,
+}
+
+/// Whether two addresses are one.
+pub(crate) fn is_same(a: Address, b: Address) -> bool
+    ensures { result ≡ is_same a b }
+{
+    match (a, b) {
+        (Address::V4(a, p), Address::V4(b, q)) => a == b && p == q,
+        (Address::V6(a, p), Address::V6(b, q)) => a == b && p == q,
+        _ => false,
+    }
+}
+
+/// The place of an address.
+pub(crate) fn place_of(table: &[Contact], address: Address) -> Option<usize>
+    ensures { result ≡ place_of table.now address }
+{
+    table
+        .iter()
+        .position(|contact| is_same(contact.address, address))
+}
+
+/// The place of the one that was heard longest ago, the earliest of those that were heard at one moment.
+pub(crate) fn oldest(table: &[Contact]) -> usize
+    requires { 0 < length table.now }
+    ensures { IsOldest table.now result }
+{
+    let mut best = 0;
+    for place in 1..table.len() {
+        if table[place].moment < table[best].moment {
+            best = place;
+        }
+    }
+    best
+}
+
+fn is_told(contact: Contact, asker: Address, now: u64) -> bool
+    ensures { result ≡ is_told asker now contact }
+{
+    now.saturating_sub(contact.moment) < LATELY && !is_same(contact.address, asker)
+}
+
+/// The first 16 addresses that were heard in the last 60 seconds, but the asker's, in the table's order.
+pub(crate) fn answer(table: &[Contact], asker: Address, now: u64) -> ArrayVec<Address, MOST_TOLD>
+    ensures { result.items ≡ answers table.now asker now }
+{
+    let mut told = ArrayVec::new();
+    for contact in table {
+        if is_told(*contact, asker, now) && !told.is_full() {
+            told.push(contact.address);
+        }
+    }
+    told
+}
