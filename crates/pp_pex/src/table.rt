@@ -1,5 +1,5 @@
 // The table of the addresses that were heard.
-ghost use Rattle.std.specs.Prelude.{◌≡◌, ℕ, ◌<◌, ◌++◌, [], ◌∷◌, None, IfSome, length, position, slice_set};
+ghost use Rattle.std.specs.Prelude.{◌≡◌, ℕ, ◌<◌, ◌++◌, [], ◌∷◌, length, take, if◌then◌else◌};
 ghost use Rattle.pp_pex.specs.Exchange.{is_same, place_of, IsOldest, is_told, answers};
 
 use arrayvec::ArrayVec;
@@ -61,15 +61,26 @@ fn is_told(contact: Contact, asker: Address, now: u64) -> bool
     now.saturating_sub(contact.moment) < LATELY && !is_same(contact.address, asker)
 }
 
+// Tells a contact too, where it is to be told and there is room.
+fn tell(told: &mut ArrayVec<Address, MOST_TOLD>, contact: Contact, asker: Address, now: u64)
+    ensures { told.new.items ≡ (if is_told asker now contact then take 16 (told.old.items ++ contact.address ∷ []) else told.old.items) }
+{
+    if !is_told(contact, asker, now) {
+        return;
+    }
+    if told.is_full() {
+        return;
+    }
+    told.push(contact.address);
+}
+
 /// The first 16 addresses that were heard in the last 60 seconds, but the asker's, in the table's order.
 pub(crate) fn answer(table: &[Contact], asker: Address, now: u64) -> ArrayVec<Address, MOST_TOLD>
     ensures { result.items ≡ answers table.now asker now }
 {
     let mut told = ArrayVec::new();
     for contact in table {
-        if is_told(*contact, asker, now) && !told.is_full() {
-            told.push(contact.address);
-        }
+        tell(&mut told, *contact, asker, now);
     }
     told
 }
