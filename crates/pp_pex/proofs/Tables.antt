@@ -7,7 +7,7 @@ use Rattle.std.proofs.lemmas.List.Elements.{filter-append}
 use Rattle.std.proofs.lemmas.Option.{slice_get_within, get_or_from_slice_get, slice_get-get_or}
 use Rattle.pp_pex.specs.declared.table.Contact.{Contact}
 use Rattle.pp_outside.specs.declared.link.Address.{Address}
-use Rattle.pp_pex.specs.Exchange.{IsOldest, is_told, answers}
+use Rattle.pp_pex.specs.Exchange.{IsOldest, addresses, is_told, answers}
 
 -- of the contacts before a place, the one that was heard longest ago
 pub record IsOldestBelow (table : List Contact) (below best : ℕ) : Type 0 where
@@ -42,11 +42,11 @@ pub answers_more : (table : List Contact) (contact : Contact) (asker : Address) 
     ≡ cond (is_told asker now contact) (take 16 (answers table asker now ++ contact.address ∷ [])) (answers table asker now)
 answers_more table contact asker now =
     let told = filter (is_told asker now) table in
-    ap (λ xs. take 16 (map (λ (c : Contact). c.address) xs)) (filter-append (is_told asker now) table (contact ∷ []))
+    ap (λ xs. take 16 (addresses xs)) (filter-append (is_told asker now) table (contact ∷ []))
     ∙ elim (is_told asker now contact)
-    as (λ b. take 16 (map (λ (c : Contact). c.address) (told ++ cond b (contact ∷ []) []))
+    as (λ b. take 16 (addresses (told ++ cond b (contact ∷ []) []))
     ≡ cond b (take 16 (answers table asker now ++ contact.address ∷ [])) (answers table asker now)) [
       | true ↦ ap (λ xs. take 16 xs) (map-append (λ (c : Contact). c.address) told (contact ∷ []))
           ∙ first_more 16 (map (λ (c : Contact). c.address) told) (contact.address ∷ [])
-      | false ↦ ap (λ xs. take 16 (map (λ (c : Contact). c.address) xs)) (append-nil told)
+      | false ↦ ap (λ xs. take 16 (addresses xs)) (append-nil told)
     ]

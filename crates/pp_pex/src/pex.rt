@@ -1,6 +1,6 @@
 // The addresses that peers exchange.
-ghost use Rattle.std.specs.Prelude.{◌≡◌, ℕ, ◌<◌, ◌≤◌, ◌++◌, [], ◌∷◌, None, IfSome, MatchOption, length, slice_set};
-ghost use Rattle.pp_pex.specs.Exchange.{place_of, IsOldest, answers, suggested};
+ghost use Rattle.std.specs.Prelude.{◌≡◌, ◌<◌, [], ◌∷◌, false, IfSome, MatchOption};
+ghost use Rattle.pp_pex.specs.Exchange.{Hears, IsOnce, answers, is_in, port_of, suggested};
 
 use crate::queue::{self, MOST_SUGGESTED};
 use crate::table::{self, Contact, MOST_HEARD};
@@ -17,11 +17,13 @@ pub struct Pex {
 }
 
 impl Model for Pex {
-    ghost use Rattle.pp_pex.specs.Exchange.{Exchange};
+    ghost use Rattle.pp_pex.specs.Exchange.{Exchange, IsOnce, HavePorts, addresses};
 
     ghost Value = { Exchange };
 
     ghost view = { λ p. record { table = p.table.items; queue = p.queue.items } };
+
+    ghost invariant = { λ p. IsOnce (addresses p.table.items) × IsOnce p.queue.items × HavePorts p.queue.items };
 }
 
 impl Pex {
@@ -38,34 +40,17 @@ impl Pex {
     /// Notes that an address was heard. One that is in the table keeps its place; a new one comes behind the others, and
     /// in a full table to the place of the one that was heard longest ago.
     pub fn heard(&mut self, address: &Address, now: u64)
-        ensures again { IfSome (place_of self.old.table address.now) (λ place.
-            self.new.table ≡ slice_set self.old.table place (record { address = address.now; moment = now })) }
-        ensures added { place_of self.old.table address.now ≡ None → length self.old.table < 64 →
-            self.new.table ≡ self.old.table ++ (record { address = address.now; moment = now }) ∷ [] }
-        ensures full { place_of self.old.table address.now ≡ None → 64 ≤ length self.old.table → (place : ℕ) × IsOldest self.old.table place
-            × (self.new.table ≡ slice_set self.old.table place (record { address = address.now; moment = now })) }
+        ensures table { Hears self.old.table address.now now self.new.table }
         ensures queue { self.new.queue ≡ self.old.queue }
     {
-        let contact = Contact {
-            address: *address,
-            moment: now,
-        };
-        if let Some(place) = table::place_of(&self.table, *address) {
-            self.table.as_mut_slice()[place] = contact;
-            return;
-        }
-        if self.table.is_full() {
-            let place = table::oldest(&self.table);
-            self.table.as_mut_slice()[place] = contact;
-            return;
-        }
-        self.table.push(contact);
+        table::hear(&mut self.table, *address, now);
     }
 
     /// What to tell a peer that asks: at most 16 addresses that were heard in the last 60 seconds, but its own, in the
     /// table's order (RFC 7574, section 8.10).
     pub fn answer(&self, except: &Address, now: u64) -> ArrayVec<Address, 16>
-        ensures { result.items ≡ answers self.now.table except.now now }
+        ensures told { result.items ≡ answers self.now.table except.now now }
+        ensures once { IsOnce result.items }
     {
         table::answer(&self.table, *except, now)
     }
@@ -83,6 +68,8 @@ impl Pex {
     pub fn next_dial(&mut self) -> Option<Address>
         ensures queue { MatchOption result ((self.old.queue ≡ []) × (self.new.queue ≡ []))
             (λ address. self.old.queue ≡ address ∷ self.new.queue) }
+        ensures once { IfSome result (λ address. is_in self.new.queue address ≡ false) }
+        ensures port { IfSome result (λ address. 0 < port_of address) }
         ensures table { self.new.table ≡ self.old.table }
     {
         queue::next(&mut self.queue)

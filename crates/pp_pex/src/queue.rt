@@ -1,7 +1,6 @@
 // The queue of the addresses that were suggested.
 ghost use Rattle.std.specs.Prelude.{◌≡◌, ℕ, ◌++◌, [], ◌∷◌, MatchOption};
-ghost use Rattle.std.specs.List.{list_any};
-ghost use Rattle.pp_pex.specs.Exchange.{is_same, port_of, suggested};
+ghost use Rattle.pp_pex.specs.Exchange.{is_in, port_of, suggested};
 
 use crate::table::is_same;
 use arrayvec::ArrayVec;
@@ -19,7 +18,7 @@ fn port_of(address: Address) -> u16
 }
 
 fn contains(queue: &[Address], address: Address) -> bool
-    ensures { result ≡ list_any (λ other. is_same other address) queue.now }
+    ensures { result ≡ is_in queue.now address }
 {
     queue.iter().any(|other| is_same(*other, address))
 }

@@ -1,6 +1,6 @@
 // The table of the addresses that were heard.
 ghost use Rattle.std.specs.Prelude.{◌≡◌, ℕ, ◌<◌, ◌++◌, [], ◌∷◌, length, take, if◌then◌else◌};
-ghost use Rattle.pp_pex.specs.Exchange.{is_same, place_of, IsOldest, is_told, answers};
+ghost use Rattle.pp_pex.specs.Exchange.{is_same, place_of, IsOldest, Hears, is_told, answers};
 
 use arrayvec::ArrayVec;
 use pp_outside::Address;
@@ -53,6 +53,26 @@ pub(crate) fn oldest(table: &[Contact]) -> usize
         }
     }
     best
+}
+
+/// Notes that an address was heard.
+pub(crate) fn hear(table: &mut ArrayVec<Contact, MOST_HEARD>, address: Address, now: u64)
+    ensures { Hears table.old.items address now table.new.items }
+{
+    let contact = Contact {
+        address,
+        moment: now,
+    };
+    if let Some(place) = place_of(table, address) {
+        table.as_mut_slice()[place] = contact;
+        return;
+    }
+    if table.is_full() {
+        let place = oldest(table);
+        table.as_mut_slice()[place] = contact;
+        return;
+    }
+    table.push(contact);
 }
 
 fn is_told(contact: Contact, asker: Address, now: u64) -> bool
