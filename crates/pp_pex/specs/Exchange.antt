@@ -28,9 +28,11 @@ IsOnce (a ∷ list) = (is_in list a ≡ false) × IsOnce list
 
 -- ---- the table
 
+-- the addresses, in order
 abbrev pub addresses : List Contact → List Address
 addresses table = map (λ contact. contact.address) table
 
+-- an address that was heard at a moment
 abbrev pub contact_of : Address → ℕ → Contact
 contact_of a now = record { address = a; moment = now }
 
@@ -63,6 +65,7 @@ answers table asker now = take 16 (addresses (filter (is_told asker now) table))
 
 -- ---- the queue
 
+-- the port of an address
 abbrev pub port_of : Address → ℕ
 port_of (V4 bytes port) = port
 port_of (V6 bytes port) = port
@@ -72,9 +75,10 @@ abbrev pub HavePorts : List Address → Type 0
 HavePorts [] = Unit {0}
 HavePorts (a ∷ list) = (0 < port_of a) × HavePorts list
 
--- An address with port 0, one that is in the queue already, and one more than 64 change nothing.
+-- An address with port 0, one that is in the queue already, and any while 64 are there.
 abbrev pub is_ignored : List Address → Address → Bool
 is_ignored queue a = (port_of a == 0) || is_in queue a || nat_le 64 (length queue)
 
+-- The queue after an address was suggested: one that isn't ignored stands behind the others.
 abbrev pub suggested : List Address → Address → List Address
 suggested queue a = cond (is_ignored queue a) queue (queue ++ a ∷ [])

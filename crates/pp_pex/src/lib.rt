@@ -9,4 +9,3 @@ mod table;
 mod tests;
 
 pub use pex::Pex;
-pub use table::Contact;

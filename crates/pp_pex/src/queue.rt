@@ -23,7 +23,7 @@ fn contains(queue: &[Address], address: Address) -> bool
     queue.iter().any(|other| is_same(*other, address))
 }
 
-/// Puts an address behind the others, but one with port 0, one that is there already, and one more than 64.
+/// Puts an address behind the others, but one with port 0, one that is there already, and any while 64 are there.
 pub(crate) fn suggest(queue: &mut ArrayVec<Address, MOST_SUGGESTED>, address: Address)
     ensures { queue.new.items ≡ suggested queue.old.items address }
 {

@@ -15,7 +15,7 @@ const MOST_TOLD: usize = 16;
 const LATELY: u64 = 60_000_000;
 
 /// An address, and the moment in microseconds when it was last heard.
-#[derive(Clone, Copy, Debug, Default)]
+#[derive(Clone, Copy, Default)]
 pub struct Contact {
     pub address: Address,
     pub moment: u64,
