@@ -152,6 +152,66 @@ fn says_the_ranges_that_are_held(rt: HostRuntime) -> Result<(), Fail> {
     Ok(())
 }
 
+// 5, 12, 19 .., with a step more at each 256th.
+fn generated() -> [u8; 7000] {
+    let mut bytes = [0u8; 7000];
+    for (j, byte) in bytes.iter_mut().enumerate() {
+        *byte = ((5 + 7 * j + j / 256 + j / 65_536) % 256) as u8;
+    }
+    bytes
+}
+
+const DESCRIPTOR_OF_SEVEN: &str =
+    "ppspp1:b42effe6efb1b60e3199b18182c63d9577f6cdfeaaa0acb3399ac8d87b4d8f73:1024:7000:2";
+
+// Seven chunks are made a store, looked at, and written out again.
+#[test]
+fn gives_a_content_back(rt: HostRuntime) -> Result<(), Fail> {
+    let alloc = rt.alloc();
+    let content = generated();
+    let stored = import_of(alloc, &content, MemoryDisk::new(alloc, &[])?)?;
+    assert_eq!(rt; stored.status, 0);
+    assert_eq!(rt; stored.disk.bytes().len(), 7680);
+    let checked = check_of(alloc, DESCRIPTOR_OF_SEVEN, stored.disk.bytes())?;
+    assert_eq!(rt; checked.status, 0);
+    assert_eq!(rt; checked.sink.bytes(), b"held 7 of 7 0-6\n".as_slice());
+    let exported = import_over(
+        alloc,
+        &["export", "s", DESCRIPTOR_OF_SEVEN],
+        MemoryDisk::new(alloc, stored.disk.bytes())?,
+        MemorySink::new(alloc),
+        &mut MemorySource::new(&[]),
+    )?;
+    assert_eq!(rt; exported.status, 0);
+    assert_eq!(rt; exported.sink.bytes(), content.as_slice());
+    Ok(())
+}
+
+// The most chunks, on an empty file.
+#[test]
+fn says_that_nothing_is_held_of_a_million_chunks(rt: HostRuntime) -> Result<(), Fail> {
+    let alloc = rt.alloc();
+    let descriptor =
+        "ppspp1:ba7816bf8f01cfea414140de5dae2223b00361a396177a9cb410ff61f20015ad:256:268435456:2";
+    let checked = check_of(alloc, descriptor, &[])?;
+    assert_eq!(rt; checked.status, 0);
+    assert_eq!(rt;
+        checked.sink.bytes(),
+        b"held 0 of 1048576 none\n".as_slice()
+    );
+    let exported = import_over(
+        alloc,
+        &["export", "s", descriptor],
+        MemoryDisk::new(alloc, &[])?,
+        MemorySink::new(alloc),
+        &mut MemorySource::new(&[]),
+    )?;
+    assert_eq!(rt; exported.status, 3);
+    assert_eq!(rt; exported.sink.bytes().len(), 0);
+    assert_eq!(rt; exported.disk.bytes().len(), 0);
+    Ok(())
+}
+
 #[test]
 fn names_the_first_byte_of_another_file(rt: HostRuntime) -> Result<(), Fail> {
     let alloc = rt.alloc();
