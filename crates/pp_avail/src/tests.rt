@@ -1,5 +1,5 @@
 // Offers and picks in examples.
-ghost use Rattle.std.specs.Prelude.{◌≡◌, ◌<◌, ◌≤◌, length, IfOk};
+ghost use Rattle.std.specs.Prelude.{◌≡◌, ◌*◌, ◌<◌, ◌≤◌, length, IfOk};
 
 use crate::{Avail, Rank, Ranker, pick, plain};
 use pp_ranges::ChunkRange;
@@ -132,5 +132,103 @@ fn agrees_with_the_plain_pick(rt: HostRuntime) -> Result<(), Fail> {
             "seat {seat}"
         );
     }
+    Ok(())
+}
+
+const CHUNKS: u32 = 1_048_576;
+
+// Of as many chunks as may be, seats 0 and 1 offer all.
+fn two_offer_all(alloc: Global) -> Result<Avail, AllocError>
+    ensures { IfOk result (λ a. a.chunks ≡ CHUNKS) }
+{
+    let mut avail = Avail::new(alloc, CHUNKS)?;
+    offer(&mut avail, 0, 0, CHUNKS - 1);
+    offer(&mut avail, 1, 0, CHUNKS - 1);
+    Ok(avail)
+}
+
+fn none_wanted(alloc: Global, chunks: u32) -> Result<ChunkSet, AllocError>
+    ensures { IfOk result (λ set. length set ≡ chunks) }
+{
+    ChunkSet::none(alloc, chunks)
+}
+
+// 100 chunks far apart are wanted.
+fn want_spread(wanted: &mut ChunkSet)
+    requires { length wanted.old ≡ CHUNKS }
+    ensures { length wanted.new ≡ CHUNKS }
+{
+    for i in 0..100 {
+        wanted.insert(i * 10_000);
+    }
+}
+
+// Whether so many picks, of both seats in turn, give the chunks so far apart in order; each is wanted no more once it is picked.
+fn picks_in_order(
+    avail: &Avail,
+    wanted: &mut ChunkSet,
+    ranker: &Ranker,
+    picks: u32,
+    apart: u32,
+) -> bool
+    requires chunks { avail.now.chunks ≡ CHUNKS }
+    requires wanted { length wanted.old ≡ CHUNKS }
+    requires inside { picks * apart ≤ CHUNKS }
+    ensures { length wanted.new ≡ CHUNKS }
+{
+    for i in 0..picks {
+        let chunk = i * apart;
+        if pick(avail, (i % 2) as u8, wanted, ranker) != Some(chunk) {
+            return false;
+        }
+        wanted.remove(chunk);
+    }
+    true
+}
+
+// Whether 1,000 times 100 picks give the chunks that are wanted in order.
+fn picks_few_in_order(avail: &Avail, wanted: &mut ChunkSet, ranker: &Ranker) -> bool
+    requires chunks { avail.now.chunks ≡ CHUNKS }
+    requires wanted { length wanted.old ≡ CHUNKS }
+    ensures { length wanted.new ≡ CHUNKS }
+{
+    for _ in 0..1_000 {
+        want_spread(wanted);
+        if !picks_in_order(avail, wanted, ranker, 100, 10_000) {
+            return false;
+        }
+    }
+    true
+}
+
+#[test]
+fn picks_among_few_wanted(rt: HostRuntime) -> Result<(), Fail> {
+    let avail = two_offer_all(rt.alloc())?;
+    let mut wanted = none_wanted(rt.alloc(), CHUNKS)?;
+    let rarest = Ranker::new(
+        Rank::Rarest,
+        Box::new(rt.alloc(), |_: u32, copies: u32| copies)?,
+    );
+    assert!(rt; picks_few_in_order(&avail, &mut wanted, &rarest));
+    assert_eq!(rt;
+        (wanted.count(), pick(&avail, 0, &wanted, &rarest)),
+        (0, None)
+    );
+    Ok(())
+}
+
+#[test]
+fn picks_among_all_wanted(rt: HostRuntime) -> Result<(), Fail> {
+    let avail = two_offer_all(rt.alloc())?;
+    let mut wanted = all_wanted(rt.alloc(), CHUNKS)?;
+    let rarest = Ranker::new(
+        Rank::Rarest,
+        Box::new(rt.alloc(), |_: u32, copies: u32| copies)?,
+    );
+    assert!(rt; picks_in_order(&avail, &mut wanted, &rarest, 100_000, 1));
+    assert_eq!(rt;
+        (wanted.count(), wanted.first_from(0)),
+        (948_576, Some(100_000))
+    );
     Ok(())
 }

@@ -1,1 +1,4 @@
+pub mod Seats
+pub mod Supporting
+pub mod Timing
 pub mod Views

@@ -8,6 +8,8 @@ use Rattle.pp_terms.specs.Traffic as traffic
 use Rattle.pp_terms.specs.Traffic.{Record, Received, Sent}
 use Rattle.pp_terms.specs.Descriptor.{Descriptor, chunks_of}
 use Rattle.pp_terms.specs.Options.{Options}
+use Rattle.pp_terms.specs.Range as range
+use Rattle.pp_terms.specs.Range.{IsRunsFrom, has}
 use Rattle.pp_terms.specs.Messages.{Message, Handshake, Data, Ack, Have, Integrity, Pex4, PexReq, Request, Cancel, Choke, Unchoke, Pex6, WireKind, Messages, Datagram, datagram, messages_at}
 use Rattle.pp_traffic.specs.Past.{now, read, same_address, comes_from, goes_to, is_event, is_number, some_since, is_at, EachRecord}
 use Rattle.pp_traffic.specs.Life.{Life, greets, answers, comes_on, closes_on, closes, is_closed, fits, begins_fitting}
@@ -25,7 +27,7 @@ use Rattle.pp_core.specs.Standing.{Follows, SeatStands, HasSeat, NonePlain}
 use Rattle.pp_core.specs.declared.counts.Counts.{Counts}
 use Rattle.pp_core.specs.declared.channel.Channel.{Channel}
 use Rattle.pp_core.specs.declared.hearing.Heard as heard
-use Rattle.pp_core.proofs.Following.{SameSeat, same_seat, LeftOn, follow_all, closed_by, open_by}
+use Rattle.pp_core.proofs.Following.{SameSeat, same_seat, LeftOn, Since, follow_all, closed_by, open_by}
 use Rattle.pp_core.proofs.Seats.{same_self, same_is, seat_began, GoesOn, seat_on, follow_taken}
 
 -- ---- a record that isn't on the seat's channel
@@ -56,18 +58,19 @@ stays_put c = record { address = refl; local = refl; remote = refl; proven = ref
 pub due_again : (c : Channel) → StaysPut c (record c { reply_due = true })
 due_again c = record { address = refl; local = refl; remote = refl; proven = refl; replied = refl; asked = refl; flying = refl }
 
-follow_put : (whole : Type 0) (c new : Channel) (s : List Line) → StaysPut c new → Follows whole c s → Follows whole new s
-follow_put whole c new s p f = record {
-  asked_for = λ e. f.asked_for (sym p.asked ∙ e);
-  kept = λ w e. p.asked ∙ f.kept w e;
+follow_put : (chunks : ℕ) (whole after : ℕ → Type 0) (c new : Channel) (s : List Line) → ((i : ℕ) → after i → whole i) → StaysPut c new → Follows chunks whole c s → Follows chunks after new s
+follow_put chunks whole after c new s less p f = record {
+  runs = subst (λ (xs : List range.Span). IsRunsFrom 0 xs) (sym p.asked) f.runs;
+  within = λ i e. f.within i (ap (λ (xs : List range.Span). has xs i) (sym p.asked) ∙ e);
+  asked_for = λ i e. f.asked_for i (ap (λ (xs : List range.Span). has xs i) (sym p.asked) ∙ e);
+  kept = λ i w e. ap (λ (xs : List range.Span). has xs i) p.asked ∙ f.kept i (less i w) e;
   unchoked = f.unchoked;
   flies = p.flying ∙ f.flies;
-  first = f.first;
 }
 
-pub seat_apart : (d : Descriptor) (whole : Type 0) (c new : Channel) (life : Life) (at : ℕ) (sender : traffic.Address) (bytes : List ℕ) (past : List Record)
-    → SeatStands d whole c life past → StaysPut c new → comes_on d life (Received at sender bytes) ≡ false → SeatStands d whole new life (Received at sender bytes ∷ past)
-seat_apart d whole c new life at sender bytes past s p e =
+pub seat_apart : (d : Descriptor) (whole after : ℕ → Type 0) (c new : Channel) (life : Life) (at : ℕ) (sender : traffic.Address) (bytes : List ℕ) (past : List Record) → ((i : ℕ) → after i → whole i)
+    → SeatStands d whole c life past → StaysPut c new → comes_on d life (Received at sender bytes) ≡ false → SeatStands d after new life (Received at sender bytes ∷ past)
+seat_apart d whole after c new life at sender bytes past less s p e =
     let on : GoesOn d c new life (Received at sender bytes) = record {
       address = p.address;
       local = p.local;
@@ -76,11 +79,11 @@ seat_apart d whole c new life at sender bytes past s p e =
       replied = p.replied;
       open_still = comes_not d life (Received at sender bytes) e;
     } in
-    seat_on d whole whole c new life (Received at sender bytes) past s on
-    (subst (λ (xs : List Line). Follows whole new xs) (sym (story_apart d life at sender bytes past (seat_began d whole c life past s) e))
-    (follow_taken whole new (max at (now past)) (story d life past) (follow_put whole c new (story d life past) p s.follows)))
+    seat_on d whole after c new life (Received at sender bytes) past s on
+    (subst (λ (xs : List Line). Follows (chunks_of d) after new xs) (sym (story_apart d life at sender bytes past (seat_began d whole c life past s) e))
+    (follow_taken (chunks_of d) after new (max at (now past)) (story d life past) (follow_put (chunks_of d) whole after c new (story d life past) less p s.follows)))
 
-pub seat_quiet : (d : Descriptor) (whole : Type 0) (c : Channel) (life : Life) (at : ℕ) (past : List Record) → SeatStands d whole c life past → SeatStands d whole c life (traffic.Quiet at ∷ past)
+pub seat_quiet : (d : Descriptor) (whole : ℕ → Type 0) (c : Channel) (life : Life) (at : ℕ) (past : List Record) → SeatStands d whole c life past → SeatStands d whole c life (traffic.Quiet at ∷ past)
 seat_quiet d whole c life at past s =
     let on : GoesOn d c c life (traffic.Quiet at) = record {
       address = refl;
@@ -91,8 +94,8 @@ seat_quiet d whole c life at past s =
       open_still = refl;
     } in
     seat_on d whole whole c c life (traffic.Quiet at) past s on
-    (subst (λ (xs : List Line). Follows whole c xs) (sym (story_step d life (traffic.Quiet at) past (seat_began d whole c life past s)))
-    (follow_taken whole c (max at (now past)) (story d life past) s.follows))
+    (subst (λ (xs : List Line). Follows (chunks_of d) whole c xs) (sym (story_step d life (traffic.Quiet at) past (seat_began d whole c life past s)))
+    (follow_taken (chunks_of d) whole c (max at (now past)) (story d life past) s.follows))
 
 -- ---- one that is
 
@@ -106,26 +109,27 @@ story_on d life at sender bytes past lt e =
     ∙ ap (λ (ms : List Message). Taken (max at (now past)) ∷ hear (max at (now past)) ms (story d life past))
     (cond-true (comes_on d life (Received at sender bytes)) (read d (Received at sender bytes)).messages.read [] e)
 
-seat_heard : (d : Descriptor) (whole : Type 0) (chunks : ℕ) (c new : Channel) (k : Counts) (life : Life) (at : ℕ) (sender : traffic.Address) (bytes : List ℕ) (past : List Record)
+seat_heard : (d : Descriptor) (whole after : ℕ → Type 0) (c new : Channel) (k : Counts) (life : Life) (at : ℕ) (sender : traffic.Address) (bytes : List ℕ) (past : List Record)
     → SeatStands d whole c life past → comes_on d life (Received at sender bytes) ≡ true
-    → (hear_all chunks (datagram d.method d.chunk bytes).messages.fault (datagram d.method d.chunk bytes).messages.read (Proven c) k).channel ≡ Some new
-    → SeatStands d whole new life (Received at sender bytes ∷ past)
-seat_heard d whole chunks c new k life at sender bytes past s comes left =
+    → Since (chunks_of d) whole after (hear_all (chunks_of d) (datagram d.method d.chunk bytes).messages.fault (datagram d.method d.chunk bytes).messages.read (Proven c) k).counts
+    → (hear_all (chunks_of d) (datagram d.method d.chunk bytes).messages.fault (datagram d.method d.chunk bytes).messages.read (Proven c) k).channel ≡ Some new
+    → SeatStands d after new life (Received at sender bytes ∷ past)
+seat_heard d whole after c new k life at sender bytes past s comes since left =
     let it = (datagram d.method d.chunk bytes).messages in
     let f = s.follows in
-    let started : Follows whole (Proven c) (story d life past) = record { asked_for = f.asked_for; kept = f.kept; unchoked = f.unchoked; flies = f.flies; first = f.first } in
-    let after = follow_all whole chunks it.fault it.read (Proven c) new k (max at (now past)) (story d life past) started left in
+    let started : Follows (chunks_of d) whole (Proven c) (story d life past) = record { runs = f.runs; within = f.within; asked_for = f.asked_for; kept = f.kept; unchoked = f.unchoked; flies = f.flies } in
+    let then = follow_all (chunks_of d) whole after it.fault it.read (Proven c) new k (max at (now past)) (story d life past) since started left in
     let on : GoesOn d c new life (Received at sender bytes) = record {
-      address = after.same.address;
-      local = after.same.local;
-      remote = after.same.remote;
-      proven = after.same.proven ∙ ap (λ (b : Bool). b || c.proven) (sym comes);
-      replied = after.same.replied;
-      open_still = and_right (comes_on d life (Received at sender bytes)) (closes it.read) (open_by chunks it.fault it.read (Proven c) new k left);
+      address = then.same.address;
+      local = then.same.local;
+      remote = then.same.remote;
+      proven = then.same.proven ∙ ap (λ (b : Bool). b || c.proven) (sym comes);
+      replied = then.same.replied;
+      open_still = and_right (comes_on d life (Received at sender bytes)) (closes it.read) (open_by (chunks_of d) it.fault it.read (Proven c) new k left);
     } in
-    seat_on d whole whole c new life (Received at sender bytes) past s on
-    (subst (λ (xs : List Line). Follows whole new xs) (sym (story_on d life at sender bytes past (seat_began d whole c life past s) comes))
-    (follow_taken whole new (max at (now past)) (hear (max at (now past)) it.read (story d life past)) after.follows))
+    seat_on d whole after c new life (Received at sender bytes) past s on
+    (subst (λ (xs : List Line). Follows (chunks_of d) after new xs) (sym (story_on d life at sender bytes past (seat_began d whole c life past s) comes))
+    (follow_taken (chunks_of d) after new (max at (now past)) (hear (max at (now past)) it.read (story d life past)) then.follows))
 
 -- ---- whose datagram it is
 
@@ -158,8 +162,12 @@ zero_apart c number sender some is = and_right (same_address (address_of sender)
 -- ---- what a datagram leaves of a seat
 
 -- The channel that is left stands; where none is, a closing handshake came on it.
-abbrev pub LeavesSeat : Descriptor → Type 0 → Life → Record → List Record → Option Channel → Type 0
+abbrev pub LeavesSeat : Descriptor → (ℕ → Type 0) → Life → Record → List Record → Option Channel → Type 0
 LeavesSeat d whole life r past left = MatchOption left (closes_on d life r ≡ true) (λ new. SeatStands d whole new life (r ∷ past))
+
+-- where nothing was given up
+abbrev pub Leaves : Descriptor → (ℕ → Type 0) → (ℕ → Type 0) → Life → Record → List Record → heard.Heard → Type 0
+Leaves d whole after life r past h = Since (chunks_of d) whole after h.counts → LeavesSeat d after life r past h.channel
 
 greets_put : (chunks : ℕ) (sender : Address) (source : ℕ) (rest : Messages) (c : Channel) (k : Counts) (numbers : ChaCha) (P : Option Channel → Type 0)
     → ((new : Channel) → StaysPut c new → P (Some new)) → P (greet_fitting chunks sender source rest (Some c) k numbers).heard.channel
@@ -201,53 +209,53 @@ channel? None = inl refl
 channel? (Some x) = inr (x, refl)
 
 -- a datagram of too few bytes, for a number, for channel 0
-leaves_own : (d : Descriptor) (whole : Type 0) (chunks : ℕ) (c : Channel) (k : Counts) (life : Life) (at : ℕ) (sender : traffic.Address) (bytes : List ℕ) (past : List Record)
+leaves_own : (d : Descriptor) (whole after : ℕ → Type 0) (c : Channel) (k : Counts) (life : Life) (at : ℕ) (sender : traffic.Address) (bytes : List ℕ) (past : List Record)
     → SeatStands d whole c life past → comes_on d life (Received at sender bytes) ≡ true
-    → LeavesSeat d whole life (Received at sender bytes) past (hear_all chunks (datagram d.method d.chunk bytes).messages.fault (datagram d.method d.chunk bytes).messages.read (Proven c) k).channel
-leaves_own d whole chunks c k life at sender bytes past s comes =
+    → Leaves d whole after life (Received at sender bytes) past (hear_all (chunks_of d) (datagram d.method d.chunk bytes).messages.fault (datagram d.method d.chunk bytes).messages.read (Proven c) k)
+leaves_own d whole after c k life at sender bytes past s comes since =
     let it = (datagram d.method d.chunk bytes).messages in
     ⊎_elim
-    (λ none. subst (λ (o : Option Channel). LeavesSeat d whole life (Received at sender bytes) past o) (sym none)
-    (and_from (comes_on d life (Received at sender bytes)) (closes it.read) comes (closed_by chunks it.fault it.read (Proven c) k none)))
-    (λ some. subst (λ (o : Option Channel). LeavesSeat d whole life (Received at sender bytes) past o) (sym some.1)
-    (seat_heard d whole chunks c some.0 k life at sender bytes past s comes some.1))
-    (channel? (hear_all chunks it.fault it.read (Proven c) k).channel)
+    (λ none. subst (λ (o : Option Channel). LeavesSeat d after life (Received at sender bytes) past o) (sym none)
+    (and_from (comes_on d life (Received at sender bytes)) (closes it.read) comes (closed_by (chunks_of d) it.fault it.read (Proven c) k none)))
+    (λ some. subst (λ (o : Option Channel). LeavesSeat d after life (Received at sender bytes) past o) (sym some.1)
+    (seat_heard d whole after c some.0 k life at sender bytes past s comes since some.1))
+    (channel? (hear_all (chunks_of d) it.fault it.read (Proven c) k).channel)
 
-leaves_numbered : (d : Descriptor) (whole : Type 0) (c : Channel) (k : Counts) (life : Life) (at number : ℕ) (is_bare : Bool) (sender : Address) (bytes : List ℕ) (past : List Record)
+leaves_numbered : (d : Descriptor) (whole after : ℕ → Type 0) (c : Channel) (k : Counts) (life : Life) (at number : ℕ) (is_bare : Bool) (sender : Address) (bytes : List ℕ) (past : List Record)
     → SeatStands d whole c life past → (datagram d.method d.chunk bytes).channel ≡ Some number
-    → LeavesSeat d whole life (Received at (address_of sender) bytes) past (take_numbered (chunks_of d) number is_bare sender (datagram d.method d.chunk bytes).messages (Some c) k).channel
-leaves_numbered d whole c k life at number is_bare sender bytes past s is =
+    → Leaves d whole after life (Received at (address_of sender) bytes) past (take_numbered (chunks_of d) number is_bare sender (datagram d.method d.chunk bytes).messages (Some c) k)
+leaves_numbered d whole after c k life at number is_bare sender bytes past s is =
     let it = (datagram d.method d.chunk bytes).messages in
     let by = comes_by d life c at number sender bytes s.at s.local is in
     ⊎_elim
-    (λ own. subst (λ (h : heard.Heard). LeavesSeat d whole life (Received at (address_of sender) bytes) past h.channel)
+    (λ own. subst (λ (h : heard.Heard). Leaves d whole after life (Received at (address_of sender) bytes) past h)
     (sym (cond-true (is_own number sender c) (take_own (chunks_of d) is_bare it c k) (record { channel = Some c; counts = is_stranger k }) own))
-    (leaves_own d whole (chunks_of d) c (cond is_bare (is_kept_alive k) k) life at (address_of sender) bytes past s (by ∙ own_comes c number sender own)))
-    (λ other. subst (λ (h : heard.Heard). LeavesSeat d whole life (Received at (address_of sender) bytes) past h.channel)
+    (leaves_own d whole after c (cond is_bare (is_kept_alive k) k) life at (address_of sender) bytes past s (by ∙ own_comes c number sender own)))
+    (λ other. subst (λ (h : heard.Heard). Leaves d whole after life (Received at (address_of sender) bytes) past h)
     (sym (cond-false (is_own number sender c) (take_own (chunks_of d) is_bare it c k) (record { channel = Some c; counts = is_stranger k }) other))
-    (seat_apart d whole c c life at (address_of sender) bytes past s (stays_put c) (by ∙ other_apart c number sender other)))
+    (λ since. seat_apart d whole after c c life at (address_of sender) bytes past (λ i w. (since i w).0) s (stays_put c) (by ∙ other_apart c number sender other)))
     (cases_Bool (is_own number sender c))
 
-leaves_for : (d : Descriptor) (whole : Type 0) (c : Channel) (k : Counts) (numbers : ChaCha) (life : Life) (at : ℕ) (sender : Address) (bytes : List ℕ) (past : List Record) (channel : Option ℕ)
+leaves_for : (d : Descriptor) (whole after : ℕ → Type 0) (c : Channel) (k : Counts) (numbers : ChaCha) (life : Life) (at : ℕ) (sender : Address) (bytes : List ℕ) (past : List Record) (channel : Option ℕ)
     → SeatStands d whole c life past → (datagram d.method d.chunk bytes).channel ≡ channel
-    → LeavesSeat d whole life (Received at (address_of sender) bytes) past (take_for d sender bytes (datagram d.method d.chunk bytes).messages channel (Some c) k numbers).heard.channel
-leaves_for d whole c k numbers life at sender bytes past None s is =
-    seat_apart d whole c c life at (address_of sender) bytes past s (stays_put c)
+    → Leaves d whole after life (Received at (address_of sender) bytes) past (take_for d sender bytes (datagram d.method d.chunk bytes).messages channel (Some c) k numbers).heard
+leaves_for d whole after c k numbers life at sender bytes past None s is = λ since.
+    seat_apart d whole after c c life at (address_of sender) bytes past (λ i w. (since i w).0) s (stays_put c)
     (and_right (same_address (address_of sender) life.address) (is_number life.local (datagram d.method d.chunk bytes).channel) (ap (is_number life.local) is))
-leaves_for d whole c k numbers life at sender bytes past (Some number) s is =
+leaves_for d whole after c k numbers life at sender bytes past (Some number) s is =
     let it = (datagram d.method d.chunk bytes).messages in
     let by = comes_by d life c at number sender bytes s.at s.local is in
     ⊎_elim
-    (λ anew. subst (λ (t : taking.Taken). LeavesSeat d whole life (Received at (address_of sender) bytes) past t.heard.channel)
+    (λ anew. subst (λ (t : taking.Taken). Leaves d whole after life (Received at (address_of sender) bytes) past t.heard)
     (sym (cond-true (eqb number 0) (take_greeting d sender it.fault it.read (Some c) k numbers) (record { heard = take_numbered (chunks_of d) number (eqb (length bytes) 4) sender it (Some c) k; numbers = numbers }) anew))
-    (greeting_put d sender it.fault it.read c k numbers (LeavesSeat d whole life (Received at (address_of sender) bytes) past)
-    (λ new put. seat_apart d whole c new life at (address_of sender) bytes past s put (by ∙ zero_apart c number sender s.local_some (eqb-true number 0 anew)))))
-    (λ numbered. subst (λ (t : taking.Taken). LeavesSeat d whole life (Received at (address_of sender) bytes) past t.heard.channel)
+    (λ since. greeting_put d sender it.fault it.read c k numbers (LeavesSeat d after life (Received at (address_of sender) bytes) past)
+    (λ new put. seat_apart d whole after c new life at (address_of sender) bytes past (λ i w. (since i w).0) s put (by ∙ zero_apart c number sender s.local_some (eqb-true number 0 anew)))))
+    (λ numbered. subst (λ (t : taking.Taken). Leaves d whole after life (Received at (address_of sender) bytes) past t.heard)
     (sym (cond-false (eqb number 0) (take_greeting d sender it.fault it.read (Some c) k numbers) (record { heard = take_numbered (chunks_of d) number (eqb (length bytes) 4) sender it (Some c) k; numbers = numbers }) numbered))
-    (leaves_numbered d whole c k life at number (eqb (length bytes) 4) sender bytes past s is))
+    (leaves_numbered d whole after c k life at number (eqb (length bytes) 4) sender bytes past s is))
     (cases_Bool (eqb number 0))
 
-pub leaves_seat : (d : Descriptor) (whole : Type 0) (c : Channel) (k : Counts) (numbers : ChaCha) (life : Life) (at : ℕ) (sender : Address) (bytes : List ℕ) (past : List Record)
+pub leaves_seat : (d : Descriptor) (whole after : ℕ → Type 0) (c : Channel) (k : Counts) (numbers : ChaCha) (life : Life) (at : ℕ) (sender : Address) (bytes : List ℕ) (past : List Record)
     → SeatStands d whole c life past
-    → LeavesSeat d whole life (Received at (address_of sender) bytes) past (take_datagram d sender bytes (Some c) k numbers).heard.channel
-leaves_seat d whole c k numbers life at sender bytes past s = leaves_for d whole c k numbers life at sender bytes past (datagram d.method d.chunk bytes).channel s refl
+    → Leaves d whole after life (Received at (address_of sender) bytes) past (take_datagram d sender bytes (Some c) k numbers).heard
+leaves_seat d whole after c k numbers life at sender bytes past s = leaves_for d whole after c k numbers life at sender bytes past (datagram d.method d.chunk bytes).channel s refl

@@ -1,9 +1,12 @@
 -- What a turn does to counts.
 use Rattle.std.proofs.Common.{◌≡◌, ◌⊎◌, inl, inr, ⊎_elim, ℕ, ◌+◌, ◌-◌, ◌^◌, ◌<◌, ◌≤◌, min, Bool, true, false, List, length, refl, sym, ◌∙◌, ap, subst, arith}
+use Rattle.std.specs.Prelude.{slice_index_or}
+use Rattle.std.proofs.lemmas.Bool.{false≢true}
+use Rattle.pp_terms.specs.Book.{LookUp}
 use Rattle.pp_terms.specs.Count.{HasRisen}
-use Rattle.pp_terms.specs.Descriptor.{Descriptor, chunks_of}
+use Rattle.pp_scan.specs.Holding.{is_there}
+use Rattle.pp_terms.specs.Descriptor.{Descriptor}
 use Rattle.pp_terms.specs.Disk.{DiskState, IsKnown}
-use Rattle.pp_terms.specs.Image.{holds}
 use Rattle.pp_terms.specs.Traffic.{LinkState}
 use Rattle.pp_outside.specs.Arrivals.{IsEvent}
 use Rattle.pp_outside.specs.declared.link.Event.{Event}
@@ -15,38 +18,43 @@ use Rattle.pp_core.specs.Standing.{State, IsWhole}
 use Rattle.pp_core.specs.declared.counts.Counts.{Counts}
 use Rattle.pp_core.proofs.Losses.{takes_loss}
 
--- A turn was counted, and nothing was given up.
+-- A turn was counted, and nothing was given up where no list overflowed.
 pub record CountsTurn (k new : Counts) : Type 0 where
   pub turns : new.turns ≡ rise k.turns
-  pub whole : IsWhole k → IsWhole new
+  pub full : new.full ≡ 0 → k.full ≡ 0
+  pub whole : new.full ≡ 0 → IsWhole k → IsWhole new
 
 pub event_counted : (s : State) (event : Event) (bytes : List ℕ) → CountsTurn s.counts (after_event s event bytes).counts
 event_counted s (Datagram sender len at) bytes =
     let l = takes_loss s.descriptor sender bytes s.channel (reached s.counts) s.numbers in record {
       turns = l.turns;
-      whole = λ w. record { unheld = l.unheld ∙ w.unheld; damaged = l.damaged ∙ w.damaged; read_faults = l.read_faults ∙ w.read_faults; send_faults = l.send_faults ∙ w.send_faults };
+      full = l.full;
+      whole = λ none w. record { full = none; damaged = l.damaged ∙ w.damaged; read_faults = l.read_faults ∙ w.read_faults; send_faults = l.send_faults ∙ w.send_faults };
     }
-event_counted s (Quiet at) bytes = record { turns = refl; whole = λ w. record { unheld = w.unheld; damaged = w.damaged; read_faults = w.read_faults; send_faults = w.send_faults } }
+event_counted s (Quiet at) bytes = record { turns = refl; full = λ e. e; whole = λ none w. record { full = none; damaged = w.damaged; read_faults = w.read_faults; send_faults = w.send_faults } }
 
 pub event_refusals : (s : State) (event : Event) (bytes : List ℕ) → (after_event s event bytes).counts.receive_faults ≡ s.counts.receive_faults
 event_refusals s (Datagram sender len at) bytes = (takes_loss s.descriptor sender bytes s.channel (reached s.counts) s.numbers).receive_faults
 event_refusals s (Quiet at) bytes = refl
 
 pub refusal_counted : (s : State) → CountsTurn s.counts (after_refusal s).counts
-refusal_counted s = record { turns = refl; whole = λ w. record { unheld = w.unheld; damaged = w.damaged; read_faults = w.read_faults; send_faults = w.send_faults } }
+refusal_counted s = record { turns = refl; full = λ e. e; whole = λ none w. record { full = none; damaged = w.damaged; read_faults = w.read_faults; send_faults = w.send_faults } }
 
-module _ (d : Descriptor) (held : Bool) (disk disk' : DiskState) (seen seen' : LinkState) (k new : Counts) (causes : Causes d held disk disk' seen seen' k new) where
+module _ (d : Descriptor) (set : List Bool) (book : LookUp) (disk disk' : DiskState) (seen seen' : LinkState) (k new : Counts) (causes : Causes d set book disk disk' seen seen' k new) where
   pub sent_turns : new.turns ≡ k.turns
   sent_turns = ap (λ (n : Counts). n.turns) causes.others
 
   pub sent_refusals : new.receive_faults ≡ k.receive_faults
   sent_refusals = ap (λ (n : Counts). n.receive_faults) causes.others
 
-  -- while no device refuses, and the chunk is held, nothing is given up
-  pub sent_whole : (HasRisen seen.faults seen'.faults → ⊥) → (HasRisen disk.faults disk'.faults → ⊥) → IsKnown disk → chunks_of d ≡ 1 → holds d disk.history.reads 0 ≡ true → held ≡ true → IsWhole k → IsWhole new
-  sent_whole calm still known one holding has w = record {
-    unheld = ⊎_elim (λ same. same ∙ w.unheld) (λ lacks. absurd (let never : false ≡ true = sym lacks ∙ has in cc)) causes.unheld;
-    damaged = ⊎_elim (λ same. same ∙ w.damaged) (λ why. absurd (let never : false ≡ true = sym (why known one) ∙ holding in cc)) causes.damaged;
+  pub sent_full : new.full ≡ k.full
+  sent_full = ap (λ (n : Counts). n.full) causes.others
+
+  -- while no device refuses, and each committed chunk is there, nothing is given up
+  pub sent_whole : (HasRisen seen.faults seen'.faults → ⊥) → (HasRisen disk.faults disk'.faults → ⊥) → IsKnown disk → ((i : ℕ) → slice_index_or set i false ≡ true → is_there d disk.history.reads book i ≡ true) → IsWhole k → IsWhole new
+  sent_whole calm still known there w = record {
+    full = sent_full ∙ w.full;
+    damaged = ⊎_elim (λ same. same ∙ w.damaged) (λ why. absurd (let lacks = why known in false≢true (sym lacks.lacking ∙ there lacks.chunk lacks.committed))) causes.damaged;
     read_faults = ⊎_elim (λ same. same ∙ w.read_faults) (λ risen. absurd (still risen)) causes.read;
     send_faults = ⊎_elim (λ same. same ∙ w.send_faults) (λ risen. absurd (calm risen)) causes.send;
   }

@@ -1,106 +1,135 @@
 -- A channel follows the story of its life, message by message.
-use Rattle.std.proofs.Common.{◌≡◌, ◌⊎◌, inl, inr, ⊎_elim, ℕ, zero, suc, ◌+◌, ◌<◌, ◌≤◌, eqb, Bool, true, false, not, ◌&&◌, ◌||◌, cond, Option, Some, None, List, [], ◌∷◌, ◌++◌, length, filter, refl, sym, ◌∙◌, ap, subst, arith}
-use Rattle.std.proofs.lemmas.Bool.{and_parts, and_from, or_cases, or_left, or_right, not-true, not_from_true, not_from_false, cases_Bool, both_ways, cond-true, cond-false}
-use Rattle.std.specs.List.{AllByRecursion}
+use Rattle.std.proofs.Common.{◌≡◌, ◌⊎◌, inl, inr, ⊎_elim, ℕ, zero, suc, ◌+◌, ◌-◌, ◌^◌, ◌<◌, ◌≤◌, min, eqb, leb, ltb, Bool, true, false, not, ◌&&◌, ◌||◌, cond, Option, Some, None, List, [], ◌∷◌, ◌++◌, length, filter, refl, sym, ◌∙◌, ap, subst, arith}
+use Rattle.std.proofs.lemmas.Bool.{and_parts, and_from, or_cases, or_left, or_right, not-true, not_from_true, not_from_false, cases_Bool, both_ways, cond-true, cond-false, le-leb, leb-true, lt-ltb, ltb-true, false_from_ne_true, false≢true}
 use Rattle.pp_terms.specs.Messages.{Span, Message, Handshake, Data, Ack, Have, Integrity, Pex4, PexReq, Request, Cancel, Choke, Unchoke, Pex6, WireKind}
+use Rattle.pp_terms.specs.Range as range
+use Rattle.pp_terms.specs.Range.{within, has}
 use Rattle.pp_traffic.specs.Story.{Line, Heard, Said, Taken, hear}
 use Rattle.pp_traffic.specs.Asking.{covers, choked, asked}
 use Rattle.pp_traffic.specs.Life.{closes}
 use Rattle.pp_traffic.specs.Flight.{in_flight, landed}
-use Rattle.pp_core.specs.Hearing.{is_closing, after_message, counted, hear_all}
+use Rattle.pp_ranges.specs.Edits.{inserted, removed}
+use Rattle.pp_requests.specs.Lists.{are_too_many}
+use Rattle.pp_core.specs.Counting.{rise}
+use Rattle.pp_core.specs.Hearing.{is_closing, inside, asks_for, lets_go, overflows, after_message, is_full, counted, hear_all}
 use Rattle.pp_core.specs.Standing.{Follows}
 use Rattle.pp_core.specs.declared.counts.Counts.{Counts}
 use Rattle.pp_core.specs.declared.channel.Channel.{Channel}
 use Rattle.pp_core.specs.declared.hearing.Heard as heard
+use Rattle.pp_core.proofs.Askings.{IsPart, Inside, none, some, inside?, IsAsked, is_asked, IsLetGo, is_let_go}
 
-abbrev AllFirst : List ℕ → Type 0
-AllFirst xs = AllByRecursion (λ (i : ℕ). i ≡ 0) xs
+-- ---- one message
 
--- an ACK of the first chunk lands all, another none
-all_landed : (span : Span) (xs : List ℕ) → AllFirst xs → covers span 0 ≡ true → filter (λ i. not (covers span i)) xs ≡ []
-all_landed span [] all yes_covers = refl
-all_landed span (x ∷ xs) all yes_covers =
-    cond-false (not (covers span x)) (x ∷ filter (λ i. not (covers span i)) xs) (filter (λ i. not (covers span i)) xs)
-    (not_from_true (covers span x) (subst (λ (n : ℕ). covers span n ≡ true) (sym all.0) yes_covers))
-    ∙ all_landed span xs all.1 yes_covers
+-- Afterwards nothing was given up where nothing was before, and the list had room.
+abbrev pub Later : ℕ → (ℕ → Type 0) → (ℕ → Type 0) → Message → Channel → Type 0
+Later chunks whole after m c = (i : ℕ) → after i → whole i × (i < chunks) × (is_full chunks m c.asked ≡ false)
 
-none_landed : (span : Span) (xs : List ℕ) → AllFirst xs → covers span 0 ≡ false → filter (λ i. not (covers span i)) xs ≡ xs
-none_landed span [] all not_covers = refl
-none_landed span (x ∷ xs) all not_covers =
-    cond-true (not (covers span x)) (x ∷ filter (λ i. not (covers span i)) xs) (filter (λ i. not (covers span i)) xs)
-    (not_from_false (covers span x) (subst (λ (n : ℕ). covers span n ≡ false) (sym all.0) not_covers))
-    ∙ ap (λ (ys : List ℕ). x ∷ ys) (none_landed span xs all.1 not_covers)
+pub weaker : (chunks : ℕ) (whole after : ℕ → Type 0) (c : Channel) (s : List Line) → ((i : ℕ) → after i → whole i) → Follows chunks whole c s → Follows chunks after c s
+weaker chunks whole after c s less f = record { runs = f.runs; within = f.within; asked_for = f.asked_for; kept = λ i w e. f.kept i (less i w) e; unchoked = f.unchoked; flies = f.flies }
 
 -- what does nothing to either
-idle : (whole : Type 0) (c : Channel) (now : ℕ) (m : Message) (story : List Line) → Follows whole c story
-    → asked 0 (Heard now m ∷ story) ≡ asked 0 story → in_flight (Heard now m ∷ story) ≡ in_flight story → Follows whole c (Heard now m ∷ story)
-idle whole c now m story f same_asked same_flight = record {
-  asked_for = λ e. same_asked ∙ f.asked_for e;
-  kept = λ w e. f.kept w (sym same_asked ∙ e);
+idle : (chunks : ℕ) (whole after : ℕ → Type 0) (c : Channel) (now : ℕ) (m : Message) (story : List Line) → ((i : ℕ) → after i → whole i) → Follows chunks whole c story
+    → ((i : ℕ) → asked i (Heard now m ∷ story) ≡ asked i story) → in_flight (Heard now m ∷ story) ≡ in_flight story → Follows chunks after c (Heard now m ∷ story)
+idle chunks whole after c now m story less f same_asked same_flight = record {
+  runs = f.runs;
+  within = f.within;
+  asked_for = λ i e. same_asked i ∙ f.asked_for i e;
+  kept = λ i w e. f.kept i (less i w) (sym (same_asked i) ∙ e);
   unchoked = f.unchoked;
-  flies = f.flies ∙ ap length (sym same_flight);
-  first = subst AllFirst (sym same_flight) f.first;
+  flies = f.flies ∙ sym same_flight;
 }
 
-follow_request : (whole : Type 0) (c : Channel) (now : ℕ) (span : Span) (story : List Line) → Follows whole c story
-    → Follows whole (record c { asked = covers span 0 || c.asked }) (Heard now (Request span) ∷ story)
-follow_request whole c now span story f = record {
-  asked_for = λ e. ⊎_elim
-      (λ here. or_left (covers span 0 && not (choked story)) (asked 0 story) (and_from (covers span 0) (not (choked story)) here (not_from_false (choked story) f.unchoked)))
-      (λ before. or_right (covers span 0 && not (choked story)) (asked 0 story) (f.asked_for before))
-      (or_cases (covers span 0) c.asked e);
-  kept = λ w e. ⊎_elim
-      (λ here. or_left (covers span 0) c.asked (and_parts (covers span 0) (not (choked story)) here).0)
-      (λ before. or_right (covers span 0) c.asked (f.kept w before))
-      (or_cases (covers span 0 && not (choked story)) (asked 0 story) e);
-  unchoked = f.unchoked;
-  flies = f.flies;
-  first = f.first;
-}
+full_part : (chunks : ℕ) (span : Span) (part : range.Span) (edit : range.Span → List range.Span) → inside chunks span ≡ Some part → overflows (inside chunks span) edit ≡ false → are_too_many (edit part) ≡ false
+full_part chunks span part edit is e = subst (λ (o : Option range.Span). overflows o edit ≡ false) is e
 
-follow_cancel : (whole : Type 0) (c : Channel) (now : ℕ) (span : Span) (story : List Line) → Follows whole c story
-    → Follows whole (record c { asked = not (covers span 0) && c.asked }) (Heard now (Cancel span) ∷ story)
-follow_cancel whole c now span story f = record {
-  asked_for = λ e. let parts = and_parts (not (covers span 0)) c.asked e in and_from (not (covers span 0)) (asked 0 story) parts.0 (f.asked_for parts.1);
-  kept = λ w e. let parts = and_parts (not (covers span 0)) (asked 0 story) e in and_from (not (covers span 0)) c.asked parts.0 (f.kept w parts.1);
-  unchoked = f.unchoked;
-  flies = f.flies;
-  first = f.first;
-}
-
-follow_ack : (whole : Type 0) (c : Channel) (now : ℕ) (span : Span) (delay : ℕ) (story : List Line) → Follows whole c story
-    → Follows whole (record c { flying = cond (covers span 0) 0 c.flying }) (Heard now (Ack span delay) ∷ story)
-follow_ack whole c now span delay story f = ⊎_elim
-    (λ yes_covers. let none = all_landed span (in_flight story) f.first yes_covers in record {
-      asked_for = f.asked_for;
-      kept = f.kept;
+follow_request : (chunks : ℕ) (whole after : ℕ → Type 0) (c : Channel) (now : ℕ) (span : Span) (story : List Line) → Later chunks whole after (Request span) c → Follows chunks whole c story
+    → Follows chunks after (after_message chunks (Request span) c) (Heard now (Request span) ∷ story)
+follow_request chunks whole after c now span story later f = by (inside? chunks span)
+  where
+    by : Inside chunks span → Follows chunks after (after_message chunks (Request span) c) (Heard now (Request span) ∷ story)
+    by (none is out) = subst (λ (o : Option range.Span). Follows chunks after (record c { asked = asks_for o c.asked }) (Heard now (Request span) ∷ story)) (sym is) (record {
+      runs = f.runs;
+      within = f.within;
+      asked_for = λ i e. or_right (covers span i && not (choked story)) (asked i story) (f.asked_for i e);
+      kept = λ i w e. ⊎_elim
+          (λ here. absurd (out i (later i w).1 (and_parts (covers span i) (not (choked story)) here).0))
+          (λ before. f.kept i (later i w).0 before)
+          (or_cases (covers span i && not (choked story)) (asked i story) e);
       unchoked = f.unchoked;
-      flies = cond-true (covers span 0) 0 c.flying yes_covers ∙ ap length (sym none);
-      first = subst AllFirst (sym none) tt;
+      flies = f.flies;
     })
-    (λ not_covers. let same = none_landed span (in_flight story) f.first not_covers in record {
-      asked_for = f.asked_for;
-      kept = f.kept;
-      unchoked = f.unchoked;
-      flies = cond-false (covers span 0) 0 c.flying not_covers ∙ f.flies ∙ ap length (sym same);
-      first = subst AllFirst (sym same) f.first;
-    })
-    (cases_Bool (covers span 0))
+    by (some part is p) =
+        let l = is_asked part c.asked p.order f.runs in
+        subst (λ (o : Option range.Span). Follows chunks after (record c { asked = asks_for o c.asked }) (Heard now (Request span) ∷ story)) (sym is) (record {
+          runs = l.runs;
+          within = λ i e. ⊎_elim (λ here. (p.less i here).0) (λ before. f.within i before) (l.from i e);
+          asked_for = λ i e. ⊎_elim
+              (λ here. or_left (covers span i && not (choked story)) (asked i story) (and_from (covers span i) (not (choked story)) (p.less i here).1 (not_from_false (choked story) f.unchoked)))
+              (λ before. or_right (covers span i && not (choked story)) (asked i story) (f.asked_for i before))
+              (l.from i e);
+          kept = λ i w e. ⊎_elim
+              (λ here. l.to (full_part chunks span part (λ x. inserted (Some x) c.asked) is (later i w).2) i
+              (or_left (within part i) (has c.asked i) (p.all i (later i w).1 (and_parts (covers span i) (not (choked story)) here).0)))
+              (λ before. l.stays i (f.kept i (later i w).0 before))
+              (or_cases (covers span i && not (choked story)) (asked i story) e);
+          unchoked = f.unchoked;
+          flies = f.flies;
+        })
 
-pub follow_heard : (whole : Type 0) (c : Channel) (now : ℕ) (m : Message) (story : List Line) → Follows whole c story
-    → Follows whole (after_message m c) (Heard now m ∷ story)
-follow_heard whole c now (Handshake source options) story f = idle whole c now (Handshake source options) story f refl refl
-follow_heard whole c now (Data chunk sent_at bytes) story f = idle whole c now (Data chunk sent_at bytes) story f refl refl
-follow_heard whole c now (Ack span delay) story f = follow_ack whole c now span delay story f
-follow_heard whole c now (Have span) story f = idle whole c now (Have span) story f refl refl
-follow_heard whole c now (Integrity span digest) story f = idle whole c now (Integrity span digest) story f refl refl
-follow_heard whole c now (Pex4 address port) story f = idle whole c now (Pex4 address port) story f refl refl
-follow_heard whole c now PexReq story f = idle whole c now PexReq story f refl refl
-follow_heard whole c now (Request span) story f = follow_request whole c now span story f
-follow_heard whole c now (Cancel span) story f = follow_cancel whole c now span story f
-follow_heard whole c now Choke story f = idle whole c now Choke story f refl refl
-follow_heard whole c now Unchoke story f = idle whole c now Unchoke story f refl refl
-follow_heard whole c now (Pex6 address port) story f = idle whole c now (Pex6 address port) story f refl refl
+follow_cancel : (chunks : ℕ) (whole after : ℕ → Type 0) (c : Channel) (now : ℕ) (span : Span) (story : List Line) → Later chunks whole after (Cancel span) c → Follows chunks whole c story
+    → Follows chunks after (after_message chunks (Cancel span) c) (Heard now (Cancel span) ∷ story)
+follow_cancel chunks whole after c now span story later f = by (inside? chunks span)
+  where
+    by : Inside chunks span → Follows chunks after (after_message chunks (Cancel span) c) (Heard now (Cancel span) ∷ story)
+    by (none is out) = subst (λ (o : Option range.Span). Follows chunks after (record c { asked = lets_go o c.asked }) (Heard now (Cancel span) ∷ story)) (sym is) (record {
+      runs = f.runs;
+      within = f.within;
+      asked_for = λ i e. and_from (not (covers span i)) (asked i story) (not_from_false (covers span i) (false_from_ne_true (covers span i) (out i (f.within i e)))) (f.asked_for i e);
+      kept = λ i w e. f.kept i (later i w).0 (and_parts (not (covers span i)) (asked i story) e).1;
+      unchoked = f.unchoked;
+      flies = f.flies;
+    })
+    by (some part is p) =
+        let l = is_let_go part c.asked p.order f.runs in
+        subst (λ (o : Option range.Span). Follows chunks after (record c { asked = lets_go o c.asked }) (Heard now (Cancel span) ∷ story)) (sym is) (record {
+          runs = l.runs;
+          within = λ i e. f.within i (l.from i e).1;
+          asked_for = λ i e. and_from (not (covers span i)) (asked i story)
+              (not_from_false (covers span i) (false_from_ne_true (covers span i) (λ in_span. both_ways (within part i) (l.from i e).0 (p.all i (f.within i (l.from i e).1) in_span))))
+              (f.asked_for i (l.from i e).1);
+          kept = λ i w e. let parts = and_parts (not (covers span i)) (asked i story) e in
+              l.to (full_part chunks span part (λ x. removed x c.asked) is (later i w).2) i
+              (false_from_ne_true (within part i) (λ in_part. both_ways (covers span i) (not-true (covers span i) parts.0) (p.less i in_part).1))
+              (f.kept i (later i w).0 parts.1);
+          unchoked = f.unchoked;
+          flies = f.flies;
+        })
+
+follow_ack : (chunks : ℕ) (whole after : ℕ → Type 0) (c : Channel) (now : ℕ) (span : Span) (delay : ℕ) (story : List Line) → ((i : ℕ) → after i → whole i) → Follows chunks whole c story
+    → Follows chunks after (after_message chunks (Ack span delay) c) (Heard now (Ack span delay) ∷ story)
+follow_ack chunks whole after c now span delay story less f = record {
+  runs = f.runs;
+  within = f.within;
+  asked_for = f.asked_for;
+  kept = λ i w e. f.kept i (less i w) e;
+  unchoked = f.unchoked;
+  flies = ap (λ (xs : List ℕ). filter (λ i. not (covers span i)) xs) f.flies;
+}
+
+pub follow_heard : (chunks : ℕ) (whole after : ℕ → Type 0) (c : Channel) (now : ℕ) (m : Message) (story : List Line) → Later chunks whole after m c → Follows chunks whole c story
+    → Follows chunks after (after_message chunks m c) (Heard now m ∷ story)
+follow_heard chunks whole after c now (Handshake source options) story later f = idle chunks whole after c now (Handshake source options) story (λ i w. (later i w).0) f (λ i. refl) refl
+follow_heard chunks whole after c now (Data chunk sent_at bytes) story later f = idle chunks whole after c now (Data chunk sent_at bytes) story (λ i w. (later i w).0) f (λ i. refl) refl
+follow_heard chunks whole after c now (Ack span delay) story later f = follow_ack chunks whole after c now span delay story (λ i w. (later i w).0) f
+follow_heard chunks whole after c now (Have span) story later f = idle chunks whole after c now (Have span) story (λ i w. (later i w).0) f (λ i. refl) refl
+follow_heard chunks whole after c now (Integrity span digest) story later f = idle chunks whole after c now (Integrity span digest) story (λ i w. (later i w).0) f (λ i. refl) refl
+follow_heard chunks whole after c now (Pex4 address port) story later f = idle chunks whole after c now (Pex4 address port) story (λ i w. (later i w).0) f (λ i. refl) refl
+follow_heard chunks whole after c now PexReq story later f = idle chunks whole after c now PexReq story (λ i w. (later i w).0) f (λ i. refl) refl
+follow_heard chunks whole after c now (Request span) story later f = follow_request chunks whole after c now span story later f
+follow_heard chunks whole after c now (Cancel span) story later f = follow_cancel chunks whole after c now span story later f
+follow_heard chunks whole after c now Choke story later f = idle chunks whole after c now Choke story (λ i w. (later i w).0) f (λ i. refl) refl
+follow_heard chunks whole after c now Unchoke story later f = idle chunks whole after c now Unchoke story (λ i w. (later i w).0) f (λ i. refl) refl
+follow_heard chunks whole after c now (Pex6 address port) story later f = idle chunks whole after c now (Pex6 address port) story (λ i w. (later i w).0) f (λ i. refl) refl
 
 -- The channel is to the same peer, and its handshake is where it was.
 pub record SameSeat (c new : Channel) : Type 0 where
@@ -114,35 +143,64 @@ pub record SameSeat (c new : Channel) : Type 0 where
 pub same_seat : (c : Channel) → SameSeat c c
 same_seat c = record { address = refl; local = refl; remote = refl; proven = refl; replied = refl; reply_due = refl }
 
-pub same_after : (m : Message) (c new : Channel) → SameSeat (after_message m c) new → SameSeat c new
-same_after (Handshake source options) c new s = s
-same_after (Data chunk sent_at bytes) c new s = s
-same_after (Ack span delay) c new s = record { address = s.address; local = s.local; remote = s.remote; proven = s.proven; replied = s.replied; reply_due = s.reply_due }
-same_after (Have span) c new s = s
-same_after (Integrity span digest) c new s = s
-same_after (Pex4 address port) c new s = s
-same_after PexReq c new s = s
-same_after (Request span) c new s = record { address = s.address; local = s.local; remote = s.remote; proven = s.proven; replied = s.replied; reply_due = s.reply_due }
-same_after (Cancel span) c new s = record { address = s.address; local = s.local; remote = s.remote; proven = s.proven; replied = s.replied; reply_due = s.reply_due }
-same_after Choke c new s = s
-same_after Unchoke c new s = s
-same_after (Pex6 address port) c new s = s
+pub same_after : (chunks : ℕ) (m : Message) (c new : Channel) → SameSeat (after_message chunks m c) new → SameSeat c new
+same_after chunks (Handshake source options) c new s = s
+same_after chunks (Data chunk sent_at bytes) c new s = s
+same_after chunks (Ack span delay) c new s = record { address = s.address; local = s.local; remote = s.remote; proven = s.proven; replied = s.replied; reply_due = s.reply_due }
+same_after chunks (Have span) c new s = s
+same_after chunks (Integrity span digest) c new s = s
+same_after chunks (Pex4 address port) c new s = s
+same_after chunks PexReq c new s = s
+same_after chunks (Request span) c new s = record { address = s.address; local = s.local; remote = s.remote; proven = s.proven; replied = s.replied; reply_due = s.reply_due }
+same_after chunks (Cancel span) c new s = record { address = s.address; local = s.local; remote = s.remote; proven = s.proven; replied = s.replied; reply_due = s.reply_due }
+same_after chunks Choke c new s = s
+same_after chunks Unchoke c new s = s
+same_after chunks (Pex6 address port) c new s = s
 
 -- Where messages leave the channel, it follows them.
-pub record LeftOn (whole : Type 0) (c new : Channel) (story : List Line) : Type 0 where
+pub record LeftOn (chunks : ℕ) (whole : ℕ → Type 0) (c new : Channel) (story : List Line) : Type 0 where
   pub same : SameSeat c new
-  pub follows : Follows whole new story
+  pub follows : Follows chunks whole new story
 
-pub follow_all : (whole : Type 0) (chunks : ℕ) (fault : Option (ℕ × WireKind)) (ms : List Message) (c new : Channel) (k : Counts) (now : ℕ) (story : List Line) → Follows whole c story
-    → (hear_all chunks fault ms c k).channel ≡ Some new → LeftOn whole c new (hear now ms story)
-follow_all whole chunks None [] c new k now story f e = let is : c ≡ new = cc in record { same = subst (λ (x : Channel). SameSeat c x) is (same_seat c); follows = subst (λ (x : Channel). Follows whole x story) is f }
-follow_all whole chunks (Some fault) [] c new k now story f e = let is : c ≡ new = cc in record { same = subst (λ (x : Channel). SameSeat c x) is (same_seat c); follows = subst (λ (x : Channel). Follows whole x story) is f }
-follow_all whole chunks fault (m ∷ ms) c new k now story f e = ⊎_elim
-    (λ closing. absurd (let none : None ≡ Some new = sym (ap (λ (h : heard.Heard). h.channel) (cond-true (is_closing m) (record { channel = None; counts = k }) (hear_all chunks fault ms (after_message m c) (counted chunks m k)) closing)) ∙ e in cc))
+-- no list had overflowed before
+rise_some : (n : ℕ) → rise n ≡ 0 → ⊥
+rise_some n e = let is : min (n + 1) (2 ^ 64 - 1) ≡ 0 = e in omega arith
+
+counted_none : (chunks : ℕ) (m : Message) (c : Channel) (k : Counts) → (counted chunks m c k).full ≡ 0 → (k.full ≡ 0) × (is_full chunks m c.asked ≡ false)
+counted_none chunks m c k e = ⊎_elim
+    (λ full. absurd (rise_some k.full (sym (cond-true (is_full chunks m c.asked) (rise k.full) k.full full) ∙ e)))
+    (λ room. (sym (cond-false (is_full chunks m c.asked) (rise k.full) k.full room) ∙ e, room))
+    (cases_Bool (is_full chunks m c.asked))
+
+pub heard_none : (chunks : ℕ) (fault : Option (ℕ × WireKind)) (ms : List Message) (c : Channel) (k : Counts) → (hear_all chunks fault ms c k).counts.full ≡ 0 → k.full ≡ 0
+heard_none chunks None [] c k e = e
+heard_none chunks (Some fault) [] c k e = e
+heard_none chunks fault (m ∷ ms) c k e = ⊎_elim
+    (λ closing. sym (ap (λ (h : heard.Heard). h.counts.full) (cond-true (is_closing m) (record { channel = None; counts = k }) (hear_all chunks fault ms (after_message chunks m c) (counted chunks m c k)) closing)) ∙ e)
+    (λ stays. (counted_none chunks m c k (heard_none chunks fault ms (after_message chunks m c) (counted chunks m c k)
+    (sym (ap (λ (h : heard.Heard). h.counts.full) (cond-false (is_closing m) (record { channel = None; counts = k }) (hear_all chunks fault ms (after_message chunks m c) (counted chunks m c k)) stays)) ∙ e))).0)
+    (cases_Bool (is_closing m))
+
+-- Afterwards nothing was given up where nothing was before, and no list overflowed.
+abbrev pub Since : ℕ → (ℕ → Type 0) → (ℕ → Type 0) → Counts → Type 0
+Since chunks whole after k = (i : ℕ) → after i → whole i × (i < chunks) × (k.full ≡ 0)
+
+pub follow_all : (chunks : ℕ) (whole after : ℕ → Type 0) (fault : Option (ℕ × WireKind)) (ms : List Message) (c new : Channel) (k : Counts) (now : ℕ) (story : List Line)
+    → Since chunks whole after (hear_all chunks fault ms c k).counts → Follows chunks whole c story
+    → (hear_all chunks fault ms c k).channel ≡ Some new → LeftOn chunks after c new (hear now ms story)
+follow_all chunks whole after None [] c new k now story since f e =
+    let is : c ≡ new = cc in record { same = subst (λ (x : Channel). SameSeat c x) is (same_seat c); follows = subst (λ (x : Channel). Follows chunks after x story) is (weaker chunks whole after c story (λ i w. (since i w).0) f) }
+follow_all chunks whole after (Some fault) [] c new k now story since f e =
+    let is : c ≡ new = cc in record { same = subst (λ (x : Channel). SameSeat c x) is (same_seat c); follows = subst (λ (x : Channel). Follows chunks after x story) is (weaker chunks whole after c story (λ i w. (since i w).0) f) }
+follow_all chunks whole after fault (m ∷ ms) c new k now story since f e = ⊎_elim
+    (λ closing. absurd (let none : None ≡ Some new = sym (ap (λ (h : heard.Heard). h.channel) (cond-true (is_closing m) (record { channel = None; counts = k }) (hear_all chunks fault ms (after_message chunks m c) (counted chunks m c k)) closing)) ∙ e in cc))
     (λ stays.
-    let rest = follow_all whole chunks fault ms (after_message m c) new (counted chunks m k) now (Heard now m ∷ story) (follow_heard whole c now m story f)
-    (sym (ap (λ (h : heard.Heard). h.channel) (cond-false (is_closing m) (record { channel = None; counts = k }) (hear_all chunks fault ms (after_message m c) (counted chunks m k)) stays)) ∙ e) in
-    record { same = same_after m c new rest.same; follows = rest.follows })
+    let on = cond-false (is_closing m) (record { channel = None; counts = k }) (hear_all chunks fault ms (after_message chunks m c) (counted chunks m c k)) stays in
+    let later : Since chunks whole after (hear_all chunks fault ms (after_message chunks m c) (counted chunks m c k)).counts = subst (λ (h : heard.Heard). Since chunks whole after h.counts) on since in
+    let rest = follow_all chunks after after fault ms (after_message chunks m c) new (counted chunks m c k) now (Heard now m ∷ story) (λ i w. (w, (later i w).1, (later i w).2))
+    (follow_heard chunks whole after c now m story (λ i w. ((later i w).0, (later i w).1, (counted_none chunks m c k (heard_none chunks fault ms (after_message chunks m c) (counted chunks m c k) (later i w).2)).1)) f)
+    (sym (ap (λ (h : heard.Heard). h.channel) on) ∙ e) in
+    record { same = same_after chunks m c new rest.same; follows = rest.follows })
     (cases_Bool (is_closing m))
 
 closing_closes : (m : Message) (ms : List Message) → is_closing m ≡ true → closes (m ∷ ms) ≡ true
@@ -179,8 +237,8 @@ closed_by chunks None [] c k e = absurd cc
 closed_by chunks (Some fault) [] c k e = absurd cc
 closed_by chunks fault (m ∷ ms) c k e = ⊎_elim
     (λ closing. closing_closes m ms closing)
-    (λ stays. later_closes m ms (closed_by chunks fault ms (after_message m c) (counted chunks m k)
-    (sym (ap (λ (h : heard.Heard). h.channel) (cond-false (is_closing m) (record { channel = None; counts = k }) (hear_all chunks fault ms (after_message m c) (counted chunks m k)) stays)) ∙ e)))
+    (λ stays. later_closes m ms (closed_by chunks fault ms (after_message chunks m c) (counted chunks m c k)
+    (sym (ap (λ (h : heard.Heard). h.channel) (cond-false (is_closing m) (record { channel = None; counts = k }) (hear_all chunks fault ms (after_message chunks m c) (counted chunks m c k)) stays)) ∙ e)))
     (cases_Bool (is_closing m))
 
 no_closes : (m : Message) (ms : List Message) → is_closing m ≡ false → closes (m ∷ ms) ≡ closes ms
@@ -201,9 +259,9 @@ pub open_by : (chunks : ℕ) (fault : Option (ℕ × WireKind)) (ms : List Messa
 open_by chunks None [] c new k e = refl
 open_by chunks (Some fault) [] c new k e = refl
 open_by chunks fault (m ∷ ms) c new k e = ⊎_elim
-    (λ closing. absurd (let none : None ≡ Some new = sym (ap (λ (h : heard.Heard). h.channel) (cond-true (is_closing m) (record { channel = None; counts = k }) (hear_all chunks fault ms (after_message m c) (counted chunks m k)) closing)) ∙ e in cc))
-    (λ stays. no_closes m ms stays ∙ open_by chunks fault ms (after_message m c) new (counted chunks m k)
-    (sym (ap (λ (h : heard.Heard). h.channel) (cond-false (is_closing m) (record { channel = None; counts = k }) (hear_all chunks fault ms (after_message m c) (counted chunks m k)) stays)) ∙ e))
+    (λ closing. absurd (let none : None ≡ Some new = sym (ap (λ (h : heard.Heard). h.channel) (cond-true (is_closing m) (record { channel = None; counts = k }) (hear_all chunks fault ms (after_message chunks m c) (counted chunks m c k)) closing)) ∙ e in cc))
+    (λ stays. no_closes m ms stays ∙ open_by chunks fault ms (after_message chunks m c) new (counted chunks m c k)
+    (sym (ap (λ (h : heard.Heard). h.channel) (cond-false (is_closing m) (record { channel = None; counts = k }) (hear_all chunks fault ms (after_message chunks m c) (counted chunks m c k)) stays)) ∙ e))
     (cases_Bool (is_closing m))
 
 -- The counts differ in nothing that is counted when a request is given up, or a datagram comes or goes.
@@ -217,9 +275,11 @@ pub record SameLoss (k new : Counts) : Type 0 where
   pub sent : new.sent ≡ k.sent
   pub turns : new.turns ≡ k.turns
   pub receive_faults : new.receive_faults ≡ k.receive_faults
+  -- and no list overflowed before where none did since
+  pub full : new.full ≡ 0 → k.full ≡ 0
 
 pub same_loss : (k : Counts) → SameLoss k k
-same_loss k = record { unheld = refl; damaged = refl; read_faults = refl; send_faults = refl; datagrams = refl; short = refl; sent = refl; turns = refl; receive_faults = refl }
+same_loss k = record { unheld = refl; damaged = refl; read_faults = refl; send_faults = refl; datagrams = refl; short = refl; sent = refl; turns = refl; receive_faults = refl; full = λ e. e }
 
 pub loss_on : (k mid new : Counts) → SameLoss k mid → SameLoss mid new → SameLoss k new
 loss_on k mid new a b = record {
@@ -232,16 +292,17 @@ loss_on k mid new a b = record {
   sent = b.sent ∙ a.sent;
   turns = b.turns ∙ a.turns;
   receive_faults = b.receive_faults ∙ a.receive_faults;
+  full = λ e. a.full (b.full e);
 }
 
-counted_loss : (chunks : ℕ) (m : Message) (k : Counts) → SameLoss k (counted chunks m k)
-counted_loss chunks m k = record { unheld = refl; damaged = refl; read_faults = refl; send_faults = refl; datagrams = refl; short = refl; sent = refl; turns = refl; receive_faults = refl }
+counted_loss : (chunks : ℕ) (m : Message) (c : Channel) (k : Counts) → SameLoss k (counted chunks m c k)
+counted_loss chunks m c k = record { unheld = refl; damaged = refl; read_faults = refl; send_faults = refl; datagrams = refl; short = refl; sent = refl; turns = refl; receive_faults = refl; full = λ e. (counted_none chunks m c k e).0 }
 
 pub loss_all : (chunks : ℕ) (fault : Option (ℕ × WireKind)) (ms : List Message) (c : Channel) (k : Counts) → SameLoss k (hear_all chunks fault ms c k).counts
 loss_all chunks None [] c k = same_loss k
-loss_all chunks (Some fault) [] c k = record { unheld = refl; damaged = refl; read_faults = refl; send_faults = refl; datagrams = refl; short = refl; sent = refl; turns = refl; receive_faults = refl }
+loss_all chunks (Some fault) [] c k = record { unheld = refl; damaged = refl; read_faults = refl; send_faults = refl; datagrams = refl; short = refl; sent = refl; turns = refl; receive_faults = refl; full = λ e. e }
 loss_all chunks fault (m ∷ ms) c k = ⊎_elim
-    (λ closing. subst (λ (h : heard.Heard). SameLoss k h.counts) (sym (cond-true (is_closing m) (record { channel = None; counts = k }) (hear_all chunks fault ms (after_message m c) (counted chunks m k)) closing)) (same_loss k))
-    (λ stays. subst (λ (h : heard.Heard). SameLoss k h.counts) (sym (cond-false (is_closing m) (record { channel = None; counts = k }) (hear_all chunks fault ms (after_message m c) (counted chunks m k)) stays))
-    (loss_on k (counted chunks m k) (hear_all chunks fault ms (after_message m c) (counted chunks m k)).counts (counted_loss chunks m k) (loss_all chunks fault ms (after_message m c) (counted chunks m k))))
+    (λ closing. subst (λ (h : heard.Heard). SameLoss k h.counts) (sym (cond-true (is_closing m) (record { channel = None; counts = k }) (hear_all chunks fault ms (after_message chunks m c) (counted chunks m c k)) closing)) (same_loss k))
+    (λ stays. subst (λ (h : heard.Heard). SameLoss k h.counts) (sym (cond-false (is_closing m) (record { channel = None; counts = k }) (hear_all chunks fault ms (after_message chunks m c) (counted chunks m c k)) stays))
+    (loss_on k (counted chunks m c k) (hear_all chunks fault ms (after_message chunks m c) (counted chunks m c k)).counts (counted_loss chunks m c k) (loss_all chunks fault ms (after_message chunks m c) (counted chunks m c k))))
     (cases_Bool (is_closing m))

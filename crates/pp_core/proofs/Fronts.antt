@@ -1,5 +1,5 @@
 -- A message put behind a datagram.
-use Rattle.std.proofs.Common.{◌≡◌, ◌⊎◌, inl, inr, ℕ, zero, suc, ltb, false, ◌^◌, ◌+◌, ◌-◌, ◌<◌, ◌≤◌, Option, Some, None, List, [], ◌∷◌, ◌++◌, length, take, drop, get_or, Result, Ok, Err, refl, sym, ◌∙◌, ap, subst, arith}
+use Rattle.std.proofs.Common.{◌≡◌, ◌⊎◌, inl, inr, ℕ, zero, suc, ltb, false, ◌^◌, ◌*◌, ◌+◌, ◌-◌, ◌<◌, ◌≤◌, Option, Some, None, List, [], ◌∷◌, ◌++◌, length, take, drop, get_or, Result, Ok, Err, refl, sym, ◌∙◌, ap, subst, arith}
 use Rattle.std.specs.List.{AllByRecursion}
 use Rattle.std.specs.Int.{w32, w64, to_be_bytes, from_be_bytes}
 use Rattle.std.proofs.lemmas.Bool.{le-ltb}
@@ -7,17 +7,18 @@ use Rattle.std.specs.Prelude.{IfOk}
 use Rattle.std.proofs.lemmas.List.{length-take, length-append, length-drop, take_at, take-append-le, drop_all}
 use Rattle.std.proofs.Math.Seq.{take-length}
 use Rattle.pp_terms.specs.Place.{placed}
+use Rattle.pp_terms.specs.Tree.{Node}
 use Rattle.pp_terms.specs.Content.{IsChunkSize}
 use Rattle.pp_terms.specs.Descriptor.{Descriptor, IsDescriptor, Method, Bin32, Range32, Bin64, Range64}
 use Rattle.pp_terms.specs.Options.{IsBytes, spelling_of}
-use Rattle.pp_terms.specs.Messages.{Message, Handshake, Data, Ack, Have, Integrity, Pex4, PexReq, Request, Cancel, Choke, Unchoke, Pex6, Span, only, spell, spell_span, bin_number_of, IsNamed, IsSpelt, IsFull, AtMostFull, Datagram, datagram, with_last, messages_from, messages_at, next_message}
+use Rattle.pp_terms.specs.Messages.{Message, Handshake, Data, Ack, Have, Integrity, Pex4, PexReq, Request, Cancel, Choke, Unchoke, Pex6, Span, only, spell, spell_span, bin_number_of, IsNamed, IsBinSpan, IsSpelt, IsFull, AtMostFull, Datagram, datagram, with_last, messages_from, messages_at, next_message}
 use Rattle.pp_terms.proofs.DatagramLaws.{grows_by_one}
 use Rattle.pp_terms.proofs.MessageLaws.{wide32, wide64, IsBytes-take}
 use Rattle.pp_tree.proofs.Sizes.{chunk_size_range}
 use Rattle.pp_wire.specs.Put.{NamesChunks, IsPut, IsSpan}
 use Rattle.pp_wire.specs.declared.message.PutFault.{PutFault}
 use Rattle.pp_wire.specs.declared.message.PutFault.TheVariants as faults
-use Rattle.pp_core.specs.Writing.{IsDatagram, IsFront, IsWritten, own_options}
+use Rattle.pp_core.specs.Writing.{IsDatagram, IsFront, IsWritten, own_options, span_under}
 
 -- the front of a buffer in which a text was placed
 pub placed_front : (old : List ℕ) (at : ℕ) (text : List ℕ) → at + length text ≤ length old → take (at + length text) (placed old at text) ≡ take at old ++ text
@@ -137,18 +138,41 @@ length_handshake d local len = simp length-append (omega (arith, len))
 pub handshake_room : (d : Descriptor) (local : ℕ) → IsDescriptor d → length (spell d.method (Handshake local (own_options d))) ≡ 60
 handshake_room d local valid = length_handshake d local valid.root_length
 
--- every method names the first chunk
-pub first_named : (method : Method) → IsNamed method (only 0)
-first_named Bin32 = (record { layer = 0; offset = 0; begins = refl; ends = refl }, omega arith)
-first_named Range32 = (omega arith, omega arith)
-first_named Bin64 = (record { layer = 0; offset = 0; begins = refl; ends = refl }, omega arith)
-first_named Range64 = (omega arith, omega arith)
+pub some_power : (k : ℕ) → 0 < 2 ^ k
+some_power zero = omega arith
+some_power (suc k) = let h = some_power k in omega arith
 
-pub first_span : (method : Method) → IsSpan method (only 0)
-first_span Bin32 = (omega arith, omega arith)
-first_span Range32 = (omega arith, omega arith)
-first_span Bin64 = omega arith
-first_span Range64 = omega arith
+-- what a method names are chunks that its numbers reach
+bin_order : (s : Span) → IsBinSpan s → s.first ≤ s.last
+bin_order s b =
+    let power = some_power b.layer in
+    let more : (b.offset + 1) * 2 ^ b.layer ≡ b.offset * 2 ^ b.layer + 2 ^ b.layer = omega arith in
+    omega (arith, b.begins, b.ends)
+
+pub named_span : (method : Method) (s : Span) → IsNamed method s → IsSpan method s
+named_span Bin32 s h = let order = bin_order s h.0 in let few = h.1 in (order, omega arith)
+named_span Range32 s h = h
+named_span Bin64 s h = bin_order s h.0
+named_span Range64 s h = h.0
+
+-- every method names a chunk of a content, and the chunks under a node
+pub chunk_named : (method : Method) (i : ℕ) → i < 2 ^ 20 → IsNamed method (only i)
+chunk_named Bin32 i lt = (record { layer = 0; offset = i; begins = omega arith; ends = omega arith }, omega arith)
+chunk_named Range32 i lt = (omega arith, omega arith)
+chunk_named Bin64 i lt = (record { layer = 0; offset = i; begins = omega arith; ends = omega arith }, omega arith)
+chunk_named Range64 i lt = (omega arith, omega arith)
+
+under_bin : (n : Node) → (n.offset + 1) * 2 ^ n.layer ≤ 2 ^ 20 → IsBinSpan (span_under n) × (bin_number_of (span_under n) < 2 ^ 21)
+under_bin n le =
+    let power = some_power n.layer in
+    let more : (n.offset + 1) * 2 ^ n.layer ≡ n.offset * 2 ^ n.layer + 2 ^ n.layer = omega arith in
+    (record { layer = n.layer; offset = n.offset; begins = refl; ends = omega arith }, omega arith)
+
+pub node_named : (method : Method) (n : Node) → (n.offset + 1) * 2 ^ n.layer ≤ 2 ^ 20 → IsNamed method (span_under n)
+node_named Bin32 n le = let b = under_bin n le in (b.0, let few = b.1 in omega arith)
+node_named Range32 n le = let b = under_bin n le in (bin_order (span_under n) b.0, let few = b.1 in omega arith)
+node_named Bin64 n le = let b = under_bin n le in (b.0, let few = b.1 in omega arith)
+node_named Range64 n le = let b = under_bin n le in (bin_order (span_under n) b.0, let few = b.1 in omega arith)
 
 -- it can be sent as it is
 pub front_written : {d : Descriptor} {out : List ℕ} {end channel : ℕ} {ms : List Message} → IsFront d out end channel ms → IsWritten d out end channel ms

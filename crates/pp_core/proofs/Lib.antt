@@ -1,6 +1,10 @@
 pub mod Readings
 pub mod Greetings
 pub mod Fronts
+pub mod Announcements
+pub mod Paths
+pub mod Servings
+pub mod Askings
 pub mod Following
 pub mod Seats
 pub mod Absorbs
@@ -11,4 +15,3 @@ pub mod Sends
 pub mod Relations
 pub mod Prompts
 pub mod Counted
-pub mod Unheld

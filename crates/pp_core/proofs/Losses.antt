@@ -17,16 +17,16 @@ use Rattle.pp_core.specs.declared.hearing.Heard.{Heard}
 use Rattle.pp_core.proofs.Following.{SameLoss, same_loss, loss_on, loss_all}
 
 stranger_loss : (k : Counts) → SameLoss k (is_stranger k)
-stranger_loss k = record { unheld = refl; damaged = refl; read_faults = refl; send_faults = refl; datagrams = refl; short = refl; sent = refl; turns = refl; receive_faults = refl }
+stranger_loss k = record { unheld = refl; damaged = refl; read_faults = refl; send_faults = refl; datagrams = refl; short = refl; sent = refl; turns = refl; receive_faults = refl; full = λ e. e }
 
 refused_loss : (k : Counts) → SameLoss k (is_refused k)
-refused_loss k = record { unheld = refl; damaged = refl; read_faults = refl; send_faults = refl; datagrams = refl; short = refl; sent = refl; turns = refl; receive_faults = refl }
+refused_loss k = record { unheld = refl; damaged = refl; read_faults = refl; send_faults = refl; datagrams = refl; short = refl; sent = refl; turns = refl; receive_faults = refl; full = λ e. e }
 
 unseated_loss : (k : Counts) → SameLoss k (is_unseated k)
-unseated_loss k = record { unheld = refl; damaged = refl; read_faults = refl; send_faults = refl; datagrams = refl; short = refl; sent = refl; turns = refl; receive_faults = refl }
+unseated_loss k = record { unheld = refl; damaged = refl; read_faults = refl; send_faults = refl; datagrams = refl; short = refl; sent = refl; turns = refl; receive_faults = refl; full = λ e. e }
 
 alive_loss : (k : Counts) → SameLoss k (is_kept_alive k)
-alive_loss k = record { unheld = refl; damaged = refl; read_faults = refl; send_faults = refl; datagrams = refl; short = refl; sent = refl; turns = refl; receive_faults = refl }
+alive_loss k = record { unheld = refl; damaged = refl; read_faults = refl; send_faults = refl; datagrams = refl; short = refl; sent = refl; turns = refl; receive_faults = refl; full = λ e. e }
 
 -- a choice between two
 either_loss : (k : Counts) (b : Bool) (x y : Counts) → SameLoss k x → SameLoss k y → SameLoss k (cond b x y)
@@ -89,6 +89,7 @@ pub record TakesLoss (size : ℕ) (k new : Counts) : Type 0 where
   pub short : new.short ≡ cond (ltb size 4) (rise k.short) k.short
   pub turns : new.turns ≡ k.turns
   pub receive_faults : new.receive_faults ≡ k.receive_faults
+  pub full : new.full ≡ 0 → k.full ≡ 0
 
 long_loss : (size : ℕ) (k new : Counts) → 4 ≤ size → SameLoss k new → TakesLoss size k new
 long_loss size k new le s = record {
@@ -100,6 +101,7 @@ long_loss size k new le s = record {
   sent = s.sent;
   turns = s.turns;
   receive_faults = s.receive_faults;
+  full = s.full;
   short = s.short ∙ sym (cond-false (ltb size 4) (rise k.short) k.short (le-ltb size 4 le));
 }
 
@@ -113,6 +115,7 @@ short_loss size k lt = record {
   sent = refl;
   turns = refl;
   receive_faults = refl;
+  full = λ e. e;
   short = sym (cond-true (ltb size 4) (rise k.short) k.short (lt-ltb size 4 lt));
 }
 

@@ -1,6 +1,6 @@
 -- A channel that a datagram opens.
 use Rattle.std.proofs.Common.{◌≡◌, ◌⊎◌, inl, inr, ⊎_elim, ℕ, zero, suc, ◌+◌, ◌<◌, ◌≤◌, max, ltb, leb, eqb, Bool, true, false, cond, not, ◌&&◌, ◌||◌, Option, Some, None, List, [], ◌∷◌, length, drop, refl, sym, ◌∙◌, ap, subst, arith}
-use Rattle.std.proofs.lemmas.Bool.{and_parts, and_from, or_cases, or_left, or_right, or_parts, or_from, and_left, and_right, cases_Bool, both_ways, cond-true, cond-false, not-false, not-true, lt-ltb, le-ltb, eqb-true, eqb-false, eq-eqb, ne_eqb}
+use Rattle.std.proofs.lemmas.Bool.{and_parts, and_from, or_cases, or_left, or_right, or_parts, or_from, and_left, and_right, cases_Bool, both_ways, cond-true, cond-false, not-false, not-true, lt-ltb, le-ltb, eqb-true, eqb-false, eq-eqb, ne_eqb, false≢true}
 use Rattle.std.specs.Prelude.{MatchOption}
 use Rattle.rand_chacha.specs.ChaCha.{ChaCha, next_word}
 use Rattle.pp_terms.specs.Traffic as traffic
@@ -23,7 +23,7 @@ use Rattle.pp_core.specs.Standing.{Follows, SeatStands}
 use Rattle.pp_core.specs.declared.counts.Counts.{Counts}
 use Rattle.pp_core.specs.declared.channel.Channel.{Channel}
 use Rattle.pp_core.specs.declared.hearing.Heard as heard
-use Rattle.pp_core.proofs.Following.{follow_all}
+use Rattle.pp_core.proofs.Following.{Since, follow_all}
 use Rattle.pp_core.proofs.Seats.{same_self, follow_taken}
 
 pub number_some : (word : ℕ) → 0 < number_from word
@@ -61,23 +61,23 @@ greets_new d at sender local source o ms fault bytes past is fitting =
     (rw is (and_from (eqb source source) (fits d false o) (eq-eqb source source refl) fitting))
 
 -- A channel just opened, after the messages behind the handshake.
-pub record HasNewSeat (d : Descriptor) (whole : Type 0) (c : Channel) (past : List Record) : Type 0 where
+pub record HasNewSeat (d : Descriptor) (whole : ℕ → Type 0) (c : Channel) (past : List Record) : Type 0 where
   pub life : Life
   pub stands : SeatStands d whole c life past
 
 abbrev Opened : Address → ℕ → ℕ → Channel
 Opened sender word source = opened_by sender (number_from word) source
 
-new_seat : (d : Descriptor) (whole : Type 0) (chunks : ℕ) (at : ℕ) (sender : Address) (word source : ℕ) (o : Options) (ms : List Message) (fault : Option (ℕ × WireKind)) (bytes : List ℕ) (past : List Record)
+new_seat : (d : Descriptor) (whole : ℕ → Type 0) (at : ℕ) (sender : Address) (word source : ℕ) (o : Options) (ms : List Message) (fault : Option (ℕ × WireKind)) (bytes : List ℕ) (past : List Record)
     (new : Channel) (k : Counts) → datagram d.method d.chunk bytes ≡ record { channel = Some 0; messages = record { read = Handshake source o ∷ ms; fault = fault } }
-    → fits d false o ≡ true → (source ≡ 0 → ⊥) → (hear_all chunks fault ms (Opened sender word source) k).channel ≡ Some new
+    → fits d false o ≡ true → (source ≡ 0 → ⊥) → Since (chunks_of d) whole whole (hear_all (chunks_of d) fault ms (Opened sender word source) k).counts → (hear_all (chunks_of d) fault ms (Opened sender word source) k).channel ≡ Some new
     → HasNewSeat d whole new (Received at (address_of sender) bytes ∷ past)
-new_seat d whole chunks at sender word source o ms fault bytes past new k is fitting some left =
+new_seat d whole at sender word source o ms fault bytes past new k is fitting some since left =
     let life = NewLife sender (number_from word) source past in
     let r : Record = Received at (address_of sender) bytes in
     let greeting = greets_new d at sender (number_from word) source o ms fault bytes past is fitting in
-    let blank : Follows whole (Opened sender word source) [] = record { asked_for = λ e. absurd cc; kept = λ w e. absurd cc; unchoked = refl; flies = refl; first = tt } in
-    let after = follow_all whole chunks fault ms (Opened sender word source) new k (max at (now past)) [] blank left in
+    let blank : Follows (chunks_of d) whole (Opened sender word source) [] = record { runs = tt; within = λ i e. absurd (false≢true e); asked_for = λ i e. absurd (false≢true e); kept = λ i w e. absurd (false≢true e); unchoked = refl; flies = refl } in
+    let after = follow_all (chunks_of d) whole whole fault ms (Opened sender word source) new k (max at (now past)) [] since blank left in
     let told_is : heard_in d life true r ≡ ms = cond-true (greets d life r) (drop 1 (read d r).messages.read) (cond (comes_on d life r) (read d r).messages.read []) greeting ∙ rw is refl in
     let story_is : story d life (r ∷ past) ≡ Taken (max at (now past)) ∷ hear (max at (now past)) ms [] =
     story_opening d life r past refl ∙ ap (λ (xs : List Message). Taken (max at (now past)) ∷ hear (max at (now past)) xs []) told_is in
@@ -94,7 +94,7 @@ new_seat d whole chunks at sender word source o ms fault bytes past new k is fit
         open_still = closed_none d life (r ∷ past) (omega arith);
         replied = after.same.replied ∙ sym (none_new (answers d life) (length past) r past (omega arith) refl);
         heard = after.same.proven ∙ sym (none_new (comes_on d life) (length past) r past (omega arith) (zero_apart (number_from word) source o ms fault bytes is));
-        follows = subst (λ (xs : List Line). Follows whole new xs) (sym story_is) (follow_taken whole new (max at (now past)) (hear (max at (now past)) ms []) after.follows);
+        follows = subst (λ (xs : List Line). Follows (chunks_of d) whole new xs) (sym story_is) (follow_taken (chunks_of d) whole new (max at (now past)) (hear (max at (now past)) ms []) after.follows);
       };
     }
   where
@@ -114,57 +114,57 @@ new_seat d whole chunks at sender word source o ms fault bytes past new k is fit
 
 -- ---- what a datagram leaves where there was no channel
 
-abbrev pub OpensSeat : Descriptor → Type 0 → List Record → Option Channel → Type 0
-OpensSeat d whole past left = MatchOption left (Unit {0}) (λ new. HasNewSeat d whole new past)
+abbrev pub OpensSeat : Descriptor → (ℕ → Type 0) → List Record → heard.Heard → Type 0
+OpensSeat d whole past h = Since (chunks_of d) whole whole h.counts → MatchOption h.channel (Unit {0}) (λ new. HasNewSeat d whole new past)
 
 channel? : (o : Option Channel) → (o ≡ None) ⊎ ((x : Channel) × (o ≡ Some x))
 channel? None = inl refl
 channel? (Some x) = inr (x, refl)
 
-opens_greeting : (d : Descriptor) (whole : Type 0) (k : Counts) (numbers : ChaCha) (at : ℕ) (sender : Address) (ms : List Message) (fault : Option (ℕ × WireKind)) (bytes : List ℕ) (past : List Record)
+opens_greeting : (d : Descriptor) (whole : ℕ → Type 0) (k : Counts) (numbers : ChaCha) (at : ℕ) (sender : Address) (ms : List Message) (fault : Option (ℕ × WireKind)) (bytes : List ℕ) (past : List Record)
     → datagram d.method d.chunk bytes ≡ record { channel = Some 0; messages = record { read = ms; fault = fault } }
-    → OpensSeat d whole (Received at (address_of sender) bytes ∷ past) (take_greeting d sender fault ms None k numbers).heard.channel
-opens_greeting d whole k numbers at sender [] fault bytes past is = tt
+    → OpensSeat d whole (Received at (address_of sender) bytes ∷ past) (take_greeting d sender fault ms None k numbers).heard
+opens_greeting d whole k numbers at sender [] fault bytes past is = λ since. tt
 opens_greeting d whole k numbers at sender (Handshake source o ∷ ms) fault bytes past is = ⊎_elim
-    (λ refused. subst (λ (t : taking.Taken). OpensSeat d whole (Received at (address_of sender) bytes ∷ past) t.heard.channel)
-    (sym (cond-true (not (fits d false o) || eqb source 0) (leaves None (is_refused k) numbers) (greet_fitting (chunks_of d) sender source (record { read = ms; fault = fault }) None k numbers) refused)) tt)
+    (λ refused. subst (λ (t : taking.Taken). OpensSeat d whole (Received at (address_of sender) bytes ∷ past) t.heard)
+    (sym (cond-true (not (fits d false o) || eqb source 0) (leaves None (is_refused k) numbers) (greet_fitting (chunks_of d) sender source (record { read = ms; fault = fault }) None k numbers) refused)) (λ since. tt))
     (λ welcome.
     let parts = or_parts (not (fits d false o)) (eqb source 0) welcome in
-    let left = (hear_all (chunks_of d) fault ms (Opened sender (next_word 10 numbers).0 source) k).channel in
-    subst (λ (t : taking.Taken). OpensSeat d whole (Received at (address_of sender) bytes ∷ past) t.heard.channel)
+    let left = hear_all (chunks_of d) fault ms (Opened sender (next_word 10 numbers).0 source) k in
+    subst (λ (t : taking.Taken). OpensSeat d whole (Received at (address_of sender) bytes ∷ past) t.heard)
     (sym (cond-false (not (fits d false o) || eqb source 0) (leaves None (is_refused k) numbers) (greet_fitting (chunks_of d) sender source (record { read = ms; fault = fault }) None k numbers) welcome))
-    (⊎_elim
-    (λ none. subst (λ (x : Option Channel). OpensSeat d whole (Received at (address_of sender) bytes ∷ past) x) (sym none) tt)
-    (λ some. subst (λ (x : Option Channel). OpensSeat d whole (Received at (address_of sender) bytes ∷ past) x) (sym some.1)
-    (new_seat d whole (chunks_of d) at sender (next_word 10 numbers).0 source o ms fault bytes past some.0 k is (not-false (fits d false o) parts.0) (eqb-false source 0 parts.1) some.1))
-    (channel? left)))
+    (λ since. ⊎_elim
+    (λ none. subst (λ (x : Option Channel). MatchOption x (Unit {0}) (λ new. HasNewSeat d whole new (Received at (address_of sender) bytes ∷ past))) (sym none) tt)
+    (λ some. subst (λ (x : Option Channel). MatchOption x (Unit {0}) (λ new. HasNewSeat d whole new (Received at (address_of sender) bytes ∷ past))) (sym some.1)
+    (new_seat d whole at sender (next_word 10 numbers).0 source o ms fault bytes past some.0 k is (not-false (fits d false o) parts.0) (eqb-false source 0 parts.1) since some.1))
+    (channel? left.channel)))
     (cases_Bool (not (fits d false o) || eqb source 0))
-opens_greeting d whole k numbers at sender (Data chunk sent_at content ∷ ms) fault bytes past is = tt
-opens_greeting d whole k numbers at sender (Ack span delay ∷ ms) fault bytes past is = tt
-opens_greeting d whole k numbers at sender (Have span ∷ ms) fault bytes past is = tt
-opens_greeting d whole k numbers at sender (Integrity span digest ∷ ms) fault bytes past is = tt
-opens_greeting d whole k numbers at sender (Pex4 address port ∷ ms) fault bytes past is = tt
-opens_greeting d whole k numbers at sender (PexReq ∷ ms) fault bytes past is = tt
-opens_greeting d whole k numbers at sender (Request span ∷ ms) fault bytes past is = tt
-opens_greeting d whole k numbers at sender (Cancel span ∷ ms) fault bytes past is = tt
-opens_greeting d whole k numbers at sender (Choke ∷ ms) fault bytes past is = tt
-opens_greeting d whole k numbers at sender (Unchoke ∷ ms) fault bytes past is = tt
-opens_greeting d whole k numbers at sender (Pex6 address port ∷ ms) fault bytes past is = tt
+opens_greeting d whole k numbers at sender (Data chunk sent_at content ∷ ms) fault bytes past is = λ since. tt
+opens_greeting d whole k numbers at sender (Ack span delay ∷ ms) fault bytes past is = λ since. tt
+opens_greeting d whole k numbers at sender (Have span ∷ ms) fault bytes past is = λ since. tt
+opens_greeting d whole k numbers at sender (Integrity span digest ∷ ms) fault bytes past is = λ since. tt
+opens_greeting d whole k numbers at sender (Pex4 address port ∷ ms) fault bytes past is = λ since. tt
+opens_greeting d whole k numbers at sender (PexReq ∷ ms) fault bytes past is = λ since. tt
+opens_greeting d whole k numbers at sender (Request span ∷ ms) fault bytes past is = λ since. tt
+opens_greeting d whole k numbers at sender (Cancel span ∷ ms) fault bytes past is = λ since. tt
+opens_greeting d whole k numbers at sender (Choke ∷ ms) fault bytes past is = λ since. tt
+opens_greeting d whole k numbers at sender (Unchoke ∷ ms) fault bytes past is = λ since. tt
+opens_greeting d whole k numbers at sender (Pex6 address port ∷ ms) fault bytes past is = λ since. tt
 
-opens_for : (d : Descriptor) (whole : Type 0) (k : Counts) (numbers : ChaCha) (at : ℕ) (sender : Address) (bytes : List ℕ) (past : List Record) (channel : Option ℕ)
+opens_for : (d : Descriptor) (whole : ℕ → Type 0) (k : Counts) (numbers : ChaCha) (at : ℕ) (sender : Address) (bytes : List ℕ) (past : List Record) (channel : Option ℕ)
     → (datagram d.method d.chunk bytes).channel ≡ channel
-    → OpensSeat d whole (Received at (address_of sender) bytes ∷ past) (take_for d sender bytes (datagram d.method d.chunk bytes).messages channel None k numbers).heard.channel
-opens_for d whole k numbers at sender bytes past None is = tt
+    → OpensSeat d whole (Received at (address_of sender) bytes ∷ past) (take_for d sender bytes (datagram d.method d.chunk bytes).messages channel None k numbers).heard
+opens_for d whole k numbers at sender bytes past None is = λ since. tt
 opens_for d whole k numbers at sender bytes past (Some number) is =
     let it = (datagram d.method d.chunk bytes).messages in
     ⊎_elim
-    (λ anew. subst (λ (t : taking.Taken). OpensSeat d whole (Received at (address_of sender) bytes ∷ past) t.heard.channel)
+    (λ anew. subst (λ (t : taking.Taken). OpensSeat d whole (Received at (address_of sender) bytes ∷ past) t.heard)
     (sym (cond-true (eqb number 0) (take_greeting d sender it.fault it.read None k numbers) (record { heard = take_numbered (chunks_of d) number (eqb (length bytes) 4) sender it None k; numbers = numbers }) anew))
     (opens_greeting d whole k numbers at sender it.read it.fault bytes past (ap (λ (o : Option ℕ). record { channel = o; messages = it }) (is ∙ ap (λ (n : ℕ). Some n) (eqb-true number 0 anew)))))
-    (λ numbered. subst (λ (t : taking.Taken). OpensSeat d whole (Received at (address_of sender) bytes ∷ past) t.heard.channel)
-    (sym (cond-false (eqb number 0) (take_greeting d sender it.fault it.read None k numbers) (record { heard = take_numbered (chunks_of d) number (eqb (length bytes) 4) sender it None k; numbers = numbers }) numbered)) tt)
+    (λ numbered. subst (λ (t : taking.Taken). OpensSeat d whole (Received at (address_of sender) bytes ∷ past) t.heard)
+    (sym (cond-false (eqb number 0) (take_greeting d sender it.fault it.read None k numbers) (record { heard = take_numbered (chunks_of d) number (eqb (length bytes) 4) sender it None k; numbers = numbers }) numbered)) (λ since. tt))
     (cases_Bool (eqb number 0))
 
-pub opens_seat : (d : Descriptor) (whole : Type 0) (k : Counts) (numbers : ChaCha) (at : ℕ) (sender : Address) (bytes : List ℕ) (past : List Record)
-    → OpensSeat d whole (Received at (address_of sender) bytes ∷ past) (take_datagram d sender bytes None k numbers).heard.channel
+pub opens_seat : (d : Descriptor) (whole : ℕ → Type 0) (k : Counts) (numbers : ChaCha) (at : ℕ) (sender : Address) (bytes : List ℕ) (past : List Record)
+    → OpensSeat d whole (Received at (address_of sender) bytes ∷ past) (take_datagram d sender bytes None k numbers).heard
 opens_seat d whole k numbers at sender bytes past = opens_for d whole k numbers at sender bytes past (datagram d.method d.chunk bytes).channel refl

@@ -1,6 +1,6 @@
 -- A turn of a peer that stands for its traffic leaves nothing that it owes.
 use Rattle.std.proofs.Common.{◌≡◌, ◌⊎◌, inl, inr, ⊎_elim, ℕ, zero, suc, ◌+◌, ◌<◌, ◌≤◌, ltb, leb, eqb, Bool, true, false, cond, not, ◌&&◌, ◌||◌, Option, Some, None, List, [], ◌∷◌, ◌++◌, length, take, drop, refl, sym, ◌∙◌, ap, subst, arith}
-use Rattle.std.proofs.lemmas.Bool.{and_parts, and_from, or_cases, or_left, or_right, or_parts, or_from, cases_Bool, cond-true, cond-false, not-true, eqb-true, ne_eqb}
+use Rattle.std.proofs.lemmas.Bool.{and_parts, and_from, or_cases, or_left, or_right, or_parts, or_from, cases_Bool, cond-true, cond-false, not-true, eqb-true, ne_eqb, false≢true}
 use Rattle.std.specs.Prelude.{MatchOption, MatchBool}
 use Rattle.std.specs.List.{AllByRecursion, list_any}
 use Rattle.std.proofs.Math.Seq.{take-length}
@@ -27,7 +27,9 @@ use Rattle.pp_core.specs.Taking.{Taken, leaves, is_refused, is_stranger, number_
 use Rattle.pp_core.specs.Events.{reached, after_event}
 use Rattle.pp_core.specs.Sending.{owes_reply, may_deliver}
 use Rattle.pp_core.specs.Sends.{replies_on, OwesNone, LeavesNone}
-use Rattle.pp_core.specs.Standing.{State, IsWhole, NonePlain, SeatStands, HasSeat, StandsFor}
+use Rattle.pp_terms.specs.Range.{Span, has}
+use Rattle.pp_core.specs.Sending.{is_asked}
+use Rattle.pp_core.specs.Standing.{State, IsKept, NonePlain, SeatStands, HasSeat, StandsFor}
 use Rattle.pp_core.specs.declared.counts.Counts.{Counts}
 use Rattle.pp_core.specs.declared.channel.Channel.{Channel}
 use Rattle.pp_core.specs.declared.hearing.Heard.{Heard}
@@ -80,7 +82,7 @@ pub no_channel : (book : LookUp) (since : ℕ) (s : State) (past : List Record) 
 no_channel book since s past st none = ⊎_elim
     (λ e. e)
     (λ some.
-    let seat = subst (λ (o : Option Channel). MatchOption o (NonePlain s.descriptor past) (λ x. HasSeat s.descriptor (IsWhole s.counts) x past)) some.1 st.seat in
+    let seat = subst (λ (o : Option Channel). MatchOption o (NonePlain s.descriptor past) (λ x. HasSeat s.descriptor (IsKept s.descriptor s.committed s.counts) x past)) some.1 st.seat in
     let stands = seat.stands in
     let remote_some : 0 < seat.life.remote = subst (λ (n : ℕ). 0 < n) (sym stands.remote) stands.remote_some in
     let knocked = any_at (greets s.descriptor seat.life) (knocks_in s.descriptor) seat.life.opening past (λ r. greeting_knocks s.descriptor seat.life r stands.answered remote_some) stands.opened in
@@ -113,11 +115,11 @@ hears_on chunks None [] c k none = record { new = c; is = refl; same = same_seat
 hears_on chunks (Some fault) [] c k none = record { new = c; is = refl; same = same_seat c }
 hears_on chunks fault (m ∷ ms) c k none =
     let parts = or_parts (is_handshake m) (list_any is_handshake ms) none in
-    let rest = hears_on chunks fault ms (after_message m c) (counted chunks m k) parts.1 in
+    let rest = hears_on chunks fault ms (after_message chunks m c) (counted chunks m c k) parts.1 in
     record {
       new = rest.new;
-      is = ap (λ (h : Heard). h.channel) (cond-false (is_closing m) (record { channel = None; counts = k }) (hear_all chunks fault ms (after_message m c) (counted chunks m k)) (not_closing m parts.0)) ∙ rest.is;
-      same = same_after m c rest.new rest.same;
+      is = ap (λ (h : Heard). h.channel) (cond-false (is_closing m) (record { channel = None; counts = k }) (hear_all chunks fault ms (after_message chunks m c) (counted chunks m c k)) (not_closing m parts.0)) ∙ rest.is;
+      same = same_after chunks m c rest.new rest.same;
     }
 
 -- The channel is to that peer, and its reply is owed.
@@ -299,27 +301,34 @@ plain_replied d life past answered plain =
     let begun : IsPlainAnswer d life past = subst (λ (b : Bool). MatchBool b (IsPlainDial d life past past) (IsPlainAnswer d life past)) answered plain.begins in
     since_first (goes_to life.address) (answers d life) life.opening past begun.replied
 
-served_seat : (d : Descriptor) (whole : Type 0) (c : Channel) (life : Life) (past : List Record) → whole → may_deliver c ≡ false → SeatStands d whole c life past → IsPlainNow d life past
-    → is_heard d life past ≡ true → asked 0 (story d life past) ≡ true → fewer_than_two (story d life past) ≡ false
-served_seat d whole c life past w left stands plain heard asks =
+some_asked : (list : List Span) (i : ℕ) → has list i ≡ true → is_asked list ≡ true
+some_asked [] i e = absurd (false≢true e)
+some_asked (x ∷ list) i e = refl
+
+served_seat : (d : Descriptor) (whole : ℕ → Type 0) (c : Channel) (life : Life) (i : ℕ) (past : List Record) → whole i → may_deliver c ≡ false → SeatStands d whole c life past → IsPlainNow d life past
+    → is_heard d life past ≡ true → asked i (story d life past) ≡ true → fewer_than_two (story d life past) ≡ false
+served_seat d whole c life i past w left stands plain heard asks =
     let proven : c.proven ≡ true = stands.heard ∙ heard in
     let replied : c.replied ≡ true = stands.replied ∙ plain_replied d life past stands.answered plain in
-    let wanted : c.asked ≡ true = stands.follows.kept w asks in
-    let few : ltb c.flying 2 ≡ false = sym (ap (λ (b : Bool). b && ltb c.flying 2) (and_from (c.proven && c.replied) c.asked (and_from c.proven c.replied proven replied) wanted)) ∙ left in
-    subst (λ (n : ℕ). ltb n 2 ≡ false) stands.follows.flies few
+    let wanted : is_asked c.asked ≡ true = some_asked c.asked i (stands.follows.kept i w asks) in
+    let few : ltb (length c.flying) 2 ≡ false =
+    sym (ap (λ (b : Bool). b && ltb (length c.flying) 2) (and_from (c.proven && c.replied) (is_asked c.asked) (and_from c.proven c.replied proven replied) wanted)) ∙ left in
+    subst (λ (xs : List ℕ). ltb (length xs) 2 ≡ false) stands.follows.flies few
 
-pub serves_turn : (book : LookUp) (since : ℕ) (s : State) (past : List Record) → StandsFor book since s past → IsWhole s.counts → LeavesNone s → ServesAsked s.descriptor fewer_than_two 0 past
-serves_turn book since s past st w left life plain heard asks = ⊎_elim
-    (λ none. let nothing : NonePlain s.descriptor past = subst (λ (o : Option Channel). MatchOption o (NonePlain s.descriptor past) (λ x. HasSeat s.descriptor (IsWhole s.counts) x past)) none st.seat in absurd (nothing life plain))
+pub serves_turn : (book : LookUp) (since : ℕ) (s : State) (i : ℕ) (past : List Record) → StandsFor book since s past → IsKept s.descriptor s.committed s.counts i → LeavesNone s → ServesAsked s.descriptor fewer_than_two i past
+serves_turn book since s i past st w left life plain heard asks =
+    let kept = IsKept s.descriptor s.committed s.counts in
+    ⊎_elim
+    (λ none. let nothing : NonePlain s.descriptor past = subst (λ (o : Option Channel). MatchOption o (NonePlain s.descriptor past) (λ x. HasSeat s.descriptor kept x past)) none st.seat in absurd (nothing life plain))
     (λ some.
-    let seat = subst (λ (o : Option Channel). MatchOption o (NonePlain s.descriptor past) (λ x. HasSeat s.descriptor (IsWhole s.counts) x past)) some.1 st.seat in
+    let seat = subst (λ (o : Option Channel). MatchOption o (NonePlain s.descriptor past) (λ x. HasSeat s.descriptor kept x past)) some.1 st.seat in
     let done : may_deliver some.0 ≡ false = subst (λ (o : Option Channel). MatchOption o (Unit {0}) (λ x. may_deliver x ≡ false)) some.1 left in
     let same = seat.only life plain in
     subst (λ (l : Life). fewer_than_two (story s.descriptor l past) ≡ false) (sym same)
-    (served_seat s.descriptor (IsWhole s.counts) some.0 seat.life past w done seat.stands
+    (served_seat s.descriptor kept some.0 seat.life i past w done seat.stands
     (subst (λ (l : Life). IsPlainNow s.descriptor l past) same plain)
     (subst (λ (l : Life). is_heard s.descriptor l past ≡ true) same heard)
-    (subst (λ (l : Life). asked 0 (story s.descriptor l past) ≡ true) same asks)))
+    (subst (λ (l : Life). asked i (story s.descriptor l past) ≡ true) same asks)))
     (channel? s.channel)
 
 -- ---- an event, and what was sent then

@@ -8,7 +8,7 @@ use Rattle.pp_terms.specs.Messages.{Message, WireKind, Step, Read, End, Cut, nex
 use Rattle.pp_terms.proofs.MessageLaws.{IsBytes-drop, read_is_spelt, spelt_some}
 use Rattle.pp_terms.proofs.DatagramLaws.{one_by_one}
 use Rattle.pp_core.specs.Counting.{rise}
-use Rattle.pp_core.specs.Hearing.{is_closing, after_message, counted, hear_rest}
+use Rattle.pp_core.specs.Hearing.{is_outside, is_closing, after_message, is_full, counted, hear_rest}
 use Rattle.pp_core.specs.Progress.{hear_at}
 use Rattle.pp_core.specs.declared.counts.Counts.{Counts}
 use Rattle.pp_core.specs.declared.channel.Channel.{Channel}
@@ -79,17 +79,17 @@ Rest method chunk at bytes = messages_at method chunk at (drop at bytes)
 -- the step of a message, of one that closes, of the end and of a fault
 pub hears : (method : Method) (chunk chunks at next : ℕ) (bytes : List ℕ) (m : Message) (c : Channel) (k : Counts) → 0 < chunk → IsBytes bytes → at ≤ length bytes
     → moved at (next_message method chunk (drop at bytes)) ≡ Read m next → is_closing m ≡ false
-    → hear_rest chunks (messages_at method chunk at (drop at bytes)) c k ≡ hear_rest chunks (messages_at method chunk next (drop next bytes)) (after_message m c) (counted chunks m k)
+    → hear_rest chunks (messages_at method chunk at (drop at bytes)) c k ≡ hear_rest chunks (messages_at method chunk next (drop next bytes)) (after_message chunks m c) (counted chunks m c k)
 hears method chunk chunks at next bytes m c k some fits le e open_still =
     ap (λ (rest : Messages). hear_rest chunks rest c k) (is_read method chunk at next bytes m some fits le e).rest
-    ∙ cond-false (is_closing m) (record { channel = None; counts = k }) (hear_rest chunks (messages_at method chunk next (drop next bytes)) (after_message m c) (counted chunks m k)) open_still
+    ∙ cond-false (is_closing m) (record { channel = None; counts = k }) (hear_rest chunks (messages_at method chunk next (drop next bytes)) (after_message chunks m c) (counted chunks m c k)) open_still
 
 pub hears_close : (method : Method) (chunk chunks at next : ℕ) (bytes : List ℕ) (m : Message) (c : Channel) (k : Counts) → 0 < chunk → IsBytes bytes → at ≤ length bytes
     → moved at (next_message method chunk (drop at bytes)) ≡ Read m next → is_closing m ≡ true
     → hear_rest chunks (messages_at method chunk at (drop at bytes)) c k ≡ record { channel = None; counts = k }
 hears_close method chunk chunks at next bytes m c k some fits le e closing =
     ap (λ (rest : Messages). hear_rest chunks rest c k) (is_read method chunk at next bytes m some fits le e).rest
-    ∙ cond-true (is_closing m) (record { channel = None; counts = k }) (hear_rest chunks (messages_at method chunk next (drop next bytes)) (after_message m c) (counted chunks m k)) closing
+    ∙ cond-true (is_closing m) (record { channel = None; counts = k }) (hear_rest chunks (messages_at method chunk next (drop next bytes)) (after_message chunks m c) (counted chunks m c k)) closing
 
 pub hears_end : (method : Method) (chunk chunks at : ℕ) (bytes : List ℕ) (c : Channel) (k : Counts) → 0 < chunk → IsBytes bytes
     → moved at (next_message method chunk (drop at bytes)) ≡ End
@@ -105,18 +105,21 @@ hears_cut method chunk chunks at place kind bytes c k some fits e =
     ap (λ (rest : Messages). hear_rest chunks rest c k) ((one_by_one method chunk at (drop at bytes) some (IsBytes-drop at bytes fits)).2 p.place kind p.is)
 
 -- The same in the words of the code.
-pub hears_on : (d : Descriptor) (bytes : List ℕ) (at next : ℕ) (m : Message) (c c' : Channel) (k k' : Counts) (chunks : ℕ) → 0 < d.chunk → IsBytes bytes → at ≤ length bytes
+pub hears_on : (d : Descriptor) (bytes : List ℕ) (at next : ℕ) (m : Message) (c c' : Channel) (k k' : Counts) (chunks : ℕ) (full : Bool) → 0 < d.chunk → IsBytes bytes → at ≤ length bytes
     → Read m next ≡ moved at (next_message d.method d.chunk (drop at bytes)) → is_closing m ≡ false → chunks ≡ chunks_of d
-    → c' ≡ after_message m c → k' ≡ counted chunks m k
+    → c' ≡ after_message chunks m c → full ≡ is_full chunks m c.asked
+    → k' ≡ record k { outside = cond (is_outside chunks m) (rise k.outside) k.outside; full = cond full (rise k.full) k.full }
     → (at < next) × (next ≤ length bytes) × (hear_at d bytes at c k ≡ hear_at d bytes next c' k')
-hears_on d bytes at next m c c' k k' chunks some fits le e open_still few channel_is counts_are =
-    let r = is_read d.method d.chunk at next bytes m some fits le (sym e) in (
+hears_on d bytes at next m c c' k k' chunks full some fits le e open_still few channel_is full_is counts_are =
+    let r = is_read d.method d.chunk at next bytes m some fits le (sym e) in
+    let counts : k' ≡ counted (chunks_of d) m c k =
+    counts_are ∙ ap (λ (b : Bool). record k { outside = cond (is_outside chunks m) (rise k.outside) k.outside; full = cond b (rise k.full) k.full }) full_is
+    ∙ ap (λ (n : ℕ). counted n m c k) few in (
       r.later,
       r.within,
       hears d.method d.chunk (chunks_of d) at next bytes m c k some fits le (sym e) open_still
-          ∙ ap (λ (x : Channel). hear_at d bytes next x (counted (chunks_of d) m k)) (sym channel_is)
-          ∙ ap (λ (n : ℕ). hear_at d bytes next c' (counted n m k)) (sym few)
-          ∙ ap (λ (x : Counts). hear_at d bytes next c' x) (sym counts_are),
+          ∙ ap (λ (x : Channel). hear_at d bytes next x (counted (chunks_of d) m c k)) (sym (channel_is ∙ ap (λ (n : ℕ). after_message n m c) few))
+          ∙ ap (λ (x : Counts). hear_at d bytes next c' x) (sym counts),
     )
 
 pub hears_last : (d : Descriptor) (bytes : List ℕ) (at next : ℕ) (m : Message) (c : Channel) (k : Counts) → 0 < d.chunk → IsBytes bytes → at ≤ length bytes

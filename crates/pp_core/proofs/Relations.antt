@@ -2,27 +2,31 @@
 use Rattle.std.proofs.Common.{◌≡◌, ◌⊎◌, inl, inr, ⊎_elim, ℕ, zero, suc, ◌+◌, ◌-◌, ◌^◌, ◌<◌, ◌≤◌, min, ltb, Bool, true, false, ◌&&◌, Option, Some, None, List, [], ◌∷◌, ◌++◌, length, refl, sym, ◌∙◌, ap, subst, arith, append_assoc}
 use Rattle.std.specs.Prelude.{MatchOption, MatchBool, slice_index_or}
 use Rattle.std.specs.List.{AllByRecursion, list_any}
+use Rattle.std.proofs.lemmas.Bool.{and_parts, and_from, and_left, and_right, ltb-true, eq-eqb, or_left, or_right}
 use Rattle.pp_terms.specs.Book.{LookUp}
 use Rattle.pp_terms.specs.Count.{HasRisen}
 use Rattle.pp_terms.specs.Traffic.{LinkState, Record, Sent, GainsRecords}
-use Rattle.pp_terms.specs.Descriptor.{Descriptor, chunks_of}
-use Rattle.pp_terms.specs.Disk.{DiskState, IsKnown, moment_of}
-use Rattle.pp_terms.specs.Image.{holds}
-use Rattle.std.proofs.lemmas.Bool.{and_parts, and_from, and_left, and_right, ltb-true, eq-eqb, or_left, or_right}
+use Rattle.pp_terms.specs.Descriptor.{Descriptor}
+use Rattle.pp_terms.specs.Disk.{DiskState, History, IsKnown, moment_of}
+use Rattle.pp_terms.specs.Messages.{Message, Datagram, datagram}
+use Rattle.pp_terms.proofs.Knowing.{known_on}
 use Rattle.pp_traffic.specs.Past.{read, goes_to, is_number, same_address, is_event}
 use Rattle.pp_traffic.specs.Life.{begins_as}
-use Rattle.pp_terms.specs.Messages.{Message, Datagram, datagram}
 use Rattle.pp_outside.specs.Outside.{address_of}
-use Rattle.pp_core.specs.Serving.{IsChunk, Served, waits, lacks, unread, damaged, delivers}
+use Rattle.pp_terms.specs.Range.{has}
+use Rattle.pp_requests.specs.Lists.{chunk_count}
+use Rattle.pp_scan.specs.Holding.{is_there}
+use Rattle.pp_core.specs.Serving.{ReadsAlone, IsLacking, Served, lacks, unread, damaged, delivers, ServesLeast}
 use Rattle.pp_core.specs.Writing.{IsDatagram, reply, delivery}
 use Rattle.pp_core.specs.Sending.{is_sent, is_unsent, is_unheld, is_unread, is_damaged, is_replied, is_met, is_delivered, SendsOne, SendsNone, leaves_on, owes_reply, may_deliver, Replies, Delivers}
-use Rattle.pp_core.specs.Sends.{HasShape, IsOurs, replies_on, OwesNone, SameCore, Sends, RisesWith, Causes, on, HasReplied, HasServed}
-use Rattle.pp_core.specs.Standing.{State, holds_first, StandsFor}
+use Rattle.pp_core.specs.Sends.{HasShape, IsOurs, replies_on, OwesNone, SameCore, Sends, RisesWith, LeavesNone, IsDamagedThere, Causes, on, HasReplied, ServesNext, Point, ServesEach, HasServed, asked_on, asked_count}
+use Rattle.pp_core.specs.Standing.{State, IsKept, StandsFor}
 use Rattle.pp_core.specs.declared.counts.Counts.{Counts}
 use Rattle.pp_core.specs.declared.channel.Channel.{Channel}
 use Rattle.pp_core.specs.declared.hearing.Heard.{Heard}
 use Rattle.pp_core.proofs.Seats.{same_self}
-use Rattle.pp_core.proofs.Sends.{IsLeft, left_as_is, left_met, IsLost, lost_unsent, lost_unheld, lost_unread, lost_damaged, SameTies, stands_left, stands_replied, stands_delivered}
+use Rattle.pp_core.proofs.Servings.{MayParts, may_parts, reads_nothing}
+use Rattle.pp_core.proofs.Sends.{lost_unsent, lost_unread, lost_damaged, KeptBut, lost_but, unheld_but, SameTies, stands_met, stands_due, stands_replied, stands_delivered}
 
 same_core : (s : State) (channel : Option Channel) (k : Counts) → SameCore s (record s { channel = channel; counts = k })
 same_core s channel k = record { descriptor = refl; committed = refl; latest = refl; numbers = refl; is_live = refl }
@@ -35,8 +39,8 @@ owes_none : (s : State) (c : Channel) → s.channel ≡ Some c → owes_reply c 
 owes_none s c here e = subst (λ (o : Option Channel). MatchOption o (Unit {0}) (λ x. owes_reply x ≡ false)) (sym here) e
 
 -- nothing was done
-pub sends_nothing : (moment : ℕ) (seen : LinkState) (s : State) → Sends moment seen seen s s
-sends_nothing moment seen s = record {
+pub sends_nothing : (book : LookUp) (moment : ℕ) (seen : LinkState) (s : State) → Sends book moment seen seen s s
+sends_nothing book moment seen s = record {
   added = [];
   gained = gains_nothing seen.traffic seen.traffic refl;
   all_sent = tt;
@@ -45,13 +49,17 @@ sends_nothing moment seen s = record {
   nexts = refl;
   later = omega arith;
   core = record { descriptor = refl; committed = refl; latest = refl; numbers = refl; is_live = refl };
-  stands = λ book since past le st. st;
+  stands = λ since past le st. st;
 }
 
--- a request was given up, or a datagram refused
-pub sends_left : (moment : ℕ) (seen seen' : LinkState) (s : State) (c new : Channel) (k : Counts) → s.channel ≡ Some c → IsLeft c new → owes_reply new ≡ owes_reply c → IsLost k → SameTies s.counts k
-    → seen'.traffic ≡ seen.traffic → seen'.nexts ≡ seen.nexts → seen.faults ≤ seen'.faults → Sends moment seen seen' s (on s (leaves_on new k))
-sends_left moment seen seen' s c new k here left owes lost ties same nexts later = record {
+pub sends_same : (book : LookUp) (moment : ℕ) (seen : LinkState) (s new : State) → new ≡ s → Sends book moment seen seen s new
+sends_same book moment seen s new e = subst (λ (x : State). Sends book moment seen seen s x) (sym e) (sends_nothing book moment seen s)
+
+-- nothing was sent
+sends_none : (book : LookUp) (moment : ℕ) (seen seen' : LinkState) (s : State) (c new : Channel) (k : Counts) → s.channel ≡ Some c → owes_reply new ≡ owes_reply c
+    → ((since : ℕ) (past : List Record) → StandsFor book since s past → StandsFor book since (on s (leaves_on new k)) past)
+    → seen'.traffic ≡ seen.traffic → seen'.nexts ≡ seen.nexts → seen.faults ≤ seen'.faults → Sends book moment seen seen' s (on s (leaves_on new k))
+sends_none book moment seen seen' s c new k here owes stands same nexts later = record {
   added = [];
   gained = gains_nothing seen.traffic seen'.traffic same;
   all_sent = tt;
@@ -60,62 +68,84 @@ sends_left moment seen seen' s c new k here left owes lost ties same nexts later
   nexts = nexts;
   later = later;
   core = same_core s (Some new) k;
-  stands = λ book since past le st. stands_left book since s c new k past here left lost ties st;
+  stands = λ since past le st. stands since past st;
 }
 
-same_ties : (k : Counts) → SameTies k (is_unsent k)
-same_ties k = record { datagrams = refl; short = refl; sent = refl }
-
-is_reply : (s : State) (c : Channel) (moment : ℕ) (bytes : List ℕ) → s.channel ≡ Some c → IsDatagram s.descriptor bytes c.remote (reply s.descriptor c.local (holds_first s))
+is_reply : (s : State) (c : Channel) (moment : ℕ) (bytes : List ℕ) (ms : List Message) → s.channel ≡ Some c → IsDatagram s.descriptor bytes c.remote ms → begins_as c.local ms ≡ true
     → replies_on s.descriptor s.channel (Sent moment (address_of c.address) bytes) ≡ true
-is_reply s c moment bytes here is =
+is_reply s c moment bytes ms here is begins =
     let it = datagram s.descriptor.method s.descriptor.chunk bytes in
     let r = Sent moment (address_of c.address) bytes in
     subst (λ (o : Option Channel). replies_on s.descriptor o r ≡ true) (sym here)
     (and_from (goes_to (address_of c.address) r && is_number c.remote it.channel) (begins_as c.local it.messages.read)
     (and_from (goes_to (address_of c.address) r) (is_number c.remote it.channel) (same_self (address_of c.address))
     (subst (λ (x : Datagram). is_number c.remote x.channel ≡ true) (sym is) (eq-eqb c.remote c.remote refl)))
-    (subst (λ (x : Datagram). begins_as c.local x.messages.read ≡ true) (sym is) (eq-eqb c.local c.local refl)))
+    (subst (λ (x : Datagram). begins_as c.local x.messages.read ≡ true) (sym is) begins))
 
-pub sends_reply : (moment : ℕ) (seen seen' : LinkState) (s : State) (c : Channel) (h : Heard) → s.channel ≡ Some c → Replies s.descriptor (holds_first s) c s.counts moment seen seen' h
-    → Sends moment seen seen' s (on s h)
-sends_reply moment seen seen' s c h here (inl sent) =
-    subst (λ (x : Heard). Sends moment seen seen' s (on s x)) (sym sent.1)
+pub sends_reply : (book : LookUp) (moment : ℕ) (seen seen' : LinkState) (s : State) (c : Channel) (h : Heard) → s.channel ≡ Some c → Replies s.descriptor s.committed c s.counts moment seen seen' h
+    → Sends book moment seen seen' s (on s h)
+sends_reply book moment seen seen' s c h here (inl sent) =
+    let one = sent.0.sends in
+    subst (λ (x : Heard). Sends book moment seen seen' s (on s x)) (sym sent.1)
     (record {
-      added = Sent moment (address_of c.address) sent.0.bytes ∷ [];
-      gained = sent.0.gained;
+      added = Sent moment (address_of c.address) one.bytes ∷ [];
+      gained = one.gained;
       all_sent = (refl, tt);
-      shaped = (record { short = sent.0.short; number = c.remote; messages = reply s.descriptor c.local (holds_first s); read = sent.0.read; either = inl (c.local, refl) }, tt);
-      answered = λ e. inr (or_left (replies_on s.descriptor s.channel (Sent moment (address_of c.address) sent.0.bytes)) false
-          (is_reply s c moment sent.0.bytes here sent.0.read));
-      nexts = sent.0.nexts;
-      later = sent.0.later;
+      shaped = (record { short = one.short; number = c.remote; messages = reply s.descriptor c.local sent.0.spans; read = one.read; either = inl (record { local = c.local; spans = sent.0.spans; news = sent.0.news; are = refl }) }, tt);
+      answered = λ e. inr (or_left (replies_on s.descriptor s.channel (Sent moment (address_of c.address) one.bytes)) false
+          (is_reply s c moment one.bytes (reply s.descriptor c.local sent.0.spans) here one.read (eq-eqb c.local c.local refl)));
+      nexts = one.nexts;
+      later = one.later;
       core = same_core s (Some (is_replied c)) (is_sent s.counts);
-      stands = λ book since past le st. stands_replied book since s c moment sent.0.bytes past here le sent.0.read st;
+      stands = λ since past le st. stands_replied book since s c moment sent.0.spans one.bytes past here le sent.0.news one.read st;
     })
-sends_reply moment seen seen' s c h here (inr refused) =
-    subst (λ (x : Heard). Sends moment seen seen' s (on s x)) (sym refused.1)
-    (sends_left moment seen seen' s c c (is_unsent s.counts) here (left_as_is c) refl (lost_unsent s.counts) (same_ties s.counts) refused.0.same refused.0.nexts refused.0.later)
+sends_reply book moment seen seen' s c h here (inr refused) =
+    subst (λ (x : Heard). Sends book moment seen seen' s (on s x)) (sym refused.1)
+    (sends_none book moment seen seen' s c c (is_unsent s.counts) here refl (λ since past st. stands_due book since s c past here st) refused.0.same refused.0.nexts refused.0.later)
 
-pub sends_delivery : (moment : ℕ) (seen seen' : LinkState) (s : State) (c : Channel) (now' : ℕ) (digest content : List ℕ) (h : Heard) → s.channel ≡ Some c
-    → c.proven ≡ true → c.replied ≡ true → c.asked ≡ true → c.flying < 2 → IsChunk s.descriptor digest content
-    → Delivers s.descriptor now' digest content c s.counts moment seen seen' h → Sends moment seen seen' s (on s h)
-sends_delivery moment seen seen' s c now' digest content h here proven replied asks few chunk (inl sent) =
-    subst (λ (x : Heard). Sends moment seen seen' s (on s x)) (sym sent.1)
+-- a request was given up
+sends_met : (book : LookUp) (moment : ℕ) (seen seen' : LinkState) (s : State) (i : ℕ) (c : Channel) (k : Counts) (h : Heard) → s.channel ≡ Some c
+    → KeptBut i (IsKept s.descriptor s.committed s.counts) (IsKept s.descriptor s.committed k) → SameTies s.counts k
+    → seen'.traffic ≡ seen.traffic → seen'.nexts ≡ seen.nexts → seen.faults ≤ seen'.faults → h ≡ leaves_on (is_met i c) k → Sends book moment seen seen' s (on s h)
+sends_met book moment seen seen' s i c k h here but ties same nexts later is =
+    subst (λ (x : Heard). Sends book moment seen seen' s (on s x)) (sym is)
+    (sends_none book moment seen seen' s c (is_met i c) k here refl (λ since past st. stands_met book since s i c k past here but ties st) same nexts later)
+
+same_faults : (seen seen' : LinkState) → seen' ≡ seen → seen.faults ≤ seen'.faults
+same_faults seen seen' e = let same = ap (λ (x : LinkState). x.faults) e in omega arith
+
+pub sends_served : (book : LookUp) (disk disk' : DiskState) (seen seen' : LinkState) (s : State) (i : ℕ) (c : Channel) (h : Heard) → s.channel ≡ Some c → MayParts c → has c.asked i ≡ true
+    → Served s.descriptor s.committed book i s.latest c s.counts disk disk' seen seen' h → Sends book (moment_of disk.history) seen seen' s (on s h)
+sends_served book disk disk' seen seen' s i c h here may asks (lacks none is same) =
+    sends_met book (moment_of disk.history) seen seen' s i c (is_unheld s.counts) h here (unheld_but s.descriptor s.committed i s.counts none) (record { datagrams = refl; short = refl; sent = refl })
+    (ap (λ (x : LinkState). x.traffic) same) (ap (λ (x : LinkState). x.nexts) same) (same_faults seen seen' same) is
+sends_served book disk disk' seen seen' s i c h here may asks (unread held risen is same) =
+    sends_met book (moment_of disk.history) seen seen' s i c (is_unread s.counts) h here (lost_but s.descriptor s.committed i (IsKept s.descriptor s.committed s.counts) (is_unread s.counts) (lost_unread s.counts)) (record { datagrams = refl; short = refl; sent = refl })
+    (ap (λ (x : LinkState). x.traffic) same) (ap (λ (x : LinkState). x.nexts) same) (same_faults seen seen' same) is
+sends_served book disk disk' seen seen' s i c h here may asks (damaged held why is same) =
+    sends_met book (moment_of disk.history) seen seen' s i c (is_damaged s.counts) h here (lost_but s.descriptor s.committed i (IsKept s.descriptor s.committed s.counts) (is_damaged s.counts) (lost_damaged s.counts)) (record { datagrams = refl; short = refl; sent = refl })
+    (ap (λ (x : LinkState). x.traffic) same) (ap (λ (x : LinkState). x.nexts) same) (same_faults seen seen' same) is
+sends_served book disk disk' seen seen' s i c h here may asks (delivers content chunk held (inl sent)) =
+    subst (λ (x : Heard). Sends book (moment_of disk.history) seen seen' s (on s x)) (sym sent.1)
     (record {
-      added = Sent moment (address_of c.address) sent.0.bytes ∷ [];
+      added = Sent (moment_of disk.history) (address_of c.address) sent.0.bytes ∷ [];
       gained = sent.0.gained;
       all_sent = (refl, tt);
-      shaped = (record { short = sent.0.short; number = c.remote; messages = delivery now' digest content; read = sent.0.read; either = inr (now', digest, content, refl) }, tt);
+      shaped = (record { short = sent.0.short; number = c.remote; messages = delivery s.descriptor book i s.latest content; read = sent.0.read; either = inr (record { chunk = i; moment = s.latest; content = content; are = refl }) }, tt);
       answered = λ e. inl (owes_none s c here e);
       nexts = sent.0.nexts;
       later = sent.0.later;
-      core = same_core s (Some (is_delivered c)) (is_sent s.counts);
-      stands = λ book since past le st. stands_delivered book since s c moment now' digest content sent.0.bytes past here proven replied asks few chunk sent.0.read st;
+      core = same_core s (Some (is_delivered i c)) (is_sent s.counts);
+      stands = λ since past le st. stands_delivered book since s i c (moment_of disk.history) s.latest content sent.0.bytes past here held may asks chunk sent.0.read st;
     })
-sends_delivery moment seen seen' s c now' digest content h here proven replied asks few chunk (inr refused) =
-    subst (λ (x : Heard). Sends moment seen seen' s (on s x)) (sym refused.1)
-    (sends_left moment seen seen' s c (is_met c) (is_unsent s.counts) here (left_met c) refl (lost_unsent s.counts) (same_ties s.counts) refused.0.same refused.0.nexts refused.0.later)
+sends_served book disk disk' seen seen' s i c h here may asks (delivers content chunk held (inr refused)) =
+    sends_met book (moment_of disk.history) seen seen' s i c (is_unsent s.counts) h here (lost_but s.descriptor s.committed i (IsKept s.descriptor s.committed s.counts) (is_unsent s.counts) (lost_unsent s.counts)) (record { datagrams = refl; short = refl; sent = refl })
+    refused.0.same refused.0.nexts refused.0.later refused.1
+
+pub sends_next : (book : LookUp) (disk disk' : DiskState) (seen seen' : LinkState) (s new : State) → ServesNext book disk disk' seen seen' s new → Sends book (moment_of disk.history) seen seen' s new
+sends_next book disk disk' seen seen' s new n =
+    subst (λ (x : State). Sends book (moment_of disk.history) seen seen' s x) (sym n.left)
+    (sends_served book disk disk' seen seen' s n.served.chunk n.channel n.heard n.here (may_parts n.channel n.may) n.served.least.listed n.served.served)
 
 -- ---- one after the other
 
@@ -133,17 +163,17 @@ any_later : (test : Record → Bool) (x y : List Record) → list_any test y ≡
 any_later test [] y e = e
 any_later test (r ∷ x) y e = or_right (test r) (list_any test (x ++ y)) (any_later test x y e)
 
-ours_on : (s t : State) (xs : List Record) → SameCore s t → AllByRecursion (IsOurs t.descriptor (holds_first t)) xs → AllByRecursion (IsOurs s.descriptor (holds_first s)) xs
-ours_on s t xs core all =
-    subst (λ (d : Descriptor). AllByRecursion (IsOurs d (holds_first s)) xs) core.descriptor
-    (subst (λ (set : List Bool). AllByRecursion (IsOurs t.descriptor (slice_index_or set 0 false)) xs) core.committed all)
+ours_on : (s t : State) (book : LookUp) (xs : List Record) → SameCore s t → AllByRecursion (IsOurs t.descriptor t.committed book) xs → AllByRecursion (IsOurs s.descriptor s.committed book) xs
+ours_on s t book xs core all =
+    subst (λ (d : Descriptor). AllByRecursion (IsOurs d s.committed book) xs) core.descriptor
+    (subst (λ (set : List Bool). AllByRecursion (IsOurs t.descriptor set book) xs) core.committed all)
 
-pub sends_twice : (moment : ℕ) (a b c : LinkState) (s t u : State) → Sends moment a b s t → Sends moment b c t u → (OwesNone u → OwesNone t) → Sends moment a c s u
-sends_twice moment a b c s t u p q owed = record {
+pub sends_twice : (book : LookUp) (moment : ℕ) (a b c : LinkState) (s t u : State) → Sends book moment a b s t → Sends book moment b c t u → (OwesNone u → OwesNone t) → Sends book moment a c s u
+sends_twice book moment a b c s t u p q owed = record {
   added = q.added ++ p.added;
   gained = gains_twice a.traffic b.traffic c.traffic p.added q.added p.gained q.gained;
   all_sent = all_both (λ r. is_event r ≡ false) q.added p.added q.all_sent p.all_sent;
-  shaped = all_both (IsOurs s.descriptor (holds_first s)) q.added p.added (ours_on s t q.added p.core q.shaped) p.shaped;
+  shaped = all_both (IsOurs s.descriptor s.committed book) q.added p.added (ours_on s t book q.added p.core q.shaped) p.shaped;
   answered = λ e. ⊎_elim (λ none. inl none) (λ some. inr (any_later (replies_on s.descriptor s.channel) q.added p.added some)) (p.answered (owed e));
   nexts = q.nexts ∙ p.nexts;
   later = omega (arith, p.later, q.later);
@@ -154,99 +184,69 @@ sends_twice moment a b c s t u p q owed = record {
     numbers = q.core.numbers ∙ p.core.numbers;
     is_live = q.core.is_live ∙ p.core.is_live;
   };
-  stands = λ book since past le st.
-      subst (λ (xs : List Record). StandsFor book since u xs) (sym (append_assoc q.added p.added past)) (q.stands book since (p.added ++ past) le (p.stands book since past le st));
+  stands = λ since past le st.
+      subst (λ (xs : List Record). StandsFor book since u xs) (sym (append_assoc q.added p.added past)) (q.stands since (p.added ++ past) le (p.stands since past le st));
 }
 
--- ---- a request served
+-- ---- the reply is as due as it was
 
-abbrev parts : Channel → Type 0
-parts c = (c.proven ≡ true) × (c.replied ≡ true) × (c.asked ≡ true) × (c.flying < 2)
+-- The channel is left, and its reply is as due as it was.
+record IsLeftOn (c : Channel) (h : Heard) : Type 0 where
+  left : Channel
+  is : h.channel ≡ Some left
+  owes : owes_reply left ≡ owes_reply c
 
-may_parts : (c : Channel) → may_deliver c ≡ true → parts c
-may_parts c e =
-    let few = and_parts (c.proven && c.replied && c.asked) (ltb c.flying 2) e in
-    let asks = and_parts (c.proven && c.replied) c.asked few.0 in
-    let two = and_parts c.proven c.replied asks.0 in
-    (two.0, two.1, asks.1, ltb-true c.flying 2 few.1)
+served_left : (d : Descriptor) (set : List Bool) (book : LookUp) (i now : ℕ) (c : Channel) (k : Counts) (disk disk' : DiskState) (seen seen' : LinkState) (h : Heard)
+    → Served d set book i now c k disk disk' seen seen' h → IsLeftOn c h
+served_left d set book i now c k disk disk' seen seen' h (lacks none is same) = record { left = is_met i c; is = ap (λ (x : Heard). x.channel) is; owes = refl }
+served_left d set book i now c k disk disk' seen seen' h (unread held risen is same) = record { left = is_met i c; is = ap (λ (x : Heard). x.channel) is; owes = refl }
+served_left d set book i now c k disk disk' seen seen' h (damaged held why is same) = record { left = is_met i c; is = ap (λ (x : Heard). x.channel) is; owes = refl }
+served_left d set book i now c k disk disk' seen seen' h (delivers content chunk held (inl sent)) = record { left = is_delivered i c; is = ap (λ (x : Heard). x.channel) sent.1; owes = refl }
+served_left d set book i now c k disk disk' seen seen' h (delivers content chunk held (inr refused)) = record { left = is_met i c; is = ap (λ (x : Heard). x.channel) refused.1; owes = refl }
 
-keeps_link : (moment : ℕ) (seen seen' : LinkState) (s : State) (c new : Channel) (k : Counts) → s.channel ≡ Some c → IsLeft c new → owes_reply new ≡ owes_reply c → IsLost k → SameTies s.counts k → seen' ≡ seen
-    → Sends moment seen seen' s (on s (leaves_on new k))
-keeps_link moment seen seen' s c new k here left owes lost ties same =
-    sends_left moment seen seen' s c new k here left owes lost ties (ap (λ (x : LinkState). x.traffic) same) (ap (λ (x : LinkState). x.nexts) same) (let e = ap (λ (x : LinkState). x.faults) same in omega arith)
+owes_is : (s : State) (c : Channel) → s.channel ≡ Some c → OwesNone s → owes_reply c ≡ false
+owes_is s c here e = subst (λ (o : Option Channel). MatchOption o (Unit {0}) (λ x. owes_reply x ≡ false)) here e
 
-state_is : (s : State) (c : Channel) → s.channel ≡ Some c → on s (leaves_on c s.counts) ≡ s
-state_is s c here = ap (λ (o : Option Channel). record s { channel = o; counts = s.counts }) (sym here)
+pub next_owes : (book : LookUp) (disk disk' : DiskState) (seen seen' : LinkState) (s new : State) → ServesNext book disk disk' seen seen' s new → OwesNone s → OwesNone new
+next_owes book disk disk' seen seen' s new n e =
+    let l = served_left s.descriptor s.committed book n.served.chunk s.latest n.channel s.counts disk disk' seen seen' n.heard n.served.served in
+    subst OwesNone (sym n.left) (owes_none (on s n.heard) l.left l.is (l.owes ∙ owes_is s n.channel n.here e))
 
-pub sends_served : (disk disk' : DiskState) (seen seen' : LinkState) (s : State) (c : Channel) (h : Heard) → s.channel ≡ Some c
-    → Served s.descriptor (holds_first s) s.latest c s.counts disk disk' seen seen' h → Sends (moment_of disk.history) seen seen' s (on s h)
-sends_served disk disk' seen seen' s c h here (waits idle is same) =
-    subst (λ (x : Heard). Sends (moment_of disk.history) seen seen' s (on s x)) (sym is)
-    (subst (λ (t : State). Sends (moment_of disk.history) seen seen' s t) (sym (state_is s c here))
-    (subst (λ (l : LinkState). Sends (moment_of disk.history) seen l s s) (sym same) (sends_nothing (moment_of disk.history) seen s)))
-sends_served disk disk' seen seen' s c h here (lacks may none is same) =
-    subst (λ (x : Heard). Sends (moment_of disk.history) seen seen' s (on s x)) (sym is)
-    (keeps_link (moment_of disk.history) seen seen' s c (is_met c) (is_unheld s.counts) here (left_met c) refl (lost_unheld s.counts) (record { datagrams = refl; short = refl; sent = refl }) same)
-sends_served disk disk' seen seen' s c h here (unread may has risen is same) =
-    subst (λ (x : Heard). Sends (moment_of disk.history) seen seen' s (on s x)) (sym is)
-    (keeps_link (moment_of disk.history) seen seen' s c (is_met c) (is_unread s.counts) here (left_met c) refl (lost_unread s.counts) (record { datagrams = refl; short = refl; sent = refl }) same)
-sends_served disk disk' seen seen' s c h here (damaged may has why is same) =
-    subst (λ (x : Heard). Sends (moment_of disk.history) seen seen' s (on s x)) (sym is)
-    (keeps_link (moment_of disk.history) seen seen' s c (is_met c) (is_damaged s.counts) here (left_met c) refl (lost_damaged s.counts) (record { datagrams = refl; short = refl; sent = refl }) same)
-sends_served disk disk' seen seen' s c h here (delivers digest content chunk may has sent) =
-    let p = may_parts c may in
-    sends_delivery (moment_of disk.history) seen seen' s c s.latest digest content h here p.0 p.1 p.2 p.3 chunk sent
-
--- ---- what is left undone
-
-met_may_not : (c : Channel) → may_deliver (is_met c) ≡ false
-met_may_not c = and_left (c.proven && c.replied && false) (ltb c.flying 2) (and_right (c.proven && c.replied) false refl)
-
-delivered_may_not : (c : Channel) → may_deliver (is_delivered c) ≡ false
-delivered_may_not c = and_left (c.proven && c.replied && false) (ltb (c.flying + 1) 2) (and_right (c.proven && c.replied) false refl)
-
--- The channel is left with nothing to be sent, and its reply is as due as it was.
-pub record IsDone (c : Channel) (h : Heard) : Type 0 where
-  pub left : Channel
-  pub is : h.channel ≡ Some left
-  pub served : may_deliver left ≡ false
-  pub owes : owes_reply left ≡ owes_reply c
-
-pub served_done : (d : Descriptor) (held : Bool) (now : ℕ) (c : Channel) (k : Counts) (disk disk' : DiskState) (seen seen' : LinkState) (h : Heard)
-    → Served d held now c k disk disk' seen seen' h → IsDone c h
-served_done d held now c k disk disk' seen seen' h (waits idle is same) = record { left = c; is = ap (λ (x : Heard). x.channel) is; served = idle; owes = refl }
-served_done d held now c k disk disk' seen seen' h (lacks may none is same) = record { left = is_met c; is = ap (λ (x : Heard). x.channel) is; served = met_may_not c; owes = refl }
-served_done d held now c k disk disk' seen seen' h (unread may has risen is same) = record { left = is_met c; is = ap (λ (x : Heard). x.channel) is; served = met_may_not c; owes = refl }
-served_done d held now c k disk disk' seen seen' h (damaged may has why is same) = record { left = is_met c; is = ap (λ (x : Heard). x.channel) is; served = met_may_not c; owes = refl }
-served_done d held now c k disk disk' seen seen' h (delivers digest content chunk may has (inl sent)) = record { left = is_delivered c; is = ap (λ (x : Heard). x.channel) sent.1; served = delivered_may_not c; owes = refl }
-served_done d held now c k disk disk' seen seen' h (delivers digest content chunk may has (inr refused)) = record { left = is_met c; is = ap (λ (x : Heard). x.channel) refused.1; served = met_may_not c; owes = refl }
+pub next_owed : (book : LookUp) (disk disk' : DiskState) (seen seen' : LinkState) (s new : State) → ServesNext book disk disk' seen seen' s new → OwesNone new → OwesNone s
+next_owed book disk disk' seen seen' s new n e =
+    let l = served_left s.descriptor s.committed book n.served.chunk s.latest n.channel s.counts disk disk' seen seen' n.heard n.served.served in
+    owes_none s n.channel n.here (sym l.owes ∙ owes_is (on s n.heard) l.left l.is (subst OwesNone n.left e))
 
 -- ---- why counts rose
 
-pub causes_nothing : (d : Descriptor) (held : Bool) (disk : DiskState) (seen : LinkState) (k : Counts) → Causes d held disk disk seen seen k k
-causes_nothing d held disk seen k = record { send = inl refl; read = inl refl; damaged = inl refl; unheld = inl refl; others = refl }
+pub causes_nothing : (d : Descriptor) (set : List Bool) (book : LookUp) (disk : DiskState) (seen : LinkState) (k : Counts) → Causes d set book disk disk seen seen k k
+causes_nothing d set book disk seen k = record { send = inl refl; read = inl refl; damaged = inl refl; unheld = inl refl; others = refl }
 
-pub causes_reply : (d : Descriptor) (held : Bool) (c : Channel) (k : Counts) (moment : ℕ) (disk : DiskState) (seen seen' : LinkState) (h : Heard) → Replies d held c k moment seen seen' h
-    → Causes d held disk disk seen seen' k h.counts
-causes_reply d held c k moment disk seen seen' h (inl sent) =
-    subst (λ (x : Heard). Causes d held disk disk seen seen' k x.counts) (sym sent.1) (record { send = inl refl; read = inl refl; damaged = inl refl; unheld = inl refl; others = refl })
-causes_reply d held c k moment disk seen seen' h (inr refused) =
-    subst (λ (x : Heard). Causes d held disk disk seen seen' k x.counts) (sym refused.1) (record { send = inr refused.0.risen; read = inl refl; damaged = inl refl; unheld = inl refl; others = refl })
+pub causes_reply : (d : Descriptor) (set : List Bool) (book : LookUp) (c : Channel) (k : Counts) (moment : ℕ) (disk : DiskState) (seen seen' : LinkState) (h : Heard) → Replies d set c k moment seen seen' h
+    → Causes d set book disk disk seen seen' k h.counts
+causes_reply d set book c k moment disk seen seen' h (inl sent) =
+    subst (λ (x : Heard). Causes d set book disk disk seen seen' k x.counts) (sym sent.1) (record { send = inl refl; read = inl refl; damaged = inl refl; unheld = inl refl; others = refl })
+causes_reply d set book c k moment disk seen seen' h (inr refused) =
+    subst (λ (x : Heard). Causes d set book disk disk seen seen' k x.counts) (sym refused.1) (record { send = inr refused.0.risen; read = inl refl; damaged = inl refl; unheld = inl refl; others = refl })
 
-pub causes_served : (d : Descriptor) (held : Bool) (now : ℕ) (c : Channel) (k : Counts) (disk disk' : DiskState) (seen seen' : LinkState) (h : Heard)
-    → Served d held now c k disk disk' seen seen' h → Causes d held disk disk' seen seen' k h.counts
-causes_served d held now c k disk disk' seen seen' h (waits idle is same) =
-    subst (λ (x : Heard). Causes d held disk disk' seen seen' k x.counts) (sym is) (record { send = inl refl; read = inl refl; damaged = inl refl; unheld = inl refl; others = refl })
-causes_served d held now c k disk disk' seen seen' h (lacks may none is same) =
-    subst (λ (x : Heard). Causes d held disk disk' seen seen' k x.counts) (sym is) (record { send = inl refl; read = inl refl; damaged = inl refl; unheld = inr none; others = refl })
-causes_served d held now c k disk disk' seen seen' h (unread may has risen is same) =
-    subst (λ (x : Heard). Causes d held disk disk' seen seen' k x.counts) (sym is) (record { send = inl refl; read = inr risen; damaged = inl refl; unheld = inl refl; others = refl })
-causes_served d held now c k disk disk' seen seen' h (damaged may has why is same) =
-    subst (λ (x : Heard). Causes d held disk disk' seen seen' k x.counts) (sym is) (record { send = inl refl; read = inl refl; damaged = inr why; unheld = inl refl; others = refl })
-causes_served d held now c k disk disk' seen seen' h (delivers digest content chunk may has (inl sent)) =
-    subst (λ (x : Heard). Causes d held disk disk' seen seen' k x.counts) (sym sent.1) (record { send = inl refl; read = inl refl; damaged = inl refl; unheld = inl refl; others = refl })
-causes_served d held now c k disk disk' seen seen' h (delivers digest content chunk may has (inr refused)) =
-    subst (λ (x : Heard). Causes d held disk disk' seen seen' k x.counts) (sym refused.1) (record { send = inr refused.0.risen; read = inl refl; damaged = inl refl; unheld = inl refl; others = refl })
+causes_served : (d : Descriptor) (set : List Bool) (book : LookUp) (i now : ℕ) (c : Channel) (k : Counts) (disk disk' : DiskState) (seen seen' : LinkState) (h : Heard)
+    → Served d set book i now c k disk disk' seen seen' h → Causes d set book disk disk' seen seen' k h.counts
+causes_served d set book i now c k disk disk' seen seen' h (lacks none is same) =
+    subst (λ (x : Heard). Causes d set book disk disk' seen seen' k x.counts) (sym is) (record { send = inl refl; read = inl refl; damaged = inl refl; unheld = inr (i, none); others = refl })
+causes_served d set book i now c k disk disk' seen seen' h (unread held risen is same) =
+    subst (λ (x : Heard). Causes d set book disk disk' seen seen' k x.counts) (sym is) (record { send = inl refl; read = inr risen; damaged = inl refl; unheld = inl refl; others = refl })
+causes_served d set book i now c k disk disk' seen seen' h (damaged held why is same) =
+    subst (λ (x : Heard). Causes d set book disk disk' seen seen' k x.counts) (sym is)
+    (record { send = inl refl; read = inl refl; damaged = inr (λ known. record { chunk = i; committed = held; lacking = why known }); unheld = inl refl; others = refl })
+causes_served d set book i now c k disk disk' seen seen' h (delivers content chunk held (inl sent)) =
+    subst (λ (x : Heard). Causes d set book disk disk' seen seen' k x.counts) (sym sent.1) (record { send = inl refl; read = inl refl; damaged = inl refl; unheld = inl refl; others = refl })
+causes_served d set book i now c k disk disk' seen seen' h (delivers content chunk held (inr refused)) =
+    subst (λ (x : Heard). Causes d set book disk disk' seen seen' k x.counts) (sym refused.1) (record { send = inr refused.0.risen; read = inl refl; damaged = inl refl; unheld = inl refl; others = refl })
+
+pub causes_next : (book : LookUp) (disk disk' : DiskState) (seen seen' : LinkState) (s new : State) → ServesNext book disk disk' seen seen' s new → Causes s.descriptor s.committed book disk disk' seen seen' s.counts new.counts
+causes_next book disk disk' seen seen' s new n =
+    subst (λ (x : State). Causes s.descriptor s.committed book disk disk' seen seen' s.counts x.counts) (sym n.left)
+    (causes_served s.descriptor s.committed book n.served.chunk s.latest n.channel s.counts disk disk' seen seen' n.heard n.served.served)
 
 rises_twice : (a b c x y z : ℕ) → x ≤ y → y ≤ z → RisesWith a b x y → RisesWith b c y z → RisesWith a c x z
 rises_twice a b c x y z le le' (inl e) (inl f) = inl (f ∙ e)
@@ -258,42 +258,101 @@ either_twice a b c P (inl e) (inl f) = inl (f ∙ e)
 either_twice a b c P (inl e) (inr p) = inr p
 either_twice a b c P (inr p) q = inr p
 
-pub causes_twice : (d : Descriptor) (held : Bool) (disk disk' : DiskState) (x y z : LinkState) (k l m : Counts) → x.faults ≤ y.faults → y.faults ≤ z.faults → disk.faults ≤ disk'.faults
-    → Causes d held disk disk x y k l → Causes d held disk disk' y z l m → Causes d held disk disk' x z k m
-causes_twice d held disk disk' x y z k l m le le' later p q = record {
+-- what isn't there now wasn't before a reading
+lacking_before : (d : Descriptor) (set : List Bool) (book : LookUp) (disk half : DiskState) (x : Type 0) → ReadsAlone disk half → x ⊎ (IsKnown half → IsDamagedThere d set book half) → x ⊎ (IsKnown disk → IsDamagedThere d set book disk)
+lacking_before d set book disk half x reads (inl same) = inl same
+lacking_before d set book disk half x reads (inr why) = inr (λ known.
+    let there = why (known_on disk half reads.tells reads.honest known) in
+    record { chunk = there.chunk; committed = there.committed; lacking = subst (λ (h : History). is_there d h.reads book there.chunk ≡ false) reads.same there.lacking })
+
+pub reads_twice : (a b c : DiskState) → ReadsAlone a b → ReadsAlone b c → ReadsAlone a c
+reads_twice a b c p q = record {
+  tells = q.tells ∙ p.tells;
+  honest = q.honest ∙ p.honest;
+  same = q.same ∙ p.same;
+  hard = q.hard ∙ p.hard;
+  later = omega (arith, p.later, q.later);
+}
+
+pub causes_twice : (d : Descriptor) (set : List Bool) (book : LookUp) (disk half disk' : DiskState) (x y z : LinkState) (k l m : Counts) → x.faults ≤ y.faults → y.faults ≤ z.faults
+    → ReadsAlone disk half → half.faults ≤ disk'.faults → Causes d set book disk half x y k l → Causes d set book half disk' y z l m → Causes d set book disk disk' x z k m
+causes_twice d set book disk half disk' x y z k l m le le' reads later p q = record {
   send = rises_twice k.send_faults l.send_faults m.send_faults x.faults y.faults z.faults le le' p.send q.send;
-  read = rises_twice k.read_faults l.read_faults m.read_faults disk.faults disk.faults disk'.faults (omega arith) later p.read q.read;
-  damaged = either_twice k.damaged l.damaged m.damaged (IsKnown disk → chunks_of d ≡ 1 → holds d disk.history.reads 0 ≡ false) p.damaged q.damaged;
-  unheld = either_twice k.unheld l.unheld m.unheld (held ≡ false) p.unheld q.unheld;
+  read = rises_twice k.read_faults l.read_faults m.read_faults disk.faults half.faults disk'.faults reads.later later p.read q.read;
+  damaged = either_twice k.damaged l.damaged m.damaged (IsKnown disk → IsDamagedThere d set book disk) p.damaged (lacking_before d set book disk half (m.damaged ≡ l.damaged) reads q.damaged);
+  unheld = either_twice k.unheld l.unheld m.unheld ((i : ℕ) × (slice_index_or set i false ≡ false)) p.unheld q.unheld;
   others = q.others ∙ ap (λ (n : Counts). record n { sent = m.sent; send_faults = m.send_faults; read_faults = m.read_faults; damaged = m.damaged; unheld = m.unheld }) p.others;
 }
 
-pub flush_causes : (s t u : State) (disk disk' : DiskState) (x y z : LinkState) → SameCore s t → x.faults ≤ y.faults → y.faults ≤ z.faults → disk.faults ≤ disk'.faults
-    → Causes s.descriptor (holds_first s) disk disk x y s.counts t.counts → Causes t.descriptor (holds_first t) disk disk' y z t.counts u.counts
-    → Causes s.descriptor (holds_first s) disk disk' x z s.counts u.counts
-flush_causes s t u disk disk' x y z core le le' later p q =
-    causes_twice s.descriptor (holds_first s) disk disk' x y z s.counts t.counts u.counts le le' later p
-    (subst (λ (d : Descriptor). Causes d (holds_first s) disk disk' y z t.counts u.counts) core.descriptor
-    (subst (λ (xs : List Bool). Causes t.descriptor (slice_index_or xs 0 false) disk disk' y z t.counts u.counts) core.committed q))
+pub causes_on : (s t : State) (book : LookUp) (disk disk' : DiskState) (x y : LinkState) (k l : Counts) → SameCore s t → Causes t.descriptor t.committed book disk disk' x y k l → Causes s.descriptor s.committed book disk disk' x y k l
+causes_on s t book disk disk' x y k l core q =
+    subst (λ (d : Descriptor). Causes d s.committed book disk disk' x y k l) core.descriptor
+    (subst (λ (set : List Bool). Causes t.descriptor set book disk disk' x y k l) core.committed q)
 
 -- ---- exactly what was done
 
 pub exact_none : (moment : ℕ) (seen : LinkState) (s : State) → s.channel ≡ None → HasReplied moment seen seen s s
 exact_none moment seen s none = subst (λ (o : Option Channel). MatchOption o ((s ≡ s) × (seen ≡ seen)) (λ c. MatchBool (owes_reply c)
-    ((h : Heard) × Replies s.descriptor (holds_first s) c s.counts moment seen seen h × (s ≡ on s h)) ((s ≡ s) × (seen ≡ seen)))) (sym none) (refl, refl)
+    ((h : Heard) × Replies s.descriptor s.committed c s.counts moment seen seen h × (s ≡ on s h)) ((s ≡ s) × (seen ≡ seen)))) (sym none) (refl, refl)
 
 pub exact_idle : (moment : ℕ) (seen : LinkState) (s : State) (c : Channel) → s.channel ≡ Some c → owes_reply c ≡ false → HasReplied moment seen seen s s
 exact_idle moment seen s c here idle = subst (λ (o : Option Channel). MatchOption o ((s ≡ s) × (seen ≡ seen)) (λ x. MatchBool (owes_reply x)
-    ((h : Heard) × Replies s.descriptor (holds_first s) x s.counts moment seen seen h × (s ≡ on s h)) ((s ≡ s) × (seen ≡ seen)))) (sym here)
-    (subst (λ (b : Bool). MatchBool b ((h : Heard) × Replies s.descriptor (holds_first s) c s.counts moment seen seen h × (s ≡ on s h)) ((s ≡ s) × (seen ≡ seen))) (sym idle) (refl, refl))
+    ((h : Heard) × Replies s.descriptor s.committed x s.counts moment seen seen h × (s ≡ on s h)) ((s ≡ s) × (seen ≡ seen)))) (sym here)
+    (subst (λ (b : Bool). MatchBool b ((h : Heard) × Replies s.descriptor s.committed c s.counts moment seen seen h × (s ≡ on s h)) ((s ≡ s) × (seen ≡ seen))) (sym idle) (refl, refl))
 
 pub exact_reply : (moment : ℕ) (seen seen' : LinkState) (s : State) (c : Channel) (h : Heard) → s.channel ≡ Some c → owes_reply c ≡ true
-    → Replies s.descriptor (holds_first s) c s.counts moment seen seen' h → HasReplied moment seen seen' s (on s h)
+    → Replies s.descriptor s.committed c s.counts moment seen seen' h → HasReplied moment seen seen' s (on s h)
 exact_reply moment seen seen' s c h here owes is = subst (λ (o : Option Channel). MatchOption o ((on s h ≡ s) × (seen' ≡ seen)) (λ x. MatchBool (owes_reply x)
-    ((k : Heard) × Replies s.descriptor (holds_first s) x s.counts moment seen seen' k × (on s h ≡ on s k)) ((on s h ≡ s) × (seen' ≡ seen)))) (sym here)
-    (subst (λ (b : Bool). MatchBool b ((k : Heard) × Replies s.descriptor (holds_first s) c s.counts moment seen seen' k × (on s h ≡ on s k)) ((on s h ≡ s) × (seen' ≡ seen))) (sym owes) (h, is, refl))
+    ((k : Heard) × Replies s.descriptor s.committed x s.counts moment seen seen' k × (on s h ≡ on s k)) ((on s h ≡ s) × (seen' ≡ seen)))) (sym here)
+    (subst (λ (b : Bool). MatchBool b ((k : Heard) × Replies s.descriptor s.committed c s.counts moment seen seen' k × (on s h ≡ on s k)) ((on s h ≡ s) × (seen' ≡ seen))) (sym owes) (h, is, refl))
 
-pub exact_served : (disk disk' : DiskState) (seen seen' : LinkState) (s : State) (c : Channel) (h : Heard) → s.channel ≡ Some c
-    → Served s.descriptor (holds_first s) s.latest c s.counts disk disk' seen seen' h → HasServed disk disk' seen seen' s (on s h)
-exact_served disk disk' seen seen' s c h here is = subst (λ (o : Option Channel). MatchOption o ((on s h ≡ s) × (seen' ≡ seen))
-    (λ x. (k : Heard) × Served s.descriptor (holds_first s) s.latest x s.counts disk disk' seen seen' k × (on s h ≡ on s k))) (sym here) (h, is, refl)
+-- the list has fewer chunks
+pub next_fewer : (s : State) (c : Channel) (h : Heard) → s.channel ≡ Some c → MatchOption h.channel ⊥ (λ x. chunk_count x.asked < chunk_count c.asked) → asked_count (on s h) < asked_count s
+next_fewer s c h here fewer = subst (λ (o : Option Channel). asked_on h.channel < asked_on o) (sym here) (by h.channel fewer)
+  where
+    by : (o : Option Channel) → MatchOption o ⊥ (λ x. chunk_count x.asked < chunk_count c.asked) → asked_on o < chunk_count c.asked
+    by None lt = absurd lt
+    by (Some x) lt = lt
+
+-- ---- chunk after chunk
+
+each_more : (book : LookUp) (a : Point) (xs : List Point) (b c : Point) → ServesEach book a xs b → ServesNext book b.disk c.disk b.seen c.seen b.peer c.peer → ServesEach book a (xs ++ c ∷ []) c
+each_more book a [] b c is next = (subst (λ (p : Point). ServesNext book p.disk c.disk p.seen c.seen p.peer c.peer) is next, refl)
+each_more book a (x ∷ xs) b c each next = (each.0, each_more book x xs b c each.1 next)
+
+-- Chunks were served so far.
+pub record HasServedSome (book : LookUp) (disk disk' : DiskState) (seen seen' : LinkState) (s new : State) : Type 0 where
+  pub points : List Point
+  pub each : ServesEach book (record { disk = disk; seen = seen; peer = s }) points (record { disk = disk'; seen = seen'; peer = new })
+  pub sends : Sends book (moment_of disk.history) seen seen' s new
+  pub causes : Causes s.descriptor s.committed book disk disk' seen seen' s.counts new.counts
+  pub owed : OwesNone new → OwesNone s
+  pub owes : OwesNone s → OwesNone new
+  pub reads : ReadsAlone disk disk'
+
+pub served_none : (book : LookUp) (disk : DiskState) (seen : LinkState) (s : State) → HasServedSome book disk disk seen seen s s
+served_none book disk seen s = record {
+  points = [];
+  each = refl;
+  sends = sends_nothing book (moment_of disk.history) seen s;
+  causes = causes_nothing s.descriptor s.committed book disk seen s.counts;
+  owed = λ e. e;
+  owes = λ e. e;
+  reads = reads_nothing disk;
+}
+
+pub served_more : (book : LookUp) (disk half disk' : DiskState) (seen half_seen seen' : LinkState) (s t new : State) → HasServedSome book disk half seen half_seen s t
+    → ServesNext book half disk' half_seen seen' t new → ReadsAlone half disk' → HasServedSome book disk disk' seen seen' s new
+served_more book disk half disk' seen half_seen seen' s t new before next reads =
+    let here : Sends book (moment_of disk.history) half_seen seen' t new =
+    subst (λ (h : History). Sends book (moment_of h) half_seen seen' t new) before.reads.same (sends_next book half disk' half_seen seen' t new next) in
+    record {
+      points = before.points ++ record { disk = disk'; seen = seen'; peer = new } ∷ [];
+      each = each_more book (record { disk = disk; seen = seen; peer = s }) before.points (record { disk = half; seen = half_seen; peer = t }) (record { disk = disk'; seen = seen'; peer = new }) before.each next;
+      sends = sends_twice book (moment_of disk.history) seen half_seen seen' s t new before.sends here (next_owed book half disk' half_seen seen' t new next);
+      causes = causes_twice s.descriptor s.committed book disk half disk' seen half_seen seen' s.counts t.counts new.counts before.sends.later here.later before.reads reads.later before.causes
+          (causes_on s t book half disk' half_seen seen' t.counts new.counts before.sends.core (causes_next book half disk' half_seen seen' t new next));
+      owed = λ e. before.owed (next_owed book half disk' half_seen seen' t new next e);
+      owes = λ e. next_owes book half disk' half_seen seen' t new next (before.owes e);
+      reads = reads_twice disk half disk' before.reads reads;
+    }

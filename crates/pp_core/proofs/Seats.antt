@@ -4,7 +4,7 @@ use Rattle.std.proofs.lemmas.Bool.{and_parts, and_from, or_cases, or_left, or_ri
 use Rattle.std.specs.Cmp.Lexicographic.{pointwise, same_text, other_text}
 use Rattle.std.specs.Prelude.{MatchOption, nat_eq}
 use Rattle.pp_terms.specs.Traffic.{Address, V4, V6, Record, Received, Quiet, Sent}
-use Rattle.pp_terms.specs.Descriptor.{Descriptor}
+use Rattle.pp_terms.specs.Descriptor.{Descriptor, chunks_of}
 use Rattle.pp_terms.specs.Messages.{Message, Handshake, Messages}
 use Rattle.pp_traffic.specs.Past.{now, read, same_address, comes_from, goes_to, is_event, is_number, some_since, is_at, EachRecord}
 use Rattle.pp_traffic.specs.Life.{Life, IsLife, greets, answers, comes_on, shakes_on, closes_on, is_closed, fits, begins_fitting}
@@ -40,7 +40,7 @@ same_is (V6 a p) (V6 b q) e =
 
 -- ---- what stays of a seat
 
-pub seat_began : (d : Descriptor) (whole : Type 0) (c : Channel) (life : Life) (past : List Record) → SeatStands d whole c life past → life.opening < length past
+pub seat_began : (d : Descriptor) (whole : ℕ → Type 0) (c : Channel) (life : Life) (past : List Record) → SeatStands d whole c life past → life.opening < length past
 seat_began d whole c life past s = at_within (greets d life) life.opening past s.opened
 
 -- The channel after a record is to the same peer; it is proven or replied if it was, or by the record.
@@ -52,8 +52,8 @@ pub record GoesOn (d : Descriptor) (c new : Channel) (life : Life) (r : Record) 
   pub replied : new.replied ≡ (answers d life r || c.replied)
   pub open_still : closes_on d life r ≡ false
 
-pub seat_on : (d : Descriptor) (whole after : Type 0) (c new : Channel) (life : Life) (r : Record) (past : List Record) → SeatStands d whole c life past → GoesOn d c new life r
-    → Follows after new (story d life (r ∷ past)) → SeatStands d after new life (r ∷ past)
+pub seat_on : (d : Descriptor) (whole after : ℕ → Type 0) (c new : Channel) (life : Life) (r : Record) (past : List Record) → SeatStands d whole c life past → GoesOn d c new life r
+    → Follows (chunks_of d) after new (story d life (r ∷ past)) → SeatStands d after new life (r ∷ past)
 seat_on d whole after c new life r past s on f =
     let lt = seat_began d whole c life past s in
     record {
@@ -73,7 +73,7 @@ seat_on d whole after c new life r past s on f =
     }
 
 -- a seat that stands and was replied to is a life
-pub seat_lives : (d : Descriptor) (whole : Type 0) (c : Channel) (life : Life) (past : List Record) → SeatStands d whole c life past → c.replied ≡ true → IsLife d life past
+pub seat_lives : (d : Descriptor) (whole : ℕ → Type 0) (c : Channel) (life : Life) (past : List Record) → SeatStands d whole c life past → c.replied ≡ true → IsLife d life past
 seat_lives d whole c life past s replied = record {
   local_some = subst (λ (n : ℕ). 0 < n) (sym s.local) s.local_some;
   remote_some = subst (λ (n : ℕ). 0 < n) (sym s.remote) s.remote_some;
@@ -101,11 +101,11 @@ seat_lives d whole c life past s replied = record {
 
 -- ---- lines that say nothing
 
-pub follow_taken : (whole : Type 0) (c : Channel) (now : ℕ) (s : List Line) → Follows whole c s → Follows whole c (Taken now ∷ s)
-follow_taken whole c now s f = record { asked_for = f.asked_for; kept = f.kept; unchoked = f.unchoked; flies = f.flies; first = f.first }
+pub follow_taken : (chunks : ℕ) (whole : ℕ → Type 0) (c : Channel) (now : ℕ) (s : List Line) → Follows chunks whole c s → Follows chunks whole c (Taken now ∷ s)
+follow_taken chunks whole c now s f = record { runs = f.runs; within = f.within; asked_for = f.asked_for; kept = f.kept; unchoked = f.unchoked; flies = f.flies }
 
-pub follow_weaker : (whole after : Type 0) (c : Channel) (s : List Line) → (after → whole) → Follows whole c s → Follows after c s
-follow_weaker whole after c s less f = record { asked_for = f.asked_for; kept = λ w e. f.kept (less w) e; unchoked = f.unchoked; flies = f.flies; first = f.first }
+pub follow_weaker : (chunks : ℕ) (whole after : ℕ → Type 0) (c : Channel) (s : List Line) → ((i : ℕ) → after i → whole i) → Follows chunks whole c s → Follows chunks after c s
+follow_weaker chunks whole after c s less f = record { runs = f.runs; within = f.within; asked_for = f.asked_for; kept = λ i w e. f.kept i (less i w) e; unchoked = f.unchoked; flies = f.flies }
 
 -- ---- no dials
 

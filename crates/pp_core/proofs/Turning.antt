@@ -1,16 +1,26 @@
 -- A peer that stands for its traffic stands for it with one event more.
 use Rattle.std.proofs.Common.{◌≡◌, ◌⊎◌, inl, inr, ⊎_elim, ℕ, zero, suc, ◌+◌, ◌-◌, ◌^◌, ◌<◌, ◌≤◌, min, max, ltb, leb, Bool, true, false, cond, not, ◌&&◌, ◌||◌, Option, Some, None, List, [], ◌∷◌, length, take, refl, sym, ◌∙◌, ap, subst, arith}
-use Rattle.std.proofs.lemmas.Bool.{cases_Bool, both_ways, cond-true, cond-false, or_left, and_parts, and_from, le-leb}
+use Rattle.std.proofs.lemmas.Bool.{cases_Bool, both_ways, cond-true, cond-false, or_left, and_parts, and_from, le-leb, false≢true}
 use Rattle.std.proofs.Math.Seq.{take-length}
-use Rattle.std.specs.Prelude.{MatchOption}
+use Rattle.std.specs.Prelude.{MatchOption, MatchBool, slice_index_or}
 use Rattle.rand_chacha.specs.ChaCha.{ChaCha}
 use Rattle.pp_terms.specs.Traffic as traffic
 use Rattle.pp_terms.specs.Traffic.{Record, Received}
-use Rattle.pp_terms.specs.Descriptor.{Descriptor}
-use Rattle.pp_terms.specs.Book.{LookUp}
+use Rattle.pp_terms.specs.Descriptor.{Descriptor, IsDescriptor, chunks_of}
+use Rattle.pp_terms.specs.Book.{LookUp, IsRooted}
+use Rattle.pp_terms.specs.Disk.{DiskState, History, IsKnown}
+use Rattle.pp_terms.specs.Image.{holds}
+use Rattle.pp_scan.specs.Holding.{is_there}
+use Rattle.pp_scan.proofs.Holds.{held_there, empty_none}
+use Rattle.pp_scan.proofs.Finding.{some_bytes}
+use Rattle.pp_store.specs.Store.{IsOpened}
+use Rattle.pp_scan.specs.Scan.{IsScanned}
+use Rattle.pp_core.specs.Opening.{new_state}
+use Rattle.pp_core.specs.Serving.{HasPaths}
+use Rattle.pp_core.proofs.Announcements.{within_set}
 use Rattle.pp_traffic.specs.Past.{now, is_event, some_since, EachRecord}
 use Rattle.pp_traffic.specs.Life.{Life, closes_on}
-use Rattle.pp_traffic.specs.Plain.{IsPlainNow}
+use Rattle.pp_traffic.specs.Plain.{IsPlainDial, IsPlainAnswer, IsPlainNow}
 use Rattle.pp_traffic.proofs.Plains.{NoneDialled, plain_before}
 use Rattle.pp_outside.specs.Outside.{address_of, record_of}
 use Rattle.pp_outside.specs.Arrivals.{IsEvent}
@@ -20,9 +30,10 @@ use Rattle.pp_outside.specs.declared.link.Event.TheVariants.{Datagram, Quiet}
 use Rattle.pp_core.specs.Counting.{rise}
 use Rattle.pp_core.specs.Events.{turned, reached, after_event, after_refusal}
 use Rattle.pp_core.specs.Taking.{take_datagram}
-use Rattle.pp_core.specs.Standing.{State, holds_first, IsWhole, SeatStands, HasSeat, NonePlain, DialsNone, came, came_short, went, capped, IsTied, StandsFor}
+use Rattle.pp_core.specs.Standing.{State, IsWhole, IsKept, SeatStands, HasSeat, NonePlain, DialsNone, came, came_short, went, capped, IsTied, StandsFor}
 use Rattle.pp_core.specs.declared.counts.Counts.{Counts}
 use Rattle.pp_core.specs.declared.channel.Channel.{Channel}
+use Rattle.pp_core.proofs.Following.{Since}
 use Rattle.pp_core.proofs.Absorbs.{LeavesSeat, leaves_seat, seat_quiet}
 use Rattle.pp_core.proofs.Openings.{HasNewSeat, OpensSeat, opens_seat}
 use Rattle.pp_core.proofs.Losses.{TakesLoss, takes_loss}
@@ -47,15 +58,22 @@ tied_datagram k new at sender bytes past t l = record {
 
 whole_before : (size : ℕ) (k new : Counts) → TakesLoss size (reached k) new → IsWhole new → IsWhole k
 whole_before size k new l w = record {
-  unheld = sym l.unheld ∙ w.unheld;
+  full = l.full w.full;
   damaged = sym l.damaged ∙ w.damaged;
   read_faults = sym l.read_faults ∙ w.read_faults;
   send_faults = sym l.send_faults ∙ w.send_faults;
 }
 
+-- what is kept now was kept before
+kept_before : (d : Descriptor) (set : List Bool) (size : ℕ) (k new : Counts) → TakesLoss size (reached k) new → Since (chunks_of d) (IsKept d set k) (IsKept d set new) new
+kept_before d set size k new l i w = (record { within = w.within; committed = w.committed; whole = whole_before size k new l w.whole }, w.within, w.whole.full)
+
+kept_self : (d : Descriptor) (set : List Bool) (k : Counts) → Since (chunks_of d) (IsKept d set k) (IsKept d set k) k
+kept_self d set k i w = (w, w.within, w.whole.full)
+
 -- ---- seats
 
-pub weaker_seat : (d : Descriptor) (whole after : Type 0) (c : Channel) (life : Life) (past : List Record) → (after → whole) → SeatStands d whole c life past → SeatStands d after c life past
+pub weaker_seat : (d : Descriptor) (whole after : ℕ → Type 0) (c : Channel) (life : Life) (past : List Record) → ((i : ℕ) → after i → whole i) → SeatStands d whole c life past → SeatStands d after c life past
 weaker_seat d whole after c life past less s = record {
   at = s.at;
   local = s.local;
@@ -67,7 +85,7 @@ weaker_seat d whole after c life past less s = record {
   open_still = s.open_still;
   replied = s.replied;
   heard = s.heard;
-  follows = follow_weaker whole after c _ less s.follows;
+  follows = follow_weaker (chunks_of d) whole after c _ less s.follows;
 }
 
 only_before : (d : Descriptor) (r : Record) (past : List Record) (life : Life) → NoneDialled d past → is_event r ≡ true → ((other : Life) → IsPlainNow d other past → other ≡ life)
@@ -78,23 +96,23 @@ none_before : (d : Descriptor) (r : Record) (past : List Record) → NoneDialled
 none_before d r past none event nothing other plain = nothing other (plain_before d other r past none event plain)
 
 -- the seat after a datagram, where there was one
-seat_after : (d : Descriptor) (whole after : Type 0) (c : Channel) (r : Record) (past : List Record) (left : Option Channel) → (after → whole) → NoneDialled d past → is_event r ≡ true
-    → (s : HasSeat d whole c past) → LeavesSeat d whole s.life r past left → MatchOption left (NonePlain d (r ∷ past)) (λ new. HasSeat d after new (r ∷ past))
-seat_after d whole after c r past None less none event s closed = λ other plain.
+seat_after : (d : Descriptor) (whole after : ℕ → Type 0) (c : Channel) (r : Record) (past : List Record) (left : Option Channel) → NoneDialled d past → is_event r ≡ true
+    → (s : HasSeat d whole c past) → LeavesSeat d after s.life r past left → MatchOption left (NonePlain d (r ∷ past)) (λ new. HasSeat d after new (r ∷ past))
+seat_after d whole after c r past None none event s closed = λ other plain.
     let is : other ≡ s.life = only_before d r past s.life none event s.only other plain in
     both_ways (some_since (closes_on d s.life) s.life.opening (r ∷ past))
     (subst (λ (l : Life). some_since (closes_on d l) l.opening (r ∷ past) ≡ false) is plain.open_still)
     (or_left (leb s.life.opening (length past) && closes_on d s.life r) (some_since (closes_on d s.life) s.life.opening past)
     (and_from (leb s.life.opening (length past)) (closes_on d s.life r) (le-leb s.life.opening (length past) (omega (arith, seat_began d whole c s.life past s.stands))) closed))
-seat_after d whole after c r past (Some new) less none event s stands = record {
+seat_after d whole after c r past (Some new) none event s stands = record {
   life = s.life;
-  stands = weaker_seat d whole after new s.life (r ∷ past) less stands;
+  stands = stands;
   only = only_before d r past s.life none event s.only;
 }
 
 -- and where there was none
-seat_new : (d : Descriptor) (whole : Type 0) (r : Record) (past : List Record) (left : Option Channel) → NoneDialled d past → is_event r ≡ true → NonePlain d past
-    → OpensSeat d whole (r ∷ past) left → MatchOption left (NonePlain d (r ∷ past)) (λ new. HasSeat d whole new (r ∷ past))
+seat_new : (d : Descriptor) (whole : ℕ → Type 0) (r : Record) (past : List Record) (left : Option Channel) → NoneDialled d past → is_event r ≡ true → NonePlain d past
+    → MatchOption left (Unit {0}) (λ new. HasNewSeat d whole new (r ∷ past)) → MatchOption left (NonePlain d (r ∷ past)) (λ new. HasSeat d whole new (r ∷ past))
 seat_new d whole r past None none event nothing opened = none_before d r past none event nothing
 seat_new d whole r past (Some new) none event nothing opened = record {
   life = opened.life;
@@ -102,22 +120,35 @@ seat_new d whole r past (Some new) none event nothing opened = record {
   only = λ other plain. absurd (none_before d r past none event nothing other plain);
 }
 
-taken_seat : (d : Descriptor) (channel : Option Channel) (k : Counts) (numbers : ChaCha) (at : ℕ) (sender : Address) (bytes : List ℕ) (past : List Record) (after : Type 0)
-    → (after → IsWhole k) → NoneDialled d past → MatchOption channel (NonePlain d past) (λ c. HasSeat d (IsWhole k) c past)
-    → MatchOption (take_datagram d sender bytes channel (reached k) numbers).heard.channel (NonePlain d (Received at (address_of sender) bytes ∷ past)) (λ new. HasSeat d after new (Received at (address_of sender) bytes ∷ past))
-taken_seat d None k numbers at sender bytes past after less none nothing =
-    seat_new d after (Received at (address_of sender) bytes) past _ none refl nothing (opens_seat d after (reached k) numbers at sender bytes past)
-taken_seat d (Some c) k numbers at sender bytes past after less none s =
-    seat_after d (IsWhole k) after c (Received at (address_of sender) bytes) past _ less none refl s (leaves_seat d (IsWhole k) c (reached k) numbers s.life at sender bytes past s.stands)
+taken_seat : (d : Descriptor) (set : List Bool) (channel : Option Channel) (k : Counts) (numbers : ChaCha) (at : ℕ) (sender : Address) (bytes : List ℕ) (past : List Record)
+    → NoneDialled d past → MatchOption channel (NonePlain d past) (λ c. HasSeat d (IsKept d set k) c past)
+    → MatchOption (take_datagram d sender bytes channel (reached k) numbers).heard.channel (NonePlain d (Received at (address_of sender) bytes ∷ past))
+    (λ new. HasSeat d (IsKept d set (take_datagram d sender bytes channel (reached k) numbers).heard.counts) new (Received at (address_of sender) bytes ∷ past))
+taken_seat d set None k numbers at sender bytes past none nothing =
+    let new = (take_datagram d sender bytes None (reached k) numbers).heard.counts in
+    seat_new d (IsKept d set new) (Received at (address_of sender) bytes) past _ none refl nothing
+    (opens_seat d (IsKept d set new) (reached k) numbers at sender bytes past (kept_self d set new))
+taken_seat d set (Some c) k numbers at sender bytes past none s =
+    let new = (take_datagram d sender bytes (Some c) (reached k) numbers).heard.counts in
+    seat_after d (IsKept d set k) (IsKept d set new) c (Received at (address_of sender) bytes) past _ none refl s
+    (leaves_seat d (IsKept d set k) (IsKept d set new) c (reached k) numbers s.life at sender bytes past s.stands
+    (kept_before d set (length bytes) k new (takes_loss d sender bytes (Some c) (reached k) numbers)))
 
-quiet_seat : (d : Descriptor) (channel : Option Channel) (k : Counts) (at : ℕ) (past : List Record) → NoneDialled d past → MatchOption channel (NonePlain d past) (λ c. HasSeat d (IsWhole k) c past)
-    → MatchOption channel (NonePlain d (traffic.Quiet at ∷ past)) (λ c. HasSeat d (IsWhole (turned k)) c (traffic.Quiet at ∷ past))
-quiet_seat d None k at past none nothing = none_before d (traffic.Quiet at) past none refl nothing
-quiet_seat d (Some c) k at past none s = record {
+kept_turned : (d : Descriptor) (set : List Bool) (k new : Counts) → new.full ≡ k.full → new.damaged ≡ k.damaged → new.read_faults ≡ k.read_faults → new.send_faults ≡ k.send_faults
+    → (i : ℕ) → IsKept d set new i → IsKept d set k i
+kept_turned d set k new full damaged read send i w = record {
+  within = w.within;
+  committed = w.committed;
+  whole = record { full = sym full ∙ w.whole.full; damaged = sym damaged ∙ w.whole.damaged; read_faults = sym read ∙ w.whole.read_faults; send_faults = sym send ∙ w.whole.send_faults };
+}
+
+quiet_seat : (d : Descriptor) (set : List Bool) (channel : Option Channel) (k : Counts) (at : ℕ) (past : List Record) → NoneDialled d past → MatchOption channel (NonePlain d past) (λ c. HasSeat d (IsKept d set k) c past)
+    → MatchOption channel (NonePlain d (traffic.Quiet at ∷ past)) (λ c. HasSeat d (IsKept d set (turned k)) c (traffic.Quiet at ∷ past))
+quiet_seat d set None k at past none nothing = none_before d (traffic.Quiet at) past none refl nothing
+quiet_seat d set (Some c) k at past none s = record {
   life = s.life;
-  stands = weaker_seat d (IsWhole k) (IsWhole (turned k)) c s.life (traffic.Quiet at ∷ past)
-      (λ w. record { unheld = w.unheld; damaged = w.damaged; read_faults = w.read_faults; send_faults = w.send_faults })
-      (seat_quiet d (IsWhole k) c s.life at past s.stands);
+  stands = weaker_seat d (IsKept d set k) (IsKept d set (turned k)) c s.life (traffic.Quiet at ∷ past) (kept_turned d set k (turned k) refl refl refl refl)
+      (seat_quiet d (IsKept d set k) c s.life at past s.stands);
   only = only_before d (traffic.Quiet at) past s.life none refl s.only;
 }
 
@@ -128,10 +159,10 @@ stands_datagram : (book : LookUp) (since : ℕ) (s : State) (sender : Address) (
 stands_datagram book since s sender at bytes past st =
     let loss = takes_loss s.descriptor sender bytes s.channel (reached s.counts) s.numbers in
     record {
-      one_chunk = st.one_chunk;
-      rooted = st.rooted;
+      valid = st.valid;
+      paths = st.paths;
       now_is = ap (max at) st.now_is;
-      seat = taken_seat s.descriptor s.channel s.counts s.numbers at sender bytes past _ (whole_before (length bytes) s.counts _ loss) (none_dialled s.descriptor past st.dials_none) st.seat;
+      seat = taken_seat s.descriptor s.committed s.channel s.counts s.numbers at sender bytes past (none_dialled s.descriptor past st.dials_none) st.seat;
       dials_none = (tt, st.dials_none);
       served = (tt, st.served);
       announced = st.announced;
@@ -141,10 +172,10 @@ stands_datagram book since s sender at bytes past st =
 stands_quiet : (book : LookUp) (since : ℕ) (s : State) (at : ℕ) (past : List Record) → StandsFor book since s past
     → StandsFor book since (after_event s (Quiet at) []) (traffic.Quiet at ∷ past)
 stands_quiet book since s at past st = record {
-  one_chunk = st.one_chunk;
-  rooted = st.rooted;
+  valid = st.valid;
+  paths = st.paths;
   now_is = ap (max at) st.now_is;
-  seat = quiet_seat s.descriptor s.channel s.counts at past (none_dialled s.descriptor past st.dials_none) st.seat;
+  seat = quiet_seat s.descriptor s.committed s.channel s.counts at past (none_dialled s.descriptor past st.dials_none) st.seat;
   dials_none = (tt, st.dials_none);
   served = (tt, st.served);
   announced = st.announced;
@@ -162,8 +193,8 @@ stands_event book since s (Quiet at) bytes past is st = subst (λ (xs : List ℕ
 -- a wait that was refused adds no record
 pub stands_refused : (book : LookUp) (since : ℕ) (s : State) (past : List Record) → StandsFor book since s past → StandsFor book since (after_refusal s) past
 stands_refused book since s past st = record {
-  one_chunk = st.one_chunk;
-  rooted = st.rooted;
+  valid = st.valid;
+  paths = st.paths;
   now_is = st.now_is;
   seat = refused_seat s.channel st.seat;
   dials_none = st.dials_none;
@@ -172,12 +203,55 @@ stands_refused book since s past st = record {
   tied = record { datagrams = st.tied.datagrams; short = st.tied.short; sent = st.tied.sent };
 }
   where
-    refused_seat : (channel : Option Channel) → MatchOption channel (NonePlain s.descriptor past) (λ c. HasSeat s.descriptor (IsWhole s.counts) c past)
-        → MatchOption channel (NonePlain s.descriptor past) (λ c. HasSeat s.descriptor (IsWhole (after_refusal s).counts) c past)
+    refused_seat : (channel : Option Channel) → MatchOption channel (NonePlain s.descriptor past) (λ c. HasSeat s.descriptor (IsKept s.descriptor s.committed s.counts) c past)
+        → MatchOption channel (NonePlain s.descriptor past) (λ c. HasSeat s.descriptor (IsKept s.descriptor s.committed (after_refusal s).counts) c past)
     refused_seat None nothing = nothing
     refused_seat (Some c) seat = record {
       life = seat.life;
-      stands = weaker_seat s.descriptor (IsWhole s.counts) (IsWhole (after_refusal s).counts) c seat.life past
-          (λ w. record { unheld = w.unheld; damaged = w.damaged; read_faults = w.read_faults; send_faults = w.send_faults }) seat.stands;
+      stands = weaker_seat s.descriptor (IsKept s.descriptor s.committed s.counts) (IsKept s.descriptor s.committed (after_refusal s).counts) c seat.life past
+          (kept_turned s.descriptor s.committed s.counts (after_refusal s).counts refl refl refl refl) seat.stands;
       only = seat.only;
     }
+
+-- ---- a peer just opened
+
+pub paths_found : (d : Descriptor) (disk : DiskState) (book : LookUp) (set : List Bool) → IsRooted d book → IsScanned d disk book set → HasPaths d set book
+paths_found d disk book set rooted found = record {
+  rooted = rooted;
+  within = λ i e. let lt = within_set set i e in omega (arith, found.count, lt);
+  leaf = found.leaf;
+  peaks = found.peaks;
+}
+
+-- the chunks that were found are there since
+pub there_found : (d : Descriptor) (disk disk' : DiskState) (book : LookUp) (set : List Bool) (i : ℕ) → IsDescriptor d → IsKnown disk → IsScanned d disk book set → IsOpened d disk.history disk'.history
+    → slice_index_or set i false ≡ true → is_there d disk'.history.reads book i ≡ true
+there_found d disk disk' book set i valid known found opened e = by disk.history.reads refl
+  where
+    lt : i < chunks_of d
+    lt = let within = within_set set i e in omega (arith, found.count, within)
+
+    by : (reads : List ℕ) → disk.history.reads ≡ reads → is_there d disk'.history.reads book i ≡ true
+    by [] empty = absurd (false≢true (sym (ap (λ (r : List ℕ). holds d r i) empty ∙ empty_none d i (some_bytes d i valid lt)) ∙ sym (found.held known i lt) ∙ e))
+    by (x ∷ rest) some =
+        let again : disk'.history.reads ≡ disk.history.reads = ap (λ (h : History). h.reads) (opened.scanned (omega (arith, ap length some))) in
+        ap (λ (r : List ℕ). is_there d r book i) again ∙ held_there d disk.history.reads book i (found.known known) (found.peaks i e) ∙ sym (found.held known i lt) ∙ e
+
+none_plain : (d : Descriptor) → NonePlain d []
+none_plain d other plain = by other.is_dialled plain.begins
+  where
+    by : (b : Bool) → MatchBool b (IsPlainDial d other [] []) (IsPlainAnswer d other []) → ⊥
+    by true dial = false≢true dial.opened
+    by false answer = false≢true answer.opened
+
+pub stands_begun : (book : LookUp) (since : ℕ) (d : Descriptor) (set : List Bool) (seed : List ℕ) → IsDescriptor d → HasPaths d set book → StandsFor book since (new_state d set seed) []
+stands_begun book since d set seed valid paths = record {
+  valid = valid;
+  paths = paths;
+  now_is = refl;
+  seat = none_plain d;
+  dials_none = tt;
+  served = tt;
+  announced = tt;
+  tied = record { datagrams = refl; short = refl; sent = refl };
+}

@@ -1,8 +1,12 @@
 -- What the messages of a datagram do to the channel on which they come (RFC 7574, sections 3 and 8).
-use Rattle.std.specs.Prelude.{ℕ, ◌==◌, nat_le, Bool, true, false, not, ◌&&◌, ◌||◌, if◌then◌else◌, Option, Some, None, List, [], ◌∷◌}
+use Rattle.std.specs.Prelude.{ℕ, ◌-◌, ◌==◌, nat_le, nat_lt, min, Bool, true, false, not, ◌&&◌, if◌then◌else◌, Option, Some, None, List, [], ◌∷◌}
+use Rattle.std.specs.List.{filter}
 use Rattle.pp_terms.specs.Descriptor.{Descriptor, chunks_of}
 use Rattle.pp_terms.specs.Messages.{Span, Message, Handshake, Data, Ack, Have, Integrity, Pex4, PexReq, Request, Cancel, Choke, Unchoke, Pex6, WireKind, Messages, only}
+use Rattle.pp_terms.specs.Range as range
 use Rattle.pp_traffic.specs.Asking.{covers}
+use Rattle.pp_ranges.specs.Edits.{inserted, removed}
+use Rattle.pp_requests.specs.Lists.{are_too_many, requested, cancelled}
 use Rattle.pp_core.specs.Counting.{rise}
 use Rattle.pp_core.specs.declared.counts.Counts.{Counts}
 use Rattle.pp_core.specs.declared.channel.Channel.{Channel}
@@ -31,15 +35,42 @@ abbrev pub is_closing : Message → Bool
 is_closing (Handshake source options) = source == 0
 is_closing _ = false
 
--- The chunk is asked for, or no longer; it has come. Other messages do nothing.
-abbrev pub after_message : Message → Channel → Channel
-after_message (Request span) c = record c { asked = covers span 0 || c.asked }
-after_message (Cancel span) c = record c { asked = not (covers span 0) && c.asked }
-after_message (Ack span delay) c = record c { flying = if covers span 0 then 0 else c.flying }
-after_message _ c = c
+-- what of a span lies in the content
+abbrev pub inside : ℕ → Span → Option range.Span
+inside chunks span =
+    if nat_lt span.first chunks && nat_le span.first span.last then Some (record { first = span.first; last = min span.last (chunks - 1) }) else None
 
-abbrev pub counted : ℕ → Message → Counts → Counts
-counted chunks m k = record k { outside = if is_outside chunks m then rise k.outside else k.outside }
+-- the list of what is asked for, after a REQUEST and after a CANCEL
+abbrev pub asks_for : Option range.Span → List range.Span → List range.Span
+asks_for None list = list
+asks_for (Some part) list = requested part list
+
+abbrev pub lets_go : Option range.Span → List range.Span → List range.Span
+lets_go None list = list
+lets_go (Some part) list = cancelled part list
+
+-- Chunks are asked for, or no longer; some have come. Other messages do nothing.
+abbrev pub after_message : ℕ → Message → Channel → Channel
+after_message chunks (Request span) c = record c { asked = asks_for (inside chunks span) c.asked }
+after_message chunks (Cancel span) c = record c { asked = lets_go (inside chunks span) c.asked }
+after_message chunks (Ack span delay) c = record c { flying = filter (λ i. not (covers span i)) c.flying }
+after_message chunks _ c = c
+
+-- the list has no room for what a REQUEST or a CANCEL makes of it
+abbrev pub overflows : Option range.Span → (range.Span → List range.Span) → Bool
+overflows None edit = false
+overflows (Some part) edit = are_too_many (edit part)
+
+abbrev pub is_full : ℕ → Message → List range.Span → Bool
+is_full chunks (Request span) list = overflows (inside chunks span) (λ part. inserted (Some part) list)
+is_full chunks (Cancel span) list = overflows (inside chunks span) (λ part. removed part list)
+is_full chunks _ list = false
+
+abbrev pub counted : ℕ → Message → Channel → Counts → Counts
+counted chunks m c k = record k {
+  outside = if is_outside chunks m then rise k.outside else k.outside;
+  full = if is_full chunks m c.asked then rise k.full else k.full;
+}
 
 -- Messages are heard one by one. Behind one that closes the channel nothing is, and a fault behind them all is counted.
 abbrev pub hear_all : ℕ → Option (ℕ × WireKind) → List Message → Channel → Counts → Heard
@@ -47,7 +78,7 @@ hear_all chunks None [] c k = record { channel = Some c; counts = k }
 hear_all chunks (Some fault) [] c k = record { channel = Some c; counts = record k { cut = rise k.cut } }
 hear_all chunks fault (m ∷ ms) c k =
     if is_closing m then record { channel = None; counts = k }
-    else hear_all chunks fault ms (after_message m c) (counted chunks m k)
+    else hear_all chunks fault ms (after_message chunks m c) (counted chunks m c k)
 
 abbrev pub hear_rest : ℕ → Messages → Channel → Counts → Heard
 hear_rest chunks rest c k = hear_all chunks rest.fault rest.read c k

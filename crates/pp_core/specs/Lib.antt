@@ -3,6 +3,7 @@ pub mod Hearing
 pub mod Progress
 pub mod Taking
 pub mod Writing
+pub mod Announcing
 pub mod Sending
 pub mod Standing
 pub mod Events

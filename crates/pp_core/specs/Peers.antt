@@ -1,5 +1,5 @@
 -- A peer as its fields keep it, and as contracts see it.
-use Rattle.std.specs.Prelude.{◌≡◌, ℕ, length}
+use Rattle.std.specs.Prelude.{◌≡◌, ℕ, false, length}
 use Rattle.pp_terms.specs.Descriptor.{chunks_of}
 use Rattle.pp_core.specs.Standing.{State}
 use Rattle.pp_core.specs.declared.peer.Peer.TheInside.{Inside}
@@ -15,8 +15,11 @@ state_of p = record {
   is_live = p.live;
 }
 
--- It has room for a chunk and for a datagram.
+-- It has room for a chunk and for a datagram, its store is the descriptor's, and it plans as for a peer that told nothing.
 pub record HasRoom (p : Inside) : Type 0 where
-  pub chunk : length p.chunk.items ≡ p.descriptor.chunk
-  pub datagram : length p.datagram.items ≡ 16384
+  pub chunk : length p.rooms.chunk.items ≡ p.descriptor.chunk
+  pub datagram : length p.rooms.datagram.items ≡ 16384
+  pub chunks : p.rooms.told.chunks ≡ chunks_of p.descriptor
+  pub none : p.rooms.told.some ≡ false
+  pub store : p.store.descriptor ≡ p.descriptor
   pub set : length p.store.committed ≡ chunks_of p.descriptor

@@ -3,9 +3,13 @@ use Rattle.std.specs.Prelude.{◌≡◌, ◌⊎◌, ℕ, ◌+◌, ◌<◌, ◌�
 use Rattle.pp_terms.specs.Count.{HasRisen}
 use Rattle.pp_terms.specs.Descriptor.{Descriptor}
 use Rattle.pp_terms.specs.Traffic.{LinkState, Record, Sent, GainsRecords}
-use Rattle.pp_terms.specs.Messages.{Message}
+use Rattle.pp_terms.specs.Book.{LookUp}
+use Rattle.pp_terms.specs.Messages.{Span, Message}
+use Rattle.pp_terms.specs.Range as range
+use Rattle.pp_requests.specs.Lists.{without}
 use Rattle.pp_outside.specs.Outside.{address_of}
 use Rattle.pp_core.specs.Counting.{rise}
+use Rattle.pp_core.specs.Announcing.{AreNews}
 use Rattle.pp_core.specs.Writing.{IsDatagram, reply, delivery}
 use Rattle.pp_core.specs.declared.counts.Counts.{Counts}
 use Rattle.pp_core.specs.declared.channel.Channel.{Channel}
@@ -54,27 +58,46 @@ owes_reply c = c.reply_due && not c.proven
 abbrev pub is_replied : Channel → Channel
 is_replied c = record c { replied = true; reply_due = false }
 
+-- the handshake, and the first ranges of the chunks that are held, were sent
+pub record SendsReply (d : Descriptor) (held : List Bool) (c : Channel) (moment : ℕ) (old new : LinkState) : Type 0 where
+  pub spans : List Span
+  pub news : AreNews d.method held spans
+  pub sends : SendsOne d c (reply d c.local spans) moment old new
+
 -- It was sent, or refused and is still due.
-abbrev pub Replies : Descriptor → Bool → Channel → Counts → ℕ → LinkState → LinkState → Heard → Type 0
-Replies d holds c k moment old new h =
-    (SendsOne d c (reply d c.local holds) moment old new × (h ≡ leaves_on (is_replied c) (is_sent k)))
+abbrev pub Replies : Descriptor → List Bool → Channel → Counts → ℕ → LinkState → LinkState → Heard → Type 0
+Replies d held c k moment old new h =
+    (SendsReply d held c moment old new × (h ≡ leaves_on (is_replied c) (is_sent k)))
     ⊎ (SendsNone old new × (h ≡ leaves_on c (is_unsent k)))
 
--- ---- the chunk
+-- ---- a chunk
 
--- it is asked for on a channel that is proven, and fewer than two are on their way
+-- something is asked for
+abbrev pub is_asked : List range.Span → Bool
+is_asked [] = false
+is_asked (x ∷ xs) = true
+
+-- a chunk is asked for on a channel that is proven, and fewer than two are on their way
 abbrev pub may_deliver : Channel → Bool
-may_deliver c = c.proven && c.replied && c.asked && nat_lt c.flying 2
+may_deliver c = c.proven && c.replied && is_asked c.asked && nat_lt (length c.flying) 2
 
--- the request is met, or given up
-abbrev pub is_met : Channel → Channel
-is_met c = record c { asked = false }
+-- the request of chunk i is met, or given up
+abbrev pub is_met : ℕ → Channel → Channel
+is_met i c = record c { asked = without i c.asked }
 
-abbrev pub is_delivered : Channel → Channel
-is_delivered c = record c { asked = false; flying = c.flying + 1 }
+-- it is on its way
+abbrev pub is_launched : ℕ → Channel → Channel
+is_launched i c = record c { flying = i ∷ c.flying }
 
--- A chunk of this digest was sent, or refused and is given up.
-abbrev pub Delivers : Descriptor → ℕ → List ℕ → List ℕ → Channel → Counts → ℕ → LinkState → LinkState → Heard → Type 0
-Delivers d now digest bytes c k moment old new h =
-    (SendsOne d c (delivery now digest bytes) moment old new × (h ≡ leaves_on (is_delivered c) (is_sent k)))
-    ⊎ (SendsNone old new × (h ≡ leaves_on (is_met c) (is_unsent k)))
+abbrev pub is_delivered : ℕ → Channel → Channel
+is_delivered i c = is_launched i (is_met i c)
+
+-- Of a channel from whose list the chunk was taken: it was sent, or refused.
+abbrev pub Launches : Descriptor → LookUp → ℕ → ℕ → List ℕ → Channel → Counts → ℕ → LinkState → LinkState → Heard → Type 0
+Launches d book i now bytes c k moment old new h =
+    (SendsOne d c (delivery d book i now bytes) moment old new × (h ≡ leaves_on (is_launched i c) (is_sent k)))
+    ⊎ (SendsNone old new × (h ≡ leaves_on c (is_unsent k)))
+
+-- A chunk was sent, or refused and is given up.
+abbrev pub Delivers : Descriptor → LookUp → ℕ → ℕ → List ℕ → Channel → Counts → ℕ → LinkState → LinkState → Heard → Type 0
+Delivers d book i now bytes c k moment old new h = Launches d book i now bytes (is_met i c) k moment old new h

@@ -1,20 +1,22 @@
 -- What was sent, and what the peer stands for then.
-use Rattle.std.specs.Prelude.{◌≡◌, ◌⊎◌, ℕ, ◌≤◌, ◌<◌, Bool, true, false, ◌&&◌, MatchOption, MatchBool, Option, Some, None, List, [], ◌∷◌, ◌++◌, length}
+use Rattle.std.specs.Prelude.{◌≡◌, ◌⊎◌, ℕ, ◌≤◌, ◌<◌, Bool, true, false, ◌&&◌, MatchOption, MatchBool, Option, Some, None, List, [], ◌∷◌, ◌++◌, length, slice_index_or}
 use Rattle.std.specs.List.{AllByRecursion, list_any}
 use Rattle.pp_terms.specs.Book.{LookUp}
 use Rattle.pp_terms.specs.Count.{HasRisen}
 use Rattle.pp_terms.specs.Disk.{DiskState, IsKnown, moment_of}
-use Rattle.pp_terms.specs.Descriptor.{Descriptor, chunks_of}
-use Rattle.pp_terms.specs.Image.{holds}
+use Rattle.pp_terms.specs.Descriptor.{Descriptor}
 use Rattle.pp_terms.specs.Traffic.{LinkState, Record, Received, Quiet, Sent, GainsRecords}
-use Rattle.pp_terms.specs.Messages.{Message}
+use Rattle.pp_terms.specs.Messages.{Span, Message}
 use Rattle.pp_traffic.specs.Past.{read, goes_to, is_number, is_event}
 use Rattle.pp_traffic.specs.Life.{begins_as}
 use Rattle.pp_outside.specs.Outside.{address_of}
+use Rattle.pp_requests.specs.Lists.{chunk_count}
+use Rattle.pp_scan.specs.Holding.{is_there}
+use Rattle.pp_core.specs.Announcing.{AreNews}
 use Rattle.pp_core.specs.Writing.{IsDatagram, reply, delivery}
 use Rattle.pp_core.specs.Sending.{owes_reply, may_deliver, Replies}
-use Rattle.pp_core.specs.Serving.{Served}
-use Rattle.pp_core.specs.Standing.{State, holds_first, StandsFor}
+use Rattle.pp_core.specs.Serving.{ServesLeast}
+use Rattle.pp_core.specs.Standing.{State, StandsFor}
 use Rattle.pp_core.specs.declared.counts.Counts.{Counts}
 use Rattle.pp_core.specs.declared.channel.Channel.{Channel}
 use Rattle.pp_core.specs.declared.hearing.Heard.{Heard}
@@ -27,19 +29,33 @@ pub record SameCore (s new : State) : Type 0 where
   pub numbers : new.numbers ≡ s.numbers
   pub is_live : new.is_live ≡ s.is_live
 
--- A datagram is read to its end as the reply, with HAVE exactly where the chunk is held, or as the chunk behind its hash.
-pub record HasShape (d : Descriptor) (held : Bool) (bytes : List ℕ) : Type 0 where
+-- the messages of a reply: the handshake, and HAVE of the first ranges of the chunks that are held
+pub record IsReply (d : Descriptor) (held : List Bool) (messages : List Message) : Type 0 where
+  pub local : ℕ
+  pub spans : List Span
+  pub news : AreNews d.method held spans
+  pub are : messages ≡ reply d local spans
+
+-- those of a chunk behind the hashes of its path, as the book has them
+pub record IsDelivery (d : Descriptor) (book : LookUp) (messages : List Message) : Type 0 where
+  pub chunk : ℕ
+  pub moment : ℕ
+  pub content : List ℕ
+  pub are : messages ≡ delivery d book chunk moment content
+
+-- A datagram is read to its end as the one or the other.
+pub record HasShape (d : Descriptor) (held : List Bool) (book : LookUp) (bytes : List ℕ) : Type 0 where
   pub short : length bytes ≤ 16384
   pub number : ℕ
   pub messages : List Message
   pub read : IsDatagram d bytes number messages
-  pub either : ((local : ℕ) × (messages ≡ reply d local held)) ⊎ ((now : ℕ) × (digest : List ℕ) × (content : List ℕ) × (messages ≡ delivery now digest content))
+  pub either : IsReply d held messages ⊎ IsDelivery d book messages
 
 -- each datagram that was sent does
-abbrev pub IsOurs : Descriptor → Bool → Record → Type 0
-IsOurs d held (Received at sender bytes) = Unit {0}
-IsOurs d held (Quiet at) = Unit {0}
-IsOurs d held (Sent moment receiver bytes) = HasShape d held bytes
+abbrev pub IsOurs : Descriptor → List Bool → LookUp → Record → Type 0
+IsOurs d held book (Received at sender bytes) = Unit {0}
+IsOurs d held book (Quiet at) = Unit {0}
+IsOurs d held book (Sent moment receiver bytes) = HasShape d held book bytes
 
 -- it is the reply on a channel
 abbrev pub replies_on : Descriptor → Option Channel → Record → Bool
@@ -51,17 +67,17 @@ abbrev pub OwesNone : State → Type 0
 OwesNone s = MatchOption s.channel (Unit {0}) (λ c. owes_reply c ≡ false)
 
 -- The link gained these records, all sent at that moment of the disk, and the peer that stood for its traffic stands for it with them.
-pub record Sends (moment : ℕ) (seen seen' : LinkState) (s new : State) : Type 0 where
+pub record Sends (book : LookUp) (moment : ℕ) (seen seen' : LinkState) (s new : State) : Type 0 where
   pub added : List Record
   pub gained : GainsRecords seen.traffic added seen'.traffic
   pub all_sent : AllByRecursion (λ r. is_event r ≡ false) added
-  pub shaped : AllByRecursion (IsOurs s.descriptor (holds_first s)) added
+  pub shaped : AllByRecursion (IsOurs s.descriptor s.committed book) added
   -- a reply that was owed and isn't any more is among them
   pub answered : OwesNone new → OwesNone s ⊎ (list_any (replies_on s.descriptor s.channel) added ≡ true)
   pub nexts : seen'.nexts ≡ seen.nexts
   pub later : seen.faults ≤ seen'.faults
   pub core : SameCore s new
-  pub stands : (book : LookUp) (since : ℕ) (past : List Record) → since ≤ moment → StandsFor book since s past → StandsFor book since new (added ++ past)
+  pub stands : (since : ℕ) (past : List Record) → since ≤ moment → StandsFor book since s past → StandsFor book since new (added ++ past)
 
 -- a count rose only with that of a device
 abbrev pub RisesWith : ℕ → ℕ → ℕ → ℕ → Type 0
@@ -71,13 +87,19 @@ RisesWith count new faults faults' = (new ≡ count) ⊎ HasRisen faults faults'
 abbrev pub LeavesNone : State → Type 0
 LeavesNone s = MatchOption s.channel (Unit {0}) (λ c. may_deliver c ≡ false)
 
--- Why counts rose while a peer sent: the link or the disk refused; the disk isn't one that is honest, tells and holds the one
--- chunk; the chunk isn't committed. No other count but that of what was sent rose.
-pub record Causes (d : Descriptor) (held : Bool) (disk disk' : DiskState) (seen seen' : LinkState) (k new : Counts) : Type 0 where
+-- a committed chunk isn't there
+pub record IsDamagedThere (d : Descriptor) (set : List Bool) (book : LookUp) (disk : DiskState) : Type 0 where
+  pub chunk : ℕ
+  pub committed : slice_index_or set chunk false ≡ true
+  pub lacking : is_there d disk.history.reads book chunk ≡ false
+
+-- Why counts rose while a peer sent: the link or the disk refused; the disk isn't one that is honest, tells and has a committed
+-- chunk. No other count but those of what was sent, and of requests for chunks that aren't committed, rose.
+pub record Causes (d : Descriptor) (set : List Bool) (book : LookUp) (disk disk' : DiskState) (seen seen' : LinkState) (k new : Counts) : Type 0 where
   pub send : RisesWith k.send_faults new.send_faults seen.faults seen'.faults
   pub read : RisesWith k.read_faults new.read_faults disk.faults disk'.faults
-  pub damaged : (new.damaged ≡ k.damaged) ⊎ (IsKnown disk → chunks_of d ≡ 1 → holds d disk.history.reads 0 ≡ false)
-  pub unheld : (new.unheld ≡ k.unheld) ⊎ (held ≡ false)
+  pub damaged : (new.damaged ≡ k.damaged) ⊎ (IsKnown disk → IsDamagedThere d set book disk)
+  pub unheld : (new.unheld ≡ k.unheld) ⊎ ((i : ℕ) × (slice_index_or set i false ≡ false))
   pub others : new ≡ record k {
     sent = new.sent;
     send_faults = new.send_faults;
@@ -97,18 +119,46 @@ abbrev pub HasReplied : ℕ → LinkState → LinkState → State → State → 
 HasReplied moment seen seen' s new = MatchOption s.channel
     ((new ≡ s) × (seen' ≡ seen))
     (λ c. MatchBool (owes_reply c)
-    ((h : Heard) × Replies s.descriptor (holds_first s) c s.counts moment seen seen' h × (new ≡ on s h))
+    ((h : Heard) × Replies s.descriptor s.committed c s.counts moment seen seen' h × (new ≡ on s h))
     ((new ≡ s) × (seen' ≡ seen)))
 
--- The chunk, where it may be sent, was sent, refused, or given up.
-abbrev pub HasServed : DiskState → DiskState → LinkState → LinkState → State → State → Type 0
-HasServed disk disk' seen seen' s new = MatchOption s.channel
-    ((new ≡ s) × (seen' ≡ seen))
-    (λ c. (h : Heard) × Served s.descriptor (holds_first s) s.latest c s.counts disk disk' seen seen' h × (new ≡ on s h))
+-- The least chunk that is asked for, where one may be sent, was sent, refused, or given up.
+pub record ServesNext (book : LookUp) (disk disk' : DiskState) (seen seen' : LinkState) (s new : State) : Type 0 where
+  pub channel : Channel
+  pub here : s.channel ≡ Some channel
+  pub may : may_deliver channel ≡ true
+  pub heard : Heard
+  pub served : ServesLeast s.descriptor s.committed book s.latest channel s.counts disk disk' seen seen' heard
+  pub left : new ≡ on s heard
 
--- First the reply, and then the chunk.
-pub record HasFlushed (disk disk' : DiskState) (seen seen' : LinkState) (s new : State) : Type 0 where
+-- the disk, the link and the peer at one time
+pub record Point : Type 0 where
+  pub disk : DiskState
+  pub seen : LinkState
+  pub peer : State
+
+-- one chunk after the other, from point to point
+abbrev pub ServesEach : LookUp → Point → List Point → Point → Type 0
+ServesEach book from [] to = to ≡ from
+ServesEach book from (p ∷ points) to = ServesNext book from.disk p.disk from.seen p.seen from.peer p.peer × ServesEach book p points to
+
+-- Chunks were served until none was left that may be sent.
+pub record HasServed (book : LookUp) (disk disk' : DiskState) (seen seen' : LinkState) (s new : State) : Type 0 where
+  pub points : List Point
+  pub each : ServesEach book (record { disk = disk; seen = seen; peer = s }) points (record { disk = disk'; seen = seen'; peer = new })
+  pub none_left : LeavesNone new
+
+-- First the reply, and then the chunks.
+pub record HasFlushed (book : LookUp) (disk disk' : DiskState) (seen seen' : LinkState) (s new : State) : Type 0 where
   pub mid : State
   pub half : LinkState
   pub replied : HasReplied (moment_of disk.history) seen half s mid
-  pub served : HasServed disk disk' half seen' mid new
+  pub served : HasServed book disk disk' half seen' mid new
+
+-- how many chunks are asked for
+abbrev pub asked_on : Option Channel → ℕ
+asked_on None = 0
+asked_on (Some c) = chunk_count c.asked
+
+abbrev pub asked_count : State → ℕ
+asked_count s = asked_on s.channel

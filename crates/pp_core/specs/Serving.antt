@@ -1,24 +1,31 @@
--- The one chunk of a content, as it is read.
-use Rattle.std.specs.Prelude.{◌≡◌, ℕ, ◌≤◌, Bool, true, false, List, length, Result, Ok, Err}
+-- A chunk that is asked for, as it is read and sent.
+use Rattle.std.specs.Prelude.{◌≡◌, ℕ, ◌≤◌, ◌<◌, Bool, true, false, Some, List, length, is_some, slice_index_or}
 use Rattle.sha2.specs.Sha256.{sha256}
+use Rattle.pp_terms.specs.Book.{LookUp, IsRooted}
 use Rattle.pp_terms.specs.Content.{chunk_length}
 use Rattle.pp_terms.specs.Count.{HasRisen}
 use Rattle.pp_terms.specs.Descriptor.{Descriptor, chunks_of}
 use Rattle.pp_terms.specs.Disk.{DiskState, IsKnown, moment_of}
+use Rattle.pp_terms.specs.Image.{has_peaks}
 use Rattle.pp_terms.specs.Traffic.{LinkState}
-use Rattle.pp_terms.specs.Image.{holds}
-use Rattle.pp_core.specs.Sending.{leaves_on, may_deliver, is_met, is_unheld, is_unread, is_damaged, Delivers}
+use Rattle.pp_requests.specs.Lists.{IsLeast}
+use Rattle.pp_scan.specs.Holding.{is_there}
+use Rattle.pp_core.specs.Sending.{leaves_on, is_met, is_unheld, is_unread, is_damaged, Delivers}
 use Rattle.pp_core.specs.declared.counts.Counts.{Counts}
 use Rattle.pp_core.specs.declared.channel.Channel.{Channel}
 use Rattle.pp_core.specs.declared.hearing.Heard.{Heard}
-use Rattle.pp_core.specs.declared.serving.Unread.{Unread}
-use Rattle.pp_core.specs.declared.serving.Unread.TheVariants.{Refused, Damaged}
 
--- These bytes are the chunk, by their digest, which is the root.
-pub record IsChunk (d : Descriptor) (digest content : List ℕ) : Type 0 where
-  pub whole : length content ≡ chunk_length d.size d.chunk 0
-  pub hashed : sha256 content ≡ digest
-  pub root : digest ≡ d.root
+-- The book is rooted, and has the leaf and all peaks of each chunk of the set.
+pub record HasPaths (d : Descriptor) (set : List Bool) (book : LookUp) : Type 0 where
+  pub rooted : IsRooted d book
+  pub within : (i : ℕ) → slice_index_or set i false ≡ true → i < chunks_of d
+  pub leaf : (i : ℕ) → slice_index_or set i false ≡ true → is_some (book 0 i) ≡ true
+  pub peaks : (i : ℕ) → slice_index_or set i false ≡ true → has_peaks book (chunks_of d) 21 ≡ true
+
+-- These bytes are chunk i, by their length, and by their digest, which the book has for its leaf.
+pub record IsChunk (d : Descriptor) (book : LookUp) (i : ℕ) (content : List ℕ) : Type 0 where
+  pub whole : length content ≡ chunk_length d.size d.chunk i
+  pub leaf : book 0 i ≡ Some (sha256 content)
 
 -- A reading changes nothing on the disk, and no count but that of all faults.
 pub record ReadsAlone (old new : DiskState) : Type 0 where
@@ -28,22 +35,24 @@ pub record ReadsAlone (old new : DiskState) : Type 0 where
   pub hard : new.hard ≡ old.hard
   pub later : old.faults ≤ new.faults
 
--- The disk refused; or it isn't one that is honest, tells and holds the chunk.
-abbrev pub WhyUnread : {T : Type 0} → Descriptor → DiskState → DiskState → Result T Unread → Type 0
-WhyUnread d old new (Ok x) = Unit {0}
-WhyUnread d old new (Err Refused) = HasRisen old.faults new.faults
-WhyUnread d old new (Err Damaged) = IsKnown old → chunks_of d ≡ 1 → holds d old.history.reads 0 ≡ false
+-- the disk isn't one that is honest, tells and has the chunk's bytes
+abbrev pub IsLacking : Descriptor → LookUp → DiskState → ℕ → Type 0
+IsLacking d book disk i = IsKnown disk → is_there d disk.history.reads book i ≡ false
 
--- What was done of a request.
-pub data Served (d : Descriptor) (held : Bool) (now : ℕ) (c : Channel) (k : Counts) (disk disk' : DiskState) (seen seen' : LinkState) (h : Heard) : Type 0 where
-  -- nothing is to be sent
-  waits : may_deliver c ≡ false → h ≡ leaves_on c k → seen' ≡ seen → Served d held now c k disk disk' seen seen' h
-  -- the chunk isn't there; it wasn't read; it was read with another digest: the request is given up
-  lacks : may_deliver c ≡ true → held ≡ false → h ≡ leaves_on (is_met c) (is_unheld k) → seen' ≡ seen → Served d held now c k disk disk' seen seen' h
-  unread : may_deliver c ≡ true → held ≡ true → HasRisen disk.faults disk'.faults → h ≡ leaves_on (is_met c) (is_unread k) → seen' ≡ seen
-      → Served d held now c k disk disk' seen seen' h
-  damaged : may_deliver c ≡ true → held ≡ true → (IsKnown disk → chunks_of d ≡ 1 → holds d disk.history.reads 0 ≡ false) → h ≡ leaves_on (is_met c) (is_damaged k) → seen' ≡ seen
-      → Served d held now c k disk disk' seen seen' h
+-- What was done of the request of chunk i.
+pub data Served (d : Descriptor) (set : List Bool) (book : LookUp) (i now : ℕ) (c : Channel) (k : Counts) (disk disk' : DiskState) (seen seen' : LinkState) (h : Heard) : Type 0 where
+  -- the chunk isn't committed; it wasn't read; it was read with another digest: the request is given up
+  lacks : slice_index_or set i false ≡ false → h ≡ leaves_on (is_met i c) (is_unheld k) → seen' ≡ seen → Served d set book i now c k disk disk' seen seen' h
+  unread : slice_index_or set i false ≡ true → HasRisen disk.faults disk'.faults → h ≡ leaves_on (is_met i c) (is_unread k) → seen' ≡ seen
+      → Served d set book i now c k disk disk' seen seen' h
+  damaged : slice_index_or set i false ≡ true → IsLacking d book disk i → h ≡ leaves_on (is_met i c) (is_damaged k) → seen' ≡ seen
+      → Served d set book i now c k disk disk' seen seen' h
   -- it was sent, or the link refused
-  delivers : (digest content : List ℕ) → IsChunk d digest content → may_deliver c ≡ true → held ≡ true
-      → Delivers d now digest content c k (moment_of disk.history) seen seen' h → Served d held now c k disk disk' seen seen' h
+  delivers : (content : List ℕ) → IsChunk d book i content → slice_index_or set i false ≡ true
+      → Delivers d book i now content c k (moment_of disk.history) seen seen' h → Served d set book i now c k disk disk' seen seen' h
+
+-- The least chunk that is asked for was served so.
+pub record ServesLeast (d : Descriptor) (set : List Bool) (book : LookUp) (now : ℕ) (c : Channel) (k : Counts) (disk disk' : DiskState) (seen seen' : LinkState) (h : Heard) : Type 0 where
+  pub chunk : ℕ
+  pub least : IsLeast c.asked chunk
+  pub served : Served d set book chunk now c k disk disk' seen seen' h

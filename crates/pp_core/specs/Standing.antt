@@ -2,8 +2,9 @@
 use Rattle.std.specs.Prelude.{◌≡◌, ℕ, ◌+◌, ◌-◌, ◌^◌, ◌<◌, ◌≤◌, nat_lt, min, Bool, true, false, cond, Option, Some, None, MatchOption, List, [], ◌∷◌, length, slice_index_or}
 use Rattle.std.specs.List.{AllByRecursion}
 use Rattle.rand_chacha.specs.ChaCha.{ChaCha}
-use Rattle.pp_terms.specs.Descriptor.{Descriptor, chunks_of}
-use Rattle.pp_terms.specs.Book.{LookUp, IsRooted}
+use Rattle.pp_terms.specs.Descriptor.{Descriptor, IsDescriptor, chunks_of}
+use Rattle.pp_terms.specs.Book.{LookUp}
+use Rattle.pp_terms.specs.Range.{IsRunsFrom, has}
 use Rattle.pp_terms.specs.Traffic.{Record, Received, Quiet, Sent}
 use Rattle.pp_traffic.specs.Past.{now, read, is_number, some_since, is_at, EachRecord}
 use Rattle.pp_traffic.specs.Life.{Life, greets, answers, is_closed}
@@ -14,6 +15,7 @@ use Rattle.pp_traffic.specs.Serving.{ServesAll}
 use Rattle.pp_traffic.specs.Keeping.{EachAnnounced}
 use Rattle.pp_traffic.specs.Plain.{IsPlainNow}
 use Rattle.pp_outside.specs.Outside.{address_of}
+use Rattle.pp_core.specs.Serving.{HasPaths}
 use Rattle.pp_core.specs.declared.counts.Counts.{Counts}
 use Rattle.pp_core.specs.declared.channel.Channel.{Channel}
 
@@ -30,27 +32,31 @@ pub record State : Type 0 where
   pub counts : Counts
   pub is_live : Bool
 
-abbrev pub holds_first : State → Bool
-holds_first s = slice_index_or s.committed 0 false
-
--- Nothing that was asked for was given up.
+-- Nothing that was asked for was given up, but chunks that aren't committed.
 pub record IsWhole (k : Counts) : Type 0 where
-  pub unheld : k.unheld ≡ 0
+  pub full : k.full ≡ 0
   pub damaged : k.damaged ≡ 0
   pub read_faults : k.read_faults ≡ 0
   pub send_faults : k.send_faults ≡ 0
 
--- The channel's list and flight are those of a story. Nothing is on the list that isn't asked for, and all of it is
--- while nothing was given up.
-pub record Follows (whole : Type 0) (c : Channel) (story : List Line) : Type 0 where
-  pub asked_for : c.asked ≡ true → asked 0 story ≡ true
-  pub kept : whole → asked 0 story ≡ true → c.asked ≡ true
+-- So a committed chunk of the content isn't.
+pub record IsKept (d : Descriptor) (set : List Bool) (k : Counts) (i : ℕ) : Type 0 where
+  pub within : i < chunks_of d
+  pub committed : slice_index_or set i false ≡ true
+  pub whole : IsWhole k
+
+-- The channel's list and flight are those of a story. Nothing is on the list but chunks of the content that are asked for, and
+-- what is asked for is while it wasn't given up.
+pub record Follows (chunks : ℕ) (whole : ℕ → Type 0) (c : Channel) (story : List Line) : Type 0 where
+  pub runs : IsRunsFrom 0 c.asked
+  pub within : (i : ℕ) → has c.asked i ≡ true → i < chunks
+  pub asked_for : (i : ℕ) → has c.asked i ≡ true → asked i story ≡ true
+  pub kept : (i : ℕ) → whole i → asked i story ≡ true → has c.asked i ≡ true
   pub unchoked : choked story ≡ false
-  pub flies : c.flying ≡ length (in_flight story)
-  pub first : AllByRecursion (λ i. i ≡ 0) (in_flight story)
+  pub flies : c.flying ≡ in_flight story
 
 -- The channel is a life of the traffic, as far as its handshake was sent.
-pub record SeatStands (d : Descriptor) (whole : Type 0) (c : Channel) (life : Life) (past : List Record) : Type 0 where
+pub record SeatStands (d : Descriptor) (whole : ℕ → Type 0) (c : Channel) (life : Life) (past : List Record) : Type 0 where
   pub at : life.address ≡ address_of c.address
   pub local : life.local ≡ c.local
   pub remote : life.remote ≡ c.remote
@@ -61,10 +67,10 @@ pub record SeatStands (d : Descriptor) (whole : Type 0) (c : Channel) (life : Li
   pub open_still : is_closed d life past ≡ false
   pub replied : c.replied ≡ some_since (answers d life) life.opening past
   pub heard : c.proven ≡ is_heard d life past
-  pub follows : Follows whole c (story d life past)
+  pub follows : Follows (chunks_of d) whole c (story d life past)
 
 -- It is, and no other life of the traffic is plain.
-pub record HasSeat (d : Descriptor) (whole : Type 0) (c : Channel) (past : List Record) : Type 0 where
+pub record HasSeat (d : Descriptor) (whole : ℕ → Type 0) (c : Channel) (past : List Record) : Type 0 where
   pub life : Life
   pub stands : SeatStands d whole c life past
   pub only : (other : Life) → IsPlainNow d other past → other ≡ life
@@ -112,11 +118,11 @@ pub record IsTied (k : Counts) (past : List Record) : Type 0 where
 
 -- The peer stands for this traffic, with this book; its announced chunks are kept since that moment of the disk.
 pub record StandsFor (book : LookUp) (since : ℕ) (s : State) (past : List Record) : Type 0 where
-  pub one_chunk : chunks_of s.descriptor ≡ 1
-  pub rooted : IsRooted s.descriptor book
+  pub valid : IsDescriptor s.descriptor
+  pub paths : HasPaths s.descriptor s.committed book
   pub now_is : s.latest ≡ now past
-  pub seat : MatchOption s.channel (NonePlain s.descriptor past) (λ c. HasSeat s.descriptor (IsWhole s.counts) c past)
+  pub seat : MatchOption s.channel (NonePlain s.descriptor past) (λ c. HasSeat s.descriptor (IsKept s.descriptor s.committed s.counts) c past)
   pub dials_none : EachRecord (DialsNone s.descriptor) past
   pub served : ServesAll s.descriptor book fewer_than_two past
-  pub announced : EachAnnounced s.descriptor (λ moment i. (i ≡ 0) × (holds_first s ≡ true) × (since ≤ moment)) past
+  pub announced : EachAnnounced s.descriptor (λ moment i. (slice_index_or s.committed i false ≡ true) × (since ≤ moment)) past
   pub tied : IsTied s.counts past

@@ -67,8 +67,8 @@ opened_by sender local source = record {
   proven = false;
   replied = false;
   reply_due = true;
-  asked = false;
-  flying = 0;
+  asked = [];
+  flying = [];
 }
 
 -- the channel is that of the handshake

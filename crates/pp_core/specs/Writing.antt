@@ -1,9 +1,13 @@
 -- Datagrams that are sent: their bytes, and what is read of them.
-use Rattle.std.specs.Prelude.{◌≡◌, ℕ, ◌≤◌, Bool, if◌then◌else◌, Some, None, List, [], ◌∷◌, ◌++◌, length, take}
+use Rattle.std.specs.Prelude.{◌≡◌, ℕ, ◌≤◌, true, false, Some, None, is_some, unwrap_or, List, [], ◌∷◌, ◌++◌, map, length, take}
 use Rattle.std.specs.List.{AllByRecursion}
-use Rattle.pp_terms.specs.Descriptor.{Descriptor, method_number}
+use Rattle.pp_terms.specs.Bins.{first_leaf, last_leaf}
+use Rattle.pp_terms.specs.Book.{LookUp}
+use Rattle.pp_terms.specs.Descriptor.{Descriptor, chunks_of, method_number}
 use Rattle.pp_terms.specs.Options.{Options, IsBytes}
-use Rattle.pp_terms.specs.Messages.{Message, Handshake, Data, Have, Integrity, IsFull, only, datagram}
+use Rattle.pp_terms.specs.Messages.{Span, Message, Handshake, Data, Have, Integrity, IsFull, datagram}
+use Rattle.pp_terms.specs.Tree.{Node, is_full}
+use Rattle.pp_traffic.specs.Laws.{plan}
 
 -- The bytes are read, to their end, as a channel number and these messages.
 abbrev pub IsDatagram : Descriptor → List ℕ → ℕ → List Message → Type 0
@@ -36,10 +40,25 @@ own_options d = record {
   chunk = Some d.chunk;
 }
 
--- a reply: the handshake, and the chunk where it is held
-abbrev pub reply : Descriptor → ℕ → Bool → List Message
-reply d local holds = Handshake local (own_options d) ∷ (if holds then Have (only 0) ∷ [] else [])
+-- a reply: the handshake, and these ranges of chunks
+abbrev pub reply : Descriptor → ℕ → List Span → List Message
+reply d local spans = Handshake local (own_options d) ∷ map Have spans
 
--- a chunk behind the hash of its leaf, which is the root where there is one chunk
-abbrev pub delivery : ℕ → List ℕ → List ℕ → List Message
-delivery now digest bytes = Integrity (only 0) digest ∷ Data 0 now bytes ∷ []
+-- a node by the chunks under it, with its digest in the book
+abbrev pub span_under : Node → Span
+span_under n = record { first = first_leaf n; last = last_leaf n }
+
+abbrev pub hash_of : LookUp → Node → Message
+hash_of book n = Integrity (span_under n) (unwrap_or (book n.layer n.offset) [])
+
+-- the hashes of a chunk's whole path: all peaks, and the siblings on the way up to one of them
+abbrev pub path_nodes : Descriptor → ℕ → List Node
+path_nodes d i = plan (chunks_of d) (λ n. false) i
+
+-- all leaves under the node are chunks, and the book has its digest
+abbrev pub IsGiven : Descriptor → LookUp → Node → Type 0
+IsGiven d book n = (is_full (chunks_of d) n ≡ true) × (is_some (book n.layer n.offset) ≡ true)
+
+-- a chunk behind its path's hashes
+abbrev pub delivery : Descriptor → LookUp → ℕ → ℕ → List ℕ → List Message
+delivery d book i now bytes = map (hash_of book) (path_nodes d i) ++ Data i now bytes ∷ []

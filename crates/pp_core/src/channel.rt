@@ -1,9 +1,11 @@
 //! The channel to one other peer.
 
+use crate::flight::Flight;
 use pp_outside::Address;
+use pp_requests::Requests;
 
 /// A channel that the other peer opened (RFC 7574, sections 3.1.1 and 8).
-#[derive(Clone, Copy)]
+#[derive(Drop)]
 pub(crate) struct Channel {
     /// Where the other peer is.
     pub(crate) address: Address,
@@ -16,8 +18,8 @@ pub(crate) struct Channel {
     pub(crate) replied: bool,
     /// It is to be sent, for the first time or again.
     pub(crate) reply_due: bool,
-    /// The chunk is asked for.
-    pub(crate) asked: bool,
-    /// So many times the chunk is on its way, not yet acknowledged.
-    pub(crate) flying: u64,
+    /// The chunks that are asked for.
+    pub(crate) asked: Requests,
+    /// Those on their way.
+    pub(crate) flying: Flight,
 }

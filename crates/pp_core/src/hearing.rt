@@ -1,31 +1,26 @@
 //! The messages that come on a channel.
 
-ghost use Rattle.std.specs.Prelude.{◌≡◌, ◌<◌, ◌≤◌, length, drop, option_map};
+ghost use Rattle.std.specs.Prelude.{◌≡◌, ◌<◌, ◌≤◌, if◌then◌else◌, Some, length, drop, option_map};
 ghost use Rattle.pp_terms.specs.Messages.{messages_at};
 ghost use Rattle.pp_terms.specs.Descriptor.{chunks_of};
-ghost use Rattle.pp_traffic.specs.Asking.{covers};
+ghost use Rattle.pp_ranges.specs.Edits.{inserted, removed};
 ghost use Rattle.pp_wire.specs.Views.{span_of, message_of};
-ghost use Rattle.pp_core.specs.Hearing.{named_by, is_outside, is_closing, after_message, counted, hear_rest};
+ghost use Rattle.pp_core.specs.Hearing.{named_by, is_outside, is_closing, inside, asks_for, lets_go, overflows, after_message, is_full, hear_rest};
 ghost use Rattle.pp_core.specs.Progress.{Progresses};
 ghost use Rattle.pp_core.specs.Counting.{rise};
 
 use crate::channel::Channel;
 use crate::counts::{Counts, risen};
+use pp_ranges::ChunkRange;
+use pp_requests::{Cancelled, Requests};
 use pp_tree::Descriptor;
 use pp_wire::{Message, Span, Step, next};
 
 /// What is left of a channel after a datagram, None where it was closed, and what was counted.
-#[derive(Clone, Copy)]
+#[derive(Drop)]
 pub(crate) struct Heard {
     pub(crate) channel: Option<Channel>,
     pub(crate) counts: Counts,
-}
-
-// Whether the first chunk lies in the span.
-fn has_first(span: Span) -> bool
-    ensures { result ≡ covers (span_of span) 0 }
-{
-    span.first == 0
 }
 
 // The chunks that a message names.
@@ -66,30 +61,69 @@ fn is_closing<'m>(message: &'m Message<'m>) -> bool
     }
 }
 
-// The channel after a message that doesn't close it.
-fn after_message<'m>(channel: Channel, message: &'m Message<'m>) -> Channel
-    ensures { result ≡ after_message (message_of message.now) channel }
+// What of a span lies in the content.
+fn inside(span: Span, chunks: u32) -> Option<ChunkRange>
+    ensures { result ≡ inside chunks (span_of span) }
 {
-    let mut channel = channel;
-    match *message {
-        Message::Request { span } => channel.asked = has_first(span) || channel.asked,
-        Message::Cancel { span } => channel.asked = !has_first(span) && channel.asked,
-        Message::Ack { span, .. } => {
-            if has_first(span) {
-                channel.flying = 0;
-            }
-        }
-        _ => {}
+    let end = u64::from(chunks);
+    if span.first < end && span.first <= span.last {
+        let last = span.last.min(end - 1);
+        ChunkRange::new(span.first as u32, last as u32)
+    } else {
+        None
     }
-    channel
 }
 
-fn counted<'m>(counts: Counts, message: &'m Message<'m>, chunks: u32) -> Counts
-    ensures { result ≡ counted chunks (message_of message.now) counts }
+// Asks for the chunks of a REQUEST, and answers whether the list has no room for them.
+fn ask(asked: &mut Requests, part: Option<ChunkRange>) -> bool
+    ensures list { asked.new ≡ asks_for part asked.old }
+    ensures full { result ≡ overflows part (λ x. inserted (Some x) asked.old) }
+{
+    match part {
+        Some(range) => asked.request(range).is_err(),
+        None => false,
+    }
+}
+
+// Takes out those of a CANCEL, and answers whether others went with them for want of room.
+fn withdraw(asked: &mut Requests, part: Option<ChunkRange>) -> bool
+    ensures list { asked.new ≡ lets_go part asked.old }
+    ensures full { result ≡ overflows part (λ x. removed x asked.old) }
+{
+    match part {
+        Some(range) => asked.cancel(range) == Cancelled::Wide,
+        None => false,
+    }
+}
+
+// What a message that doesn't close the channel does to it. Answers whether its list had no room.
+fn hear_message<'m>(channel: &mut Channel, message: &'m Message<'m>, chunks: u32) -> bool
+    ensures channel { channel.new ≡ after_message chunks (message_of message.now) channel.old }
+    ensures full { result ≡ is_full chunks (message_of message.now) channel.old.asked }
+{
+    match *message {
+        Message::Request { span } => ask(&mut channel.asked, inside(span, chunks)),
+        Message::Cancel { span } => withdraw(&mut channel.asked, inside(span, chunks)),
+        Message::Ack { span, .. } => {
+            channel.flying.land(span);
+            false
+        }
+        _ => false,
+    }
+}
+
+fn counted<'m>(counts: Counts, message: &'m Message<'m>, chunks: u32, full: bool) -> Counts
+    ensures { result ≡ record counts {
+      outside = if is_outside chunks (message_of message.now) then rise counts.outside else counts.outside;
+      full = if full then rise counts.full else counts.full;
+    } }
 {
     let mut counts = counts;
     if is_outside(message, chunks) {
         counts.outside = risen(counts.outside);
+    }
+    if full {
+        counts.full = risen(counts.full);
     }
     counts
 }
@@ -104,7 +138,7 @@ fn cut(counts: Counts) -> Counts
 }
 
 // One message further, or the end.
-#[derive(Clone, Copy)]
+#[derive(Drop)]
 enum Progress {
     On {
         at: usize,
@@ -119,7 +153,7 @@ fn hear_one(
     descriptor: &Descriptor,
     bytes: &[u8],
     at: usize,
-    channel: Channel,
+    mut channel: Channel,
     counts: Counts,
 ) -> Progress
     requires { at ≤ length bytes.now }
@@ -133,10 +167,12 @@ fn hear_one(
                     counts,
                 })
             } else {
+                let chunks = descriptor.chunks();
+                let full = hear_message(&mut channel, &message, chunks);
                 Progress::On {
                     at: next,
-                    channel: after_message(channel, &message),
-                    counts: counted(counts, &message, descriptor.chunks()),
+                    channel,
+                    counts: counted(counts, &message, chunks, full),
                 }
             }
         }

@@ -1,8 +1,10 @@
 //! One peer of a swarm, turn by turn: what comes is absorbed, and what is due is sent.
 #![tactic(auto)]
 
+mod announcing;
 mod channel;
 mod counts;
+mod flight;
 mod hearing;
 mod opening;
 mod peer;

@@ -1,23 +1,26 @@
 //! A peer is opened.
 
-ghost use Rattle.std.specs.Prelude.{◌≡◌, ◌<◌, ◌≤◌, ◌⊎◌, ℕ, [], length, replicate, slice_index_or, IfOk, OnOk, OnErr, false};
+ghost use Rattle.std.specs.Prelude.{◌≡◌, ◌<◌, ◌≤◌, ◌⊎◌, ℕ, [], length, replicate, slice_index_or, IfOk, OnOk, OnErr, true, false};
 ghost use Rattle.std.specs.Result.{result_map_both};
 ghost use Rattle.rand_chacha.specs.ChaCha.{of_seed};
 ghost use Rattle.pp_terms.specs.Book.{IsRooted};
-ghost use Rattle.pp_terms.specs.Descriptor.{chunks_of};
+ghost use Rattle.pp_terms.specs.Descriptor.{IsDescriptor, chunks_of};
 ghost use Rattle.pp_terms.specs.Disk.{IsKnown, moment_of};
 ghost use Rattle.pp_terms.specs.Image.{holds};
 ghost use Rattle.pp_tree.specs.Book.{entry, empty_book, HasRootAlone};
+ghost use Rattle.pp_scan.specs.Holding.{is_there};
 ghost use Rattle.pp_scan.specs.Scan.{HasFound};
 ghost use Rattle.pp_store.specs.Keep.{KeepsDisk};
 ghost use Rattle.pp_store.specs.Store.{IsOpened, AllStand, GoesOn};
 ghost use Rattle.pp_core.specs.Opening.{HasBegun, HasOpened};
+ghost use Rattle.pp_core.specs.Serving.{HasPaths};
 ghost use Rattle.pp_core.specs.Standing.{StandsFor};
 
 use crate::counts::Counts;
 use crate::peer::Peer;
 use crate::writing::DATAGRAM;
 use pp_outside::Disk;
+use pp_plan::Told;
 use pp_scan::ScanFault;
 use pp_store::Store;
 use pp_tree::{Book, Descriptor};
@@ -62,6 +65,8 @@ fn room(alloc: Global, size: usize) -> Result<Vec<u8>, AllocError>
 pub(crate) struct Rooms {
     pub(crate) chunk: Vec<u8>,
     pub(crate) datagram: Vec<u8>,
+    // what a peer told that told nothing: chunks go with all hashes of their paths
+    pub(crate) told: Told,
 }
 
 // All memory but the store's, and the book is prepared.
@@ -69,14 +74,22 @@ fn make_rooms(alloc: Global, descriptor: &Descriptor, book: &mut Book) -> Result
     requires { book.old ≡ empty_book }
     ensures chunk { IfOk result (λ r. length r.chunk.items ≡ descriptor.now.chunk) }
     ensures datagram { IfOk result (λ r. length r.datagram.items ≡ 16384) }
+    ensures told { IfOk result (λ r. (r.told.chunks ≡ chunks_of descriptor.now) × (r.told.some ≡ false)) }
     ensures alone { OnOk result (HasRootAlone descriptor.now (entry book.new)) }
     ensures chunks { OnOk result (book.new.chunks ≡ chunks_of descriptor.now) }
     ensures err { OnErr result (book.new ≡ book.old) }
+    ensures valid { IsDescriptor descriptor.now }
 {
+    let chunks = descriptor.chunks();
     let chunk = room(alloc, descriptor.chunk() as usize)?;
     let datagram = room(alloc, DATAGRAM)?;
+    let told = Told::none(alloc, chunks)?;
     book.prepare(alloc, descriptor)?;
-    Ok(Rooms { chunk, datagram })
+    Ok(Rooms {
+        chunk,
+        datagram,
+        told,
+    })
 }
 
 impl Peer {
@@ -91,10 +104,10 @@ impl Peer {
         book: &mut Book,
     ) -> Result<Peer, OpenFault>
         requires empty { book.old ≡ empty_book }
-        requires one { chunks_of descriptor.now ≡ 1 }
 
         // It stands for no traffic yet.
         ensures stands { IfOk result (λ p. StandsFor (entry book.new) (moment_of (D.state disk.new).history) p []) }
+        ensures paths { IfOk result (λ p. HasPaths descriptor.now p.committed (entry book.new)) }
         ensures begun { IfOk result (λ p. HasBegun descriptor.now seed p) }
         ensures size { IfOk result (λ p. length p.committed ≡ chunks_of descriptor.now) }
         ensures found { HasOpened descriptor.now (D.state disk.old) (D.state disk.new) result }
@@ -103,7 +116,10 @@ impl Peer {
         // Exactly the chunks are committed that were held.
         ensures held { IsKnown (D.state disk.old) → IfOk result (λ p. (i : ℕ) → i < chunks_of descriptor.now
             → slice_index_or p.committed i false ≡ holds descriptor.now (D.state disk.old).history.reads i) }
-        // Each committed chunk stands in every image; and whatever it answers, what stood in every image goes on standing.
+        // Each committed chunk is there,
+        ensures there { IsKnown (D.state disk.old) → IfOk result (λ p. (i : ℕ) → slice_index_or p.committed i false ≡ true
+            → is_there descriptor.now (D.state disk.new).history.reads (entry book.new) i ≡ true) }
+        // and stands in every image; and whatever it answers, what stood in every image goes on standing.
         ensures kept { IsKnown (D.state disk.old) → IfOk result (λ p. AllStand descriptor.now p.committed (D.state disk.new).history) }
         ensures goes_on { IsKnown (D.state disk.old) → GoesOn descriptor.now (D.state disk.old).history (D.state disk.new).history }
         ensures disk { KeepsDisk (D.state disk.old) (D.state disk.new) }

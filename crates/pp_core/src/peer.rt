@@ -1,24 +1,25 @@
 //! A peer of one swarm.
 
-ghost use Rattle.std.specs.Prelude.{◌≡◌, ◌≤◌, ◌⊎◌, ◌∷◌, ℕ, List, true, max, length, IsOk};
+ghost use Rattle.std.specs.Prelude.{◌≡◌, ◌<◌, ◌≤◌, ◌⊎◌, ◌∷◌, ℕ, List, true, false, max, length, IsOk, MatchBool};
 ghost use Rattle.pp_terms.specs.Count.{HasRisen};
 ghost use Rattle.pp_terms.specs.Disk.{moment_of};
 ghost use Rattle.pp_outside.specs.Arrivals.{IsEvent};
 ghost use Rattle.pp_core.specs.Events.{turned, reached, after_event, after_refusal};
 ghost use Rattle.pp_core.specs.Counting.{rise};
-ghost use Rattle.pp_core.specs.Sends.{Sends, Causes, OwesNone, LeavesNone, HasReplied, HasServed, HasFlushed};
-ghost use Rattle.pp_core.specs.Serving.{ReadsAlone};
+ghost use Rattle.pp_core.specs.Sends.{Sends, Causes, OwesNone, LeavesNone, HasReplied, ServesNext, HasServed, HasFlushed, asked_count};
+ghost use Rattle.pp_core.specs.Serving.{HasPaths, ReadsAlone};
 ghost use Rattle.pp_terms.specs.Descriptor.{chunks_of};
 ghost use Rattle.pp_core.specs.Opening.{new_state};
-ghost use Rattle.pp_core.specs.Standing.{holds_first, StandsFor};
+ghost use Rattle.pp_core.specs.Standing.{StandsFor};
 ghost use Rattle.pp_terms.specs.Book.{LookUp};
+ghost use Rattle.pp_tree.specs.Book.{entry};
 ghost use Rattle.pp_terms.specs.Traffic.{Record};
 ghost use Rattle.pp_outside.specs.Outside.{record_of};
 
 use crate::channel::Channel;
 use crate::counts::{Counts, risen};
 use crate::opening::Rooms;
-use crate::sending::{owes_reply, send_reply};
+use crate::sending::{may_deliver, owes_reply, send_reply};
 use crate::serving::serve;
 use crate::taking::take_datagram;
 use pp_outside::{Disk, DiskFault, Event, Link};
@@ -38,9 +39,7 @@ pub struct Peer {
     numbers: ChaCha20Rng,
     counts: Counts,
     live: bool,
-    // room for a chunk, and for a datagram
-    chunk: Vec<u8>,
-    datagram: Vec<u8>,
+    rooms: Rooms,
 }
 
 impl Model for Peer {
@@ -89,6 +88,9 @@ impl Peer {
     pub(crate) fn begin(descriptor: &Descriptor, store: Store, seed: [u8; 32], rooms: Rooms) -> Peer
         requires chunk { length rooms.chunk.items ≡ descriptor.now.chunk }
         requires datagram { length rooms.datagram.items ≡ 16384 }
+        requires chunks { rooms.told.chunks ≡ chunks_of descriptor.now }
+        requires none { rooms.told.some ≡ false }
+        requires store { store.descriptor ≡ descriptor.now }
         requires set { length store.committed ≡ chunks_of descriptor.now }
         ensures { result ≡ new_state descriptor.now store.committed seed }
     {
@@ -100,8 +102,7 @@ impl Peer {
             numbers: ChaCha20Rng::from_seed(seed),
             counts: Counts::none(),
             live: true,
-            chunk: rooms.chunk,
-            datagram: rooms.datagram,
+            rooms,
         }
     }
 
@@ -138,7 +139,7 @@ impl Peer {
                     &self.descriptor,
                     from,
                     bytes,
-                    self.channel,
+                    self.channel.take(),
                     counts,
                     &mut self.numbers,
                 );
@@ -167,41 +168,42 @@ impl Peer {
         self.counts = refused(self.counts);
     }
 
-    /// Sends what is due: the reply to a handshake, and the chunk that was asked for. What the link or the disk refuses is
-    /// counted.
-    pub fn flush<D: Disk, L: Link>(&mut self, disk: &mut D, link: &mut L, _book: &Book)
-        ensures exact { HasFlushed (D.state disk.old) (D.state disk.new) (L.seen link.old) (L.seen link.new) self.old self.new }
+    /// Sends what is due: the reply to a handshake, and chunks that were asked for, the least first, while fewer than two are on
+    /// their way. What the link or the disk refuses is counted. The book is the one that `open` was given.
+    pub fn flush<D: Disk, L: Link>(&mut self, disk: &mut D, link: &mut L, book: &Book)
+        requires paths { HasPaths self.old.descriptor self.old.committed (entry book.now) }
+        ensures exact { HasFlushed (entry book.now) (D.state disk.old) (D.state disk.new) (L.seen link.old) (L.seen link.new) self.old self.new }
         // So the peer stands for what it sent, and nothing is owed that could be sent.
-        ensures sends { Sends (moment_of (D.state disk.old).history) (L.seen link.old) (L.seen link.new) self.old self.new }
-        ensures causes { Causes self.old.descriptor (holds_first self.old) (D.state disk.old) (D.state disk.new) (L.seen link.old) (L.seen link.new) self.old.counts self.new.counts }
+        ensures sends { Sends (entry book.now) (moment_of (D.state disk.old).history) (L.seen link.old) (L.seen link.new) self.old self.new }
+        ensures causes { Causes self.old.descriptor self.old.committed (entry book.now) (D.state disk.old) (D.state disk.new) (L.seen link.old) (L.seen link.new) self.old.counts self.new.counts }
         ensures replied { OwesNone self.new ⊎ HasRisen (L.seen link.old).faults (L.seen link.new).faults }
         ensures served { LeavesNone self.new }
         ensures disk { ReadsAlone (D.state disk.old) (D.state disk.new) }
     {
         self.reply(disk, link);
-        self.serve(disk, link);
+        self.serve(disk, link, book);
     }
 
     // Sends the reply, where it is due.
     fn reply<D: Disk, L: Link>(&mut self, disk: &D, link: &mut L)
         ensures exact { HasReplied (moment_of (D.state disk.now).history) (L.seen link.old) (L.seen link.new) self.old self.new }
-        ensures sends { Sends (moment_of (D.state disk.now).history) (L.seen link.old) (L.seen link.new) self.old self.new }
-        ensures causes { Causes self.old.descriptor (holds_first self.old) (D.state disk.now) (D.state disk.now) (L.seen link.old) (L.seen link.new) self.old.counts self.new.counts }
+        ensures sends { (book : LookUp) → Sends book (moment_of (D.state disk.now).history) (L.seen link.old) (L.seen link.new) self.old self.new }
+        ensures causes { (book : LookUp) → Causes self.old.descriptor self.old.committed book (D.state disk.now) (D.state disk.now) (L.seen link.old) (L.seen link.new) self.old.counts self.new.counts }
         ensures replied { OwesNone self.new ⊎ HasRisen (L.seen link.old).faults (L.seen link.new).faults }
     {
-        let Some(channel) = self.channel else {
+        let Some(channel) = self.channel.take() else {
             return;
         };
-        if !owes_reply(channel) {
+        if !owes_reply(&channel) {
+            self.channel = Some(channel);
             return;
         }
-        let held = self.store.committed().contains(0);
         let heard = send_reply(
             &self.descriptor,
-            held,
+            self.store.committed(),
             channel,
             self.counts,
-            &mut self.datagram,
+            &mut self.rooms.datagram,
             disk,
             link,
         );
@@ -209,35 +211,52 @@ impl Peer {
         self.counts = heard.counts;
     }
 
-    // Serves the request, where there is one.
-    fn serve<D: Disk, L: Link>(&mut self, disk: &mut D, link: &mut L)
-        ensures exact { HasServed (D.state disk.old) (D.state disk.new) (L.seen link.old) (L.seen link.new) self.old self.new }
-        ensures sends { Sends (moment_of (D.state disk.old).history) (L.seen link.old) (L.seen link.new) self.old self.new }
-        ensures causes { Causes self.old.descriptor (holds_first self.old) (D.state disk.old) (D.state disk.new) (L.seen link.old) (L.seen link.new) self.old.counts self.new.counts }
-        ensures owes { OwesNone self.old → OwesNone self.new }
+    // Serves chunks that are asked for, until none may be sent.
+    fn serve<D: Disk, L: Link>(&mut self, disk: &mut D, link: &mut L, book: &Book)
+        requires paths { HasPaths self.old.descriptor self.old.committed (entry book.now) }
+        ensures exact { HasServed (entry book.now) (D.state disk.old) (D.state disk.new) (L.seen link.old) (L.seen link.new) self.old self.new }
+        ensures sends { Sends (entry book.now) (moment_of (D.state disk.old).history) (L.seen link.old) (L.seen link.new) self.old self.new }
+        ensures causes { Causes self.old.descriptor self.old.committed (entry book.now) (D.state disk.old) (D.state disk.new) (L.seen link.old) (L.seen link.new) self.old.counts self.new.counts }
         ensures owed { OwesNone self.new → OwesNone self.old }
-        ensures served { LeavesNone self.new }
+        ensures owes { OwesNone self.old → OwesNone self.new }
         ensures disk { ReadsAlone (D.state disk.old) (D.state disk.new) }
     {
-        let Some(channel) = self.channel else {
-            return;
+        loop {
+            if !self.serve_next(disk, link, book) {
+                return;
+            }
+        }
+    }
+
+    // Serves the least chunk that is asked for. Answers whether one may be sent.
+    fn serve_next<D: Disk, L: Link>(&mut self, disk: &mut D, link: &mut L, book: &Book) -> bool
+        requires paths { HasPaths self.old.descriptor self.old.committed (entry book.now) }
+        ensures next { MatchBool result (ServesNext (entry book.now) (D.state disk.old) (D.state disk.new) (L.seen link.old) (L.seen link.new) self.old self.new)
+            ((self.new ≡ self.old) × (D.state disk.new ≡ D.state disk.old) × (L.seen link.new ≡ L.seen link.old) × LeavesNone self.old) }
+        ensures fewer { result ≡ true → asked_count self.new < asked_count self.old }
+        ensures disk { ReadsAlone (D.state disk.old) (D.state disk.new) }
+    {
+        let Some(channel) = self.channel.take() else {
+            return false;
         };
-        let held = self.store.committed().contains(0);
-        let len = self.descriptor.chunk_len(0) as usize;
+        if !may_deliver(&channel) {
+            self.channel = Some(channel);
+            return false;
+        }
         let heard = serve(
             &self.descriptor,
-            held,
+            &self.store,
+            book,
             self.latest,
             channel,
             self.counts,
-            len,
-            &mut self.chunk,
-            &mut self.datagram,
+            &mut self.rooms,
             disk,
             link,
         );
         self.channel = heard.channel;
         self.counts = heard.counts;
+        true
     }
 
     /// Closes the channels. Nothing is sent yet.

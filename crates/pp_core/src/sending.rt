@@ -1,16 +1,20 @@
 //! What is sent on the channel.
 
-ghost use Rattle.std.specs.Prelude.{◌≡◌, ◌<◌, ◌≤◌, length};
+ghost use Rattle.std.specs.Prelude.{◌≡◌, ◌<◌, ◌≤◌, false, length};
+ghost use Rattle.std.specs.List.{AllByRecursion};
+ghost use Rattle.pp_terms.specs.Descriptor.{chunks_of};
 ghost use Rattle.pp_terms.specs.Disk.{moment_of};
-ghost use Rattle.pp_core.specs.Sending.{is_sent, is_unsent, is_unheld, is_unread, is_damaged, owes_reply, is_replied, Replies, may_deliver, is_met, is_delivered, Delivers, SendsOne, SendsNone};
-ghost use Rattle.pp_core.specs.Writing.{IsWritten};
+ghost use Rattle.pp_core.specs.Sending.{is_sent, is_unsent, is_unheld, is_unread, is_damaged, owes_reply, Replies, may_deliver, is_launched, Launches};
+ghost use Rattle.pp_core.specs.Writing.{path_nodes, IsGiven};
+ghost use Rattle.pp_tree.specs.Book.{entry};
 
 use crate::channel::Channel;
 use crate::counts::{Counts, risen};
 use crate::hearing::Heard;
 use crate::writing::{write_delivery, write_reply};
 use pp_outside::{Disk, Link};
-use pp_tree::{Descriptor, Digest};
+use pp_plan::Told;
+use pp_tree::{Book, ChunkSet, Descriptor};
 
 fn sent(counts: Counts) -> Counts
     ensures { result ≡ is_sent counts }
@@ -58,8 +62,8 @@ pub(crate) fn damaged(counts: Counts) -> Counts
 }
 
 /// Whether the reply is to be sent.
-pub(crate) fn owes_reply(channel: Channel) -> bool
-    ensures { result ≡ owes_reply channel }
+pub(crate) fn owes_reply(channel: &Channel) -> bool
+    ensures { result ≡ owes_reply channel.now }
 {
     channel.reply_due && !channel.proven
 }
@@ -67,15 +71,16 @@ pub(crate) fn owes_reply(channel: Channel) -> bool
 /// Sends the reply.
 pub(crate) fn send_reply<D: Disk, L: Link>(
     descriptor: &Descriptor,
-    held: bool,
+    held: &ChunkSet,
     channel: Channel,
     counts: Counts,
     out: &mut [u8],
     disk: &D,
     link: &mut L,
 ) -> Heard
-    requires { length out.old ≡ 16384 }
-    ensures { Replies descriptor.now held channel counts (moment_of (D.state disk.now).history) (L.seen link.old) (L.seen link.new) result }
+    requires size { length held.now ≡ chunks_of descriptor.now }
+    requires room { length out.old ≡ 16384 }
+    ensures { Replies descriptor.now held.now channel counts (moment_of (D.state disk.now).history) (L.seen link.old) (L.seen link.new) result }
 {
     let end = write_reply(descriptor, channel.remote, channel.local, held, out);
     match link.send(disk, &channel.address, &out[..end]) {
@@ -94,18 +99,30 @@ pub(crate) fn send_reply<D: Disk, L: Link>(
     }
 }
 
-/// Whether the chunk may be sent.
-pub(crate) fn may_deliver(channel: Channel) -> bool
-    ensures { result ≡ may_deliver channel }
+/// Whether a chunk may be sent.
+pub(crate) fn may_deliver(channel: &Channel) -> bool
+    ensures { result ≡ may_deliver channel.now }
 {
-    channel.proven && channel.replied && channel.asked && channel.flying < 2
+    channel.proven && channel.replied && channel.asked.peek().is_some() && channel.flying.has_room()
 }
 
-/// Sends the chunk.
+// The channel with one chunk more on its way.
+fn launched(channel: Channel, i: u32) -> Channel
+    requires { length channel.flying < 2 }
+    ensures { result ≡ is_launched i channel }
+{
+    let mut channel = channel;
+    channel.flying.launch(i);
+    channel
+}
+
+/// Sends a chunk, which was taken from the channel's list.
 pub(crate) fn deliver<D: Disk, L: Link>(
     descriptor: &Descriptor,
+    book: &Book,
+    told: &Told,
     now: u64,
-    digest: Digest,
+    i: u32,
     bytes: &[u8],
     channel: Channel,
     counts: Counts,
@@ -113,28 +130,25 @@ pub(crate) fn deliver<D: Disk, L: Link>(
     disk: &D,
     link: &mut L,
 ) -> Heard
+    requires chunks { told.now.chunks ≡ chunks_of descriptor.now }
+    requires none { told.now.some ≡ false }
+    requires within { i < chunks_of descriptor.now }
+    requires given { AllByRecursion (IsGiven descriptor.now (entry book.now)) (path_nodes descriptor.now i) }
     requires room { length out.old ≡ 16384 }
     requires some { 0 < length bytes.now }
     requires most { length bytes.now ≤ descriptor.now.chunk }
     requires few { length bytes.now ≤ 8192 }
-    requires flying { channel.flying < 2 }
-    ensures { Delivers descriptor.now now digest bytes.now channel counts (moment_of (D.state disk.now).history) (L.seen link.old) (L.seen link.new) result }
+    requires flying { length channel.flying < 2 }
+    ensures { Launches descriptor.now (entry book.now) i now bytes.now channel counts (moment_of (D.state disk.now).history) (L.seen link.old) (L.seen link.new) result }
 {
-    let end = write_delivery(descriptor, channel.remote, now, digest, bytes, out);
+    let end = write_delivery(descriptor, book, told, channel.remote, i, now, bytes, out);
     match link.send(disk, &channel.address, &out[..end]) {
         Ok(()) => Heard {
-            channel: Some(Channel {
-                asked: false,
-                flying: channel.flying + 1,
-                ..channel
-            }),
+            channel: Some(launched(channel, i)),
             counts: sent(counts),
         },
         Err(_) => Heard {
-            channel: Some(Channel {
-                asked: false,
-                ..channel
-            }),
+            channel: Some(channel),
             counts: unsent(counts),
         },
     }

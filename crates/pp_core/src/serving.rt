@@ -1,147 +1,121 @@
-//! The chunk, as it is read and sent.
+//! A chunk that is asked for, as it is read and sent.
 
-ghost use Rattle.std.specs.Prelude.{◌≡◌, ◌<◌, ◌≤◌, ◌⊎◌, ◌&&◌, true, false, length, IfOk, OnErr, Err};
-ghost use Rattle.sha2.specs.Sha256.{sha256};
-ghost use Rattle.pp_terms.specs.Count.{HasRisen};
-ghost use Rattle.pp_terms.specs.Content.{chunk_length};
-ghost use Rattle.pp_terms.specs.Disk.{IsKnown, moment_of};
-ghost use Rattle.pp_terms.specs.Image.{holds};
-ghost use Rattle.pp_core.specs.Serving.{IsChunk, ReadsAlone, WhyUnread, Served};
-ghost use Rattle.pp_core.specs.Sending.{leaves_on, may_deliver, is_met};
+ghost use Rattle.std.specs.Prelude.{◌≡◌, ℕ, ◌<◌, true, false, length, slice_index_or, MatchOption};
+ghost use Rattle.pp_terms.specs.Descriptor.{chunks_of};
+ghost use Rattle.pp_tree.specs.Book.{entry};
+ghost use Rattle.pp_requests.specs.Lists.{IsLeast, chunk_count};
+ghost use Rattle.pp_core.specs.Serving.{HasPaths, ReadsAlone, Served, ServesLeast};
+ghost use Rattle.pp_core.specs.Sending.{may_deliver, leaves_on, is_met};
 
 use crate::channel::Channel;
 use crate::counts::Counts;
 use crate::hearing::Heard;
-use crate::sending::{damaged, deliver, may_deliver, unheld, unread};
+use crate::opening::Rooms;
+use crate::sending::{damaged, deliver, unheld, unread};
 use pp_outside::{Disk, Link};
-use pp_tree::{Descriptor, Digest, leaf};
+use pp_store::{ReadFault, Store};
+use pp_tree::{Book, Descriptor};
 
-/// Why a chunk wasn't read.
-#[derive(Clone, Copy, Debug, PartialEq, Eq)]
-pub(crate) enum Unread {
-    /// The disk refused.
-    Refused,
-    /// The bytes have another digest.
-    Damaged,
-}
-
-/// Where the first chunk stands in a store.
-const FIRST_CHUNK: u64 = 64;
-
-/// Reads the one chunk, as long as the room for it, and tests its digest.
-pub(crate) fn read_chunk<D: Disk>(
-    descriptor: &Descriptor,
-    room: &mut [u8],
-    disk: &mut D,
-) -> Result<Digest, Unread>
-    requires whole { length room.old ≡ chunk_length descriptor.now.size descriptor.now.chunk 0 }
-    requires few { length room.old ≤ 8192 }
-    ensures chunk { IfOk result (λ digest. IsChunk descriptor.now digest room.new) }
-    ensures why { WhyUnread descriptor.now (D.state disk.old) (D.state disk.new) result }
-    ensures disk { ReadsAlone (D.state disk.old) (D.state disk.new) }
+// Whether the store has committed the chunk.
+fn is_held(descriptor: &Descriptor, store: &Store, i: u32) -> bool
+    requires { length store.now.committed ≡ chunks_of descriptor.now }
+    ensures { result ≡ slice_index_or store.now.committed i false }
 {
-    match disk.read_at(FIRST_CHUNK, room) {
-        Ok(()) => tested(descriptor, room),
-        Err(_) => Err(Unread::Refused),
-    }
+    i < descriptor.chunks() && store.committed().contains(i)
 }
 
-// The digest of the chunk, if it is the root.
-fn tested(descriptor: &Descriptor, bytes: &[u8]) -> Result<Digest, Unread>
-    requires { length bytes.now ≡ chunk_length descriptor.now.size descriptor.now.chunk 0 }
-    ensures chunk { IfOk result (λ digest. IsChunk descriptor.now digest bytes.now) }
-    ensures damaged { OnErr result (sha256 bytes.now ≡ descriptor.now.root → ⊥) }
-    ensures only { result ≡ Err Unread.Refused → ⊥ }
-{
-    let digest = leaf(bytes);
-    if digest == descriptor.root() {
-        Ok(digest)
-    } else {
-        Err(Unread::Damaged)
-    }
-}
-
-/// Serves the request of a channel, if it may. `len` is the length of the chunk.
-pub(crate) fn serve<D: Disk, L: Link>(
-    descriptor: &Descriptor,
-    held: bool,
-    now: u64,
-    channel: Channel,
-    counts: Counts,
-    len: usize,
-    room: &mut [u8],
-    out: &mut [u8],
-    disk: &mut D,
-    link: &mut L,
-) -> Heard
-    requires whole { len ≡ chunk_length descriptor.now.size descriptor.now.chunk 0 }
-    requires some { 0 < len }
-    requires most { len ≤ descriptor.now.chunk }
-    requires few { descriptor.now.chunk ≤ 8192 }
-    requires room { len ≤ length room.old }
-    requires out { length out.old ≡ 16384 }
-    ensures served { Served descriptor.now held now channel counts (D.state disk.old) (D.state disk.new) (L.seen link.old) (L.seen link.new) result }
-    ensures disk { ReadsAlone (D.state disk.old) (D.state disk.new) }
-{
-    if !may_deliver(channel) {
-        return Heard {
-            channel: Some(channel),
-            counts,
-        };
-    }
-    if !held {
-        return given_up(channel, unheld(counts));
-    }
-    serve_held(descriptor, now, channel, counts, len, room, out, disk, link)
-}
-
-// The request is given up.
-fn given_up(channel: Channel, counts: Counts) -> Heard
-    ensures { result ≡ leaves_on (is_met channel) counts }
+fn left(channel: Channel, counts: Counts) -> Heard
+    ensures { result ≡ leaves_on channel counts }
 {
     Heard {
-        channel: Some(Channel {
-            asked: false,
-            ..channel
-        }),
+        channel: Some(channel),
         counts,
     }
 }
 
-fn serve_held<D: Disk, L: Link>(
+/// Serves the least chunk that is asked for on a channel on which one may be sent.
+pub(crate) fn serve<D: Disk, L: Link>(
     descriptor: &Descriptor,
+    store: &Store,
+    book: &Book,
     now: u64,
-    channel: Channel,
+    mut channel: Channel,
     counts: Counts,
-    len: usize,
-    room: &mut [u8],
-    out: &mut [u8],
+    rooms: &mut Rooms,
     disk: &mut D,
     link: &mut L,
 ) -> Heard
-    requires whole { len ≡ chunk_length descriptor.now.size descriptor.now.chunk 0 }
-    requires some { 0 < len }
-    requires most { len ≤ descriptor.now.chunk }
-    requires few { descriptor.now.chunk ≤ 8192 }
-    requires room { len ≤ length room.old }
-    requires out { length out.old ≡ 16384 }
     requires may { may_deliver channel ≡ true }
-    ensures served { Served descriptor.now true now channel counts (D.state disk.old) (D.state disk.new) (L.seen link.old) (L.seen link.new) result }
+    requires store { store.now.descriptor ≡ descriptor.now }
+    requires set { length store.now.committed ≡ chunks_of descriptor.now }
+    requires paths { HasPaths descriptor.now store.now.committed (entry book.now) }
+    requires chunk { length rooms.old.chunk.items ≡ descriptor.now.chunk }
+    requires datagram { length rooms.old.datagram.items ≡ 16384 }
+    requires chunks { rooms.old.told.chunks ≡ chunks_of descriptor.now }
+    requires none { rooms.old.told.some ≡ false }
+    ensures served { ServesLeast descriptor.now store.now.committed (entry book.now) now channel counts (D.state disk.old) (D.state disk.new) (L.seen link.old) (L.seen link.new) result }
+    ensures fewer { MatchOption result.channel ⊥ (λ c. chunk_count c.asked < chunk_count channel.asked) }
     ensures disk { ReadsAlone (D.state disk.old) (D.state disk.new) }
+    ensures chunk { length rooms.new.chunk.items ≡ length rooms.old.chunk.items }
+    ensures datagram { length rooms.new.datagram.items ≡ length rooms.old.datagram.items }
+    ensures told { rooms.new.told ≡ rooms.old.told }
 {
-    match read_chunk(descriptor, &mut room[..len], disk) {
-        Ok(digest) => deliver(
+    let Some(i) = channel.asked.take() else {
+        return left(channel, counts);
+    };
+    if !is_held(descriptor, store, i) {
+        return left(channel, unheld(counts));
+    }
+    serve_held(
+        descriptor, store, book, now, i, channel, counts, rooms, disk, link,
+    )
+}
+
+// Serves a committed chunk, which was taken from the channel's list.
+fn serve_held<D: Disk, L: Link>(
+    descriptor: &Descriptor,
+    store: &Store,
+    book: &Book,
+    now: u64,
+    i: u32,
+    channel: Channel,
+    counts: Counts,
+    rooms: &mut Rooms,
+    disk: &mut D,
+    link: &mut L,
+) -> Heard
+    requires held { slice_index_or store.now.committed i false ≡ true }
+    requires flying { length channel.flying < 2 }
+    requires store { store.now.descriptor ≡ descriptor.now }
+    requires paths { HasPaths descriptor.now store.now.committed (entry book.now) }
+    requires chunk { length rooms.old.chunk.items ≡ descriptor.now.chunk }
+    requires datagram { length rooms.old.datagram.items ≡ 16384 }
+    requires chunks { rooms.old.told.chunks ≡ chunks_of descriptor.now }
+    requires none { rooms.old.told.some ≡ false }
+    ensures served { (c : _) → channel ≡ is_met i c → Served descriptor.now store.now.committed (entry book.now) i now c counts (D.state disk.old) (D.state disk.new) (L.seen link.old) (L.seen link.new) result }
+    ensures asked { MatchOption result.channel ⊥ (λ c. c.asked ≡ channel.asked) }
+    ensures disk { ReadsAlone (D.state disk.old) (D.state disk.new) }
+    ensures chunk { length rooms.new.chunk.items ≡ length rooms.old.chunk.items }
+    ensures datagram { length rooms.new.datagram.items ≡ length rooms.old.datagram.items }
+    ensures told { rooms.new.told ≡ rooms.old.told }
+{
+    let len = descriptor.chunk_len(i) as usize;
+    match store.read(i, &mut rooms.chunk, book, disk) {
+        Ok(_) => deliver(
             descriptor,
+            book,
+            &rooms.told,
             now,
-            digest,
-            &room[..len],
+            i,
+            &rooms.chunk[..len],
             channel,
             counts,
-            out,
+            &mut rooms.datagram,
             disk,
             link,
         ),
-        Err(Unread::Refused) => given_up(channel, unread(counts)),
-        Err(Unread::Damaged) => given_up(channel, damaged(counts)),
+        Err(ReadFault::Disk) => left(channel, unread(counts)),
+        Err(ReadFault::Absent) => left(channel, unheld(counts)),
+        Err(ReadFault::Damaged { .. }) => left(channel, damaged(counts)),
     }
 }

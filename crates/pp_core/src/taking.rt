@@ -14,10 +14,12 @@ ghost use Rattle.pp_core.specs.Taking.{is_short, is_stranger, is_refused, is_uns
 
 use crate::channel::Channel;
 use crate::counts::{Counts, risen};
+use crate::flight::Flight;
 use crate::hearing::{Heard, hear_from};
 use pp_channels::check;
 use pp_options::Options;
 use pp_outside::Address;
+use pp_requests::Requests;
 use pp_tree::Descriptor;
 use pp_wire::{Message, Step, WireKind, next};
 use rand_chacha::ChaCha20Rng;
@@ -78,14 +80,14 @@ fn is_same(a: Address, b: Address) -> bool
     }
 }
 
-fn is_own(number: u32, from: Address, channel: Channel) -> bool
-    ensures { result ≡ is_own number from channel }
+fn is_own(number: u32, from: Address, channel: &Channel) -> bool
+    ensures { result ≡ is_own number from channel.now }
 {
     channel.local == number && is_same(from, channel.address)
 }
 
-fn is_again(from: Address, source: u32, channel: Channel) -> bool
-    ensures { result ≡ is_again from source channel }
+fn is_again(from: Address, source: u32, channel: &Channel) -> bool
+    ensures { result ≡ is_again from source channel.now }
 {
     channel.remote == source && is_same(from, channel.address)
 }
@@ -123,17 +125,17 @@ fn take_numbered(
 {
     match channel {
         Some(own) => {
-            if is_own(number, from, own) {
+            if is_own(number, from, &own) {
                 take_own(descriptor, bytes, own, counts)
             } else {
                 Heard {
-                    channel,
+                    channel: Some(own),
                     counts: stranger(counts),
                 }
             }
         }
         None => Heard {
-            channel,
+            channel: None,
             counts: stranger(counts),
         },
     }
@@ -169,8 +171,8 @@ fn opened(
         proven: false,
         replied: false,
         reply_due: true,
-        asked: false,
-        flying: 0,
+        asked: Requests::new(),
+        flying: Flight::none(),
     };
     hear_from(descriptor, bytes, at, channel, counts)
 }
@@ -180,7 +182,7 @@ fn met(from: Address, source: u32, channel: Channel, counts: Counts) -> Heard
     ensures { (chunks : _) (rest : _) (numbers : _) → greet_fitting chunks from source rest (Some channel) counts numbers
         ≡ record { heard = result; numbers = numbers } }
 {
-    if !is_again(from, source, channel) {
+    if !is_again(from, source, &channel) {
         return Heard {
             channel: Some(channel),
             counts: unseated(counts),

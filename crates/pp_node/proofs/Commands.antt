@@ -3,7 +3,7 @@ use Rattle.std.proofs.Common.{◌≡◌, ◌⊎◌, inl, inr, ℕ, List, codes, 
 use Rattle.pp_terms.specs.Book.{LookUp, IsRooted}
 use Rattle.pp_terms.specs.Commands.{Command, Import, Seed, Fetch, Check, Export, Replay, Rehearse}
 use Rattle.pp_terms.specs.CommandLine.{Spells, IsImport, IsSeed, IsOnStore, IsOneOf, IsFirstWrong}
-use Rattle.pp_terms.specs.Descriptor.{Descriptor, chunks_of}
+use Rattle.pp_terms.specs.Descriptor.{Descriptor}
 use Rattle.pp_terms.specs.Disk.{DiskState}
 use Rattle.pp_terms.specs.Stream.{SourceState, SinkState}
 use Rattle.pp_terms.specs.Traffic.{Address, LinkState}
@@ -15,29 +15,15 @@ use Rattle.pp_node.specs.Run.{ImportEnds}
 use Rattle.pp_node.specs.Checking.{CheckEnds}
 use Rattle.pp_node.specs.Exporting.{ExportEnds}
 use Rattle.pp_node.specs.Promising.{SeedEnds}
-use Rattle.pp_node.specs.Commanding.{IsServed, IsTooLarge, IsUnserved, HasEnded}
+use Rattle.pp_node.specs.Commanding.{HasEnded}
 use Rattle.pp_node.specs.Status.{number_of}
 use Rattle.pp_node.specs.declared.status.Status.{Status}
 use Rattle.pp_node.specs.declared.status.Status.TheVariants.{Done, Usage, NotAStore, Incomplete, DiskFault, LinkFault, SourceFault, SinkFault, NotEmpty, ContentSize, Memory, Damaged}
 
--- ---- words that spell no command that is built and served
+-- ---- words that spell no command that is built
 
-pub none_spelled : (words : List (List ℕ)) (u : wrong.Usage) → IsFirstWrong built words u ⊎ IsTooLarge words u
-    → (c : Command) → IsOneOf built c → IsServed c → Spells words c → ⊥
-none_spelled words u (inl first) c one served spelled = command_not_wrong built words c u one spelled first
-none_spelled words u (inr large) c one served spelled =
-    large.many (subst IsServed (one_command words c (Seed large.store large.descriptor large.listen large.turns) spelled large.spelled) served)
-
--- what isn't served is a content too large to be seeded
-pub too_large : (words : List (List ℕ)) (c : Command) (u : wrong.Usage) → Spells words c → IsUnserved c u → IsTooLarge words u
-too_large words (Seed store descriptor listen turns) u spelled is =
-    record { store = store; descriptor = descriptor; listen = listen; turns = turns; spelled = spelled; many = is.0; said = is.1 }
-too_large words (Import store chunk) u spelled is = absurd is
-too_large words (Fetch store descriptor listen turns order peers) u spelled is = absurd is
-too_large words (Check store descriptor) u spelled is = absurd is
-too_large words (Export store descriptor) u spelled is = absurd is
-too_large words Replay u spelled is = absurd is
-too_large words (Rehearse number) u spelled is = absurd is
+pub none_spelled : (words : List (List ℕ)) (u : wrong.Usage) → IsFirstWrong built words u → (c : Command) → IsOneOf built c → Spells words c → ⊥
+none_spelled words u first c one spelled = command_not_wrong built words c u one spelled first
 
 -- ---- a command's end
 
@@ -54,9 +40,9 @@ module _ (words : List (List ℕ)) (command : Command) (status : Status) (result
   pub import_ends : (store : List ℕ) (chunk : ℕ) → IsImport words store chunk → ImportEnds result chunk source source' sink sink' disk disk'
   import_ends store chunk spelled = let end = ended_as (Import store chunk) spelled in record { status = status; number = number; ends = end.0; run = end.1 }
 
-  pub seed_ends : (store : List ℕ) (descriptor : Descriptor) (listen : Address) (turns : ℕ) → IsSeed words store descriptor listen turns → chunks_of descriptor ≡ 1
+  pub seed_ends : (store : List ℕ) (descriptor : Descriptor) (listen : Address) (turns : ℕ) → IsSeed words store descriptor listen turns
       → SeedEnds result descriptor random turns source source' sink sink' disk disk' seen seen' book book'
-  seed_ends store descriptor listen turns spelled one =
+  seed_ends store descriptor listen turns spelled =
       let end = ended_as (Seed store descriptor listen turns) spelled in
       record { status = status; number = number; ends = end.0; promises = end.1; unread = end.2; rooted = end.3 }
 

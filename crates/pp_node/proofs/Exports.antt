@@ -323,3 +323,14 @@ module _ (d : Descriptor) (old mid new : DiskState) (sink sink' : SinkState) (bo
   exported_later ends.SourceFault is = absurd is
   exported_later ends.NotEmpty is = absurd is
   exported_later ends.ContentSize is = absurd is
+
+-- what was found is so of the disk as it is now
+pub found_now : (d : Descriptor) (disk disk' : DiskState) (book : LookUp) (set : List Bool) → disk'.tells ≡ disk.tells → disk'.honest ≡ disk.honest → IsFound d disk disk' book set → IsFound d disk' disk' book set
+found_now d disk disk' book set tells honest f =
+    let back = known_on disk' disk (sym tells) (sym honest) in record {
+      count = f.count;
+      leaf = f.leaf;
+      held = λ known. f.held (back known);
+      there = λ known. f.there (back known);
+      begins = λ known. f.begins (back known);
+    }

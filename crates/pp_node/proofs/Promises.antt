@@ -4,7 +4,7 @@ use Rattle.std.specs.Prelude.{slice_index_or}
 use Rattle.std.specs.List.{AllByRecursion}
 use Rattle.std.proofs.lemmas.Bool.{false≢true}
 use Rattle.pp_terms.specs.Book.{LookUp}
-use Rattle.pp_terms.specs.Descriptor.{Descriptor, chunks_of, IsDescriptor}
+use Rattle.pp_terms.specs.Descriptor.{Descriptor, chunks_of}
 use Rattle.pp_terms.specs.Disk.{DiskState, History, IsKnown, moment_of}
 use Rattle.pp_terms.specs.Image.{holds}
 use Rattle.pp_terms.specs.Stream.{SinkState}
@@ -12,18 +12,17 @@ use Rattle.pp_terms.specs.Traffic.{LinkState, Record, Received, Quiet, Sent, Gai
 use Rattle.pp_terms.proofs.Knowing.{known_on}
 use Rattle.pp_traffic.specs.Flight.{fewer_than_two}
 use Rattle.pp_traffic.specs.Keeping.{EachAnnounced, StandsSince, Keeps}
-use Rattle.pp_traffic.specs.Prompt.{LetsInFirst, ServesAsked}
+use Rattle.pp_traffic.specs.Prompt.{LetsInFirst}
 use Rattle.pp_traffic.specs.Serving.{ServesAll}
 use Rattle.pp_traffic.specs.Turns.{AtEndsBut}
-use Rattle.pp_scan.proofs.Finding.{some_bytes}
-use Rattle.pp_scan.proofs.Holds.{empty_none}
+use Rattle.pp_scan.specs.Holding.{is_there}
 use Rattle.pp_store.specs.Store.{AllStand}
 use Rattle.pp_core.specs.Sends.{IsOurs}
-use Rattle.pp_core.specs.Standing.{State, IsWhole, holds_first, capped, StandsFor}
+use Rattle.pp_core.specs.Standing.{State, IsWhole, capped, StandsFor}
 use Rattle.pp_core.proofs.Relations.{gains_nothing}
 use Rattle.pp_node.specs.Looking.{IsOf}
 use Rattle.pp_node.specs.Preparing.{Lasts, IsUnsent, IsReady}
-use Rattle.pp_node.specs.Turning.{IsSmooth, IsCalm, TakesTurns}
+use Rattle.pp_node.specs.Turning.{IsSmooth, IsCalm, ServesHeld, TakesTurns}
 use Rattle.pp_node.specs.Seeding.{IsSeeded, SeedsIn, Serves, ReportsSeed}
 use Rattle.pp_node.specs.Promising.{IsSmoothRun, TookTurns, HasTurned, SeedPromises}
 use Rattle.pp_node.specs.declared.preparing.SeedFault.{SeedFault}
@@ -47,25 +46,21 @@ stands_later : (d : Descriptor) (h : History) (moment i : ℕ) (set : List Bool)
 stands_later d h moment i set all is le image since = all i is image (inl (since_later h moment image le since))
 
 announced_kept : (d : Descriptor) (h : History) (set : List Bool) (xs : List Record) → AllStand d set h
-    → EachAnnounced d (λ moment i. (i ≡ 0) × (slice_index_or set 0 false ≡ true) × (moment_of h ≤ moment)) xs → EachAnnounced d (StandsSince d h) xs
+    → EachAnnounced d (λ moment i. (slice_index_or set i false ≡ true) × (moment_of h ≤ moment)) xs → EachAnnounced d (StandsSince d h) xs
 announced_kept d h set xs all each =
-    each_announced d (λ moment i. (i ≡ 0) × (slice_index_or set 0 false ≡ true) × (moment_of h ≤ moment)) (StandsSince d h)
-    (λ moment i of_it. subst (λ (n : ℕ). StandsSince d h moment n) (sym of_it.0) (stands_later d h moment 0 set all of_it.1 of_it.2)) xs each
+    each_announced d (λ moment i. (slice_index_or set i false ≡ true) × (moment_of h ≤ moment)) (StandsSince d h)
+    (λ moment i of_it. stands_later d h moment i set all of_it.0 of_it.1) xs each
 
 -- ---- turns
-
-some? : (bytes : List ℕ) → (0 < length bytes) ⊎ (bytes ≡ [])
-some? [] = inr refl
-some? (x ∷ bytes) = inl (omega arith)
 
 calm_since : (a b c : ℕ) → a ≤ b → IsCalm a c → IsCalm b c
 calm_since a b c le calm risen = calm (λ few. let r : b < c = risen few in omega (arith, r))
 
-module _ (d : Descriptor) (random : List ℕ) (turns : ℕ) (disk disk' : DiskState) (seen seen' : LinkState) (book : LookUp) (new : State) (s : IsSeeded d random turns disk disk' seen seen' book new) (valid : IsDescriptor d) where
+module _ (d : Descriptor) (random : List ℕ) (turns : ℕ) (disk disk' : DiskState) (seen seen' : LinkState) (book : LookUp) (new : State) (s : IsSeeded d random turns disk disk' seen seen' book new) where
   ready : IsReady d random disk s.opened book s.first 65536
   ready = s.ready
 
-  abbrev turned : TakesTurns turns s.opened disk' s.listens seen' s.first new
+  abbrev turned : TakesTurns book turns s.opened disk' s.listens seen' s.first new
   turned = s.turned
 
   d_is : s.first.descriptor ≡ d
@@ -78,13 +73,13 @@ module _ (d : Descriptor) (random : List ℕ) (turns : ℕ) (disk disk' : DiskSt
   known_then = known_on disk s.opened ready.tells ready.honest
 
   stands : StandsFor book (moment_of s.opened.history) new turned.added
-  stands = turned.stands book (moment_of s.opened.history) (omega arith) ready.stands
+  stands = turned.stands (moment_of s.opened.history) (omega arith) ready.stands
 
   new_d : new.descriptor ≡ d
   new_d = turned.descriptor ∙ d_is
 
   whole : IsWhole s.first.counts
-  whole = subst (λ (x : State). IsWhole x.counts) (sym ready.begun) (record { unheld = refl; damaged = refl; read_faults = refl; send_faults = refl })
+  whole = subst (λ (x : State). IsWhole x.counts) (sym ready.begun) (record { full = refl; damaged = refl; read_faults = refl; send_faults = refl })
 
   pub records_gained : GainsRecords seen.traffic turned.added seen'.traffic
   records_gained = subst (λ (o : Option (List Record)). GainsRecords o turned.added seen'.traffic) s.unsent.traffic turned.gained
@@ -97,8 +92,8 @@ module _ (d : Descriptor) (random : List ℕ) (turns : ℕ) (disk disk' : DiskSt
     held = lasts known;
     announced = subst (λ (h : History). EachAnnounced d (StandsSince d h) turned.added) (sym same)
         (announced_kept d s.opened.history s.first.committed turned.added (ready.kept known)
-        (subst (λ (x : List Bool). EachAnnounced d (λ moment i. (i ≡ 0) × (slice_index_or x 0 false ≡ true) × (moment_of s.opened.history ≤ moment)) turned.added) turned.committed
-        (subst (λ (x : Descriptor). EachAnnounced x (λ moment i. (i ≡ 0) × (holds_first new ≡ true) × (moment_of s.opened.history ≤ moment)) turned.added) new_d stands.announced)));
+        (subst (λ (x : List Bool). EachAnnounced d (λ moment i. (slice_index_or x i false ≡ true) × (moment_of s.opened.history ≤ moment)) turned.added) turned.committed
+        (subst (λ (x : Descriptor). EachAnnounced x (λ moment i. (slice_index_or new.committed i false ≡ true) × (moment_of s.opened.history ≤ moment)) turned.added) new_d stands.announced)));
   }
 
   found_is : s.opened.history.found ≡ disk'.history.found
@@ -107,31 +102,21 @@ module _ (d : Descriptor) (random : List ℕ) (turns : ℕ) (disk disk' : DiskSt
   link_calm : IsCalm seen.faults seen'.faults → IsCalm s.listens.faults seen'.faults
   link_calm calm = calm_since seen.faults s.listens.faults seen'.faults s.unsent.later calm
 
-  -- what was held at the attachment is held since
-  still_held : IsKnown disk → holds d s.opened.history.found 0 ≡ true → holds d s.opened.history.reads 0 ≡ true
-  still_held known found = ⊎_elim
-      (λ some. subst (λ (bytes : List ℕ). holds d bytes 0 ≡ true) (sym (ready.still known some)) found)
-      (λ none. absurd (false≢true (sym (empty_none d 0 (some_bytes d 0 valid (omega (arith, ready.stands.one_chunk, ap chunks_of d_is)))) ∙ subst (λ (bytes : List ℕ). holds d bytes 0 ≡ true) none found)))
-      (some? s.opened.history.found)
+  smooth : IsSmoothRun disk disk' seen seen' → IsSmooth s.first.descriptor s.first.committed book s.opened disk' s.listens seen'
+  smooth calm = record {
+    link = link_calm calm.link;
+    reads = calm_since disk.faults s.opened.faults disk'.faults ready.later calm.disk_calm;
+    known = known_then calm.known;
+    there = λ i e. subst (λ (x : Descriptor). is_there x s.opened.history.reads book i ≡ true) (sym d_is) (ready.there calm.known i e);
+  }
 
-  smooth : IsSmoothRun d disk disk' seen seen' → IsSmooth s.first.descriptor (holds_first s.first) s.opened disk' s.listens seen'
-  smooth calm =
-      let found : holds d s.opened.history.found 0 ≡ true = subst (λ (bytes : List ℕ). holds d bytes 0 ≡ true) (sym found_is) calm.holding in
-      record {
-        link = link_calm calm.link;
-        reads = calm_since disk.faults s.opened.faults disk'.faults ready.later calm.disk_calm;
-        known = known_then calm.known;
-        holding = subst (λ (x : Descriptor). holds x s.opened.history.reads 0 ≡ true) (sym d_is) (still_held calm.known found);
-        committed = ready.held calm.known 0 (omega (arith, ready.stands.one_chunk, ap chunks_of d_is)) ∙ found;
-      }
-
-  pub took_turns : TookTurns d turns turned.added new.committed new.counts disk disk' seen seen'
+  pub took_turns : TookTurns d book turns turned.added new.committed new.counts disk disk' seen seen'
   took_turns = record {
     size = ap (λ (x : List Bool). length x) turned.committed ∙ ready.size;
     held = λ known i within. ap (λ (x : List Bool). slice_index_or x i false) turned.committed ∙ ready.held known i within ∙ ap (λ (bytes : List ℕ). holds d bytes i) found_is;
     begins = λ known. subst (IsOf d) found_is (ready.begins known);
-    ours = subst (λ (x : Descriptor). AllByRecursion (IsOurs x (slice_index_or new.committed 0 false)) turned.added) d_is
-        (subst (λ (x : List Bool). AllByRecursion (IsOurs s.first.descriptor (slice_index_or x 0 false)) turned.added) (sym turned.committed) turned.ours);
+    ours = subst (λ (x : Descriptor). AllByRecursion (IsOurs x new.committed book) turned.added) d_is
+        (subst (λ (x : List Bool). AllByRecursion (IsOurs s.first.descriptor x book) turned.added) (sym turned.committed) turned.ours);
     refusals = turned.refusals;
     each = turned.all;
     refused = ⊎_elim (λ none. inl none) (λ risen. inr (risen_less seen.faults s.listens.faults seen'.faults s.unsent.later risen)) turned.refused;
@@ -140,20 +125,21 @@ module _ (d : Descriptor) (random : List ℕ) (turns : ℕ) (disk disk' : DiskSt
     turns_counted = turned.turns 0 (ap (λ (x : State). x.counts.turns) ready.begun) ∙ omega arith;
     receive_faults = turned.receive_faults 0 (ap (λ (x : State). x.counts.receive_faults) ready.begun) ∙ omega arith;
     lets = λ calm. subst (λ (x : Descriptor). AtEndsBut 0 (LetsInFirst x) turned.added) d_is
-        (turned.lets (link_calm calm) book (moment_of s.opened.history) (omega arith) ready.stands);
-    asked = λ calm. subst (λ (x : Descriptor). AtEndsBut 0 (ServesAsked x fewer_than_two 0) turned.added) d_is
-        (turned.serves (smooth calm) book (moment_of s.opened.history) (omega arith) ready.stands whole);
+        (turned.lets (link_calm calm) (moment_of s.opened.history) (omega arith) ready.stands);
+    asked = λ calm none. subst (λ (x : Descriptor). AtEndsBut 0 (ServesHeld x new.committed) turned.added) d_is
+        (subst (λ (set : List Bool). AtEndsBut 0 (ServesHeld s.first.descriptor set) turned.added) (sym turned.committed)
+        (turned.serves (smooth calm) none (moment_of s.opened.history) (omega arith) ready.stands whole));
   }
 
 module _ (d : Descriptor) (random : List ℕ) (turns : ℕ) (sink sink' : SinkState) (disk disk' : DiskState) (seen seen' : LinkState) (book : LookUp) (lasts : IsKnown disk → Lasts d disk'.history) where
   -- of a peer that took its turns
-  promised : (status : Status) (valid : IsDescriptor d) (new : State) (s : IsSeeded d random turns disk disk' seen seen' book new)
-      → HasTurned status d turns s.turned.added sink sink' disk disk' seen seen' → SeedPromises status d turns sink sink' disk disk' seen seen' book
-  promised status valid new s turned = record {
+  promised : (status : Status) (new : State) (s : IsSeeded d random turns disk disk' seen seen' book new)
+      → HasTurned status d book turns s.turned.added sink sink' disk disk' seen seen' → SeedPromises status d turns sink sink' disk disk' seen seen' book
+  promised status new s turned = record {
     added = s.turned.added;
-    gained = records_gained d random turns disk disk' seen seen' book new s valid;
-    serves = all_served d random turns disk disk' seen seen' book new s valid;
-    keeps = all_kept d random turns disk disk' seen seen' book new s valid lasts;
+    gained = records_gained d random turns disk disk' seen seen' book new s;
+    serves = all_served d random turns disk disk' seen seen' book new s;
+    keeps = all_kept d random turns disk disk' seen seen' book new s lasts;
     turned = turned;
   }
 
@@ -161,7 +147,7 @@ module _ (d : Descriptor) (random : List ℕ) (turns : ℕ) (sink sink' : SinkSt
   said x status is promises = subst (λ (y : Status). SeedPromises y d turns sink sink' disk disk' seen seen' book) (sym is) promises
 
   -- of one that took none
-  silent : (status : Status) → IsUnsent seen seen' → HasTurned status d turns [] sink sink' disk disk' seen seen' → SeedPromises status d turns sink sink' disk disk' seen seen' book
+  silent : (status : Status) → IsUnsent seen seen' → HasTurned status d book turns [] sink sink' disk disk' seen seen' → SeedPromises status d turns sink sink' disk disk' seen seen' book
   silent status unsent turned = record {
     added = [];
     gained = gains_nothing seen.traffic seen'.traffic unsent.traffic;
@@ -170,25 +156,25 @@ module _ (d : Descriptor) (random : List ℕ) (turns : ℕ) (sink sink' : SinkSt
     turned = turned;
   }
 
-  pub turned_promises : (status : Status) (half : DiskState) (seen1 : LinkState) (s : State) (room : ℕ) → IsDescriptor d → IsReady d random disk half book s room → IsUnsent seen seen1
-      → Serves status turns s sink sink' half disk' seen1 seen' → SeedPromises status d turns sink sink' disk disk' seen seen' book
-  turned_promises status half seen1 s room valid ready unsent served =
-      of_it status valid (seeds_ready d random turns sink sink' disk half disk' seen seen1 seen' book status s room ready unsent served) served
+  pub turned_promises : (status : Status) (half : DiskState) (seen1 : LinkState) (s : State) (room : ℕ) → IsReady d random disk half book s room → IsUnsent seen seen1
+      → Serves status book turns s sink sink' half disk' seen1 seen' → SeedPromises status d turns sink sink' disk disk' seen seen' book
+  turned_promises status half seen1 s room ready unsent served =
+      of_it status (seeds_ready d random turns sink sink' disk half disk' seen seen1 seen' book status s room ready unsent served) served
     where
-      of_it : (x : Status) → IsDescriptor d → SeedsIn x d random turns sink sink' disk disk' seen seen' book → Serves x turns s sink sink' half disk' seen1 seen'
+      of_it : (x : Status) → SeedsIn x d random turns sink sink' disk disk' seen seen' book → Serves x book turns s sink sink' half disk' seen1 seen'
           → SeedPromises x d turns sink sink' disk disk' seen seen' book
-      of_it Done sound e r = promised Done sound e.peer e.seeded (e.peer.committed, e.peer.counts, took_turns d random turns disk disk' seen seen' book e.peer e.seeded sound, e.said)
-      of_it SinkFault sound e r = promised SinkFault sound e.peer e.seeded (e.peer.committed, e.peer.counts, took_turns d random turns disk disk' seen seen' book e.peer e.seeded sound)
-      of_it Usage sound e r = absurd r
-      of_it NotAStore sound e r = absurd r
-      of_it Incomplete sound e r = absurd r
-      of_it DiskFault sound e r = absurd r
-      of_it LinkFault sound e r = absurd r
-      of_it SourceFault sound e r = absurd r
-      of_it NotEmpty sound e r = absurd r
-      of_it ContentSize sound e r = absurd r
-      of_it Memory sound e r = absurd r
-      of_it Damaged sound e r = absurd r
+      of_it Done e r = promised Done e.peer e.seeded (e.peer.committed, e.peer.counts, took_turns d random turns disk disk' seen seen' book e.peer e.seeded, e.said)
+      of_it SinkFault e r = promised SinkFault e.peer e.seeded (e.peer.committed, e.peer.counts, took_turns d random turns disk disk' seen seen' book e.peer e.seeded)
+      of_it Usage e r = absurd r
+      of_it NotAStore e r = absurd r
+      of_it Incomplete e r = absurd r
+      of_it DiskFault e r = absurd r
+      of_it LinkFault e r = absurd r
+      of_it SourceFault e r = absurd r
+      of_it NotEmpty e r = absurd r
+      of_it ContentSize e r = absurd r
+      of_it Memory e r = absurd r
+      of_it Damaged e r = absurd r
 
   pub fault_promises : (status : Status) (f : SeedFault) → IsUnsent seen seen' → ReportsSeed f status sink sink' → SeedPromises status d turns sink sink' disk disk' seen seen' book
   fault_promises status (fault.NotAStore at found want) unsent reported = said NotAStore status reported.0 (silent NotAStore unsent (refl, unsent.nexts))

@@ -55,6 +55,7 @@ module _ (d : Descriptor) (random : List ℕ) (old mid new : DiskState) (seen se
     begun = r.begun;
     size = r.size;
     stands = r.stands;
+    there = λ known. r.there (known_mid known);
     kept = λ known. r.kept (known_mid known);
     begins = λ known. r.begins (known_mid known);
     held = λ known. r.held (known_mid known);

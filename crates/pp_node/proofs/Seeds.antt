@@ -35,7 +35,7 @@ pub reports_seed : (f other : SeedFault) (status : Status) (old new : SinkState)
 reports_seed f other status old new is reported = subst (λ (x : SeedFault). ReportsSeed x status old new) (sym is) reported
 
 module _ (d : Descriptor) (random : List ℕ) (turns : ℕ) (sink sink' : SinkState) (disk half disk' : DiskState) (seen seen1 seen' : LinkState) (book : LookUp) where
-  pub seeds_ready : (status : Status) (s : State) (room : ℕ) → IsReady d random disk half book s room → IsUnsent seen seen1 → Serves status turns s sink sink' half disk' seen1 seen'
+  pub seeds_ready : (status : Status) (s : State) (room : ℕ) → IsReady d random disk half book s room → IsUnsent seen seen1 → Serves status book turns s sink sink' half disk' seen1 seen'
       → SeedsIn status d random turns sink sink' disk disk' seen seen' book
   seeds_ready Done s room ready unsent served =
       record { peer = served.0; seeded = record { first = s; opened = half; listens = seen1; ready = subst (IsReady d random disk half book s) ready.buffer ready; unsent = unsent; turned = served.1 }; said = served.2 }

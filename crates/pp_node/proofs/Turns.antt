@@ -7,7 +7,6 @@ use Rattle.pp_terms.specs.Book.{LookUp}
 use Rattle.pp_terms.specs.Count.{HasRisen}
 use Rattle.pp_terms.specs.Descriptor.{Descriptor, chunks_of}
 use Rattle.pp_terms.specs.Disk.{DiskState, History, moment_of}
-use Rattle.pp_terms.specs.Image.{holds}
 use Rattle.pp_terms.specs.Traffic as traffic
 use Rattle.pp_terms.specs.Traffic.{LinkState, Record, Received, Sent, GainsRecords}
 use Rattle.pp_terms.proofs.Knowing.{known_on}
@@ -19,15 +18,18 @@ use Rattle.pp_outside.specs.Outside.{address_of, record_of, size_of, FitsIn}
 use Rattle.pp_outside.specs.Arrivals.{IsEvent}
 use Rattle.pp_outside.specs.declared.link.Event.{Event}
 use Rattle.pp_outside.specs.declared.link.Event.TheVariants.{Datagram, Quiet}
+use Rattle.pp_tree.specs.Book.{BookState, entry}
+use Rattle.pp_scan.specs.Holding.{is_there}
 use Rattle.pp_core.specs.Events.{after_event}
 use Rattle.pp_core.specs.Sends.{IsOurs, replies_on, OwesNone, Sends}
-use Rattle.pp_core.specs.Serving.{ReadsAlone}
-use Rattle.pp_core.specs.Standing.{State, IsWhole, holds_first, capped, StandsFor}
-use Rattle.pp_core.proofs.Counted.{CountsTurn, event_counted, event_refusals, refusal_counted, sent_turns, sent_refusals, sent_whole}
+use Rattle.pp_core.specs.Serving.{HasPaths, ReadsAlone}
+use Rattle.pp_core.specs.Standing.{State, IsWhole, capped, StandsFor}
+use Rattle.pp_core.proofs.Counted.{CountsTurn, event_counted, event_refusals, refusal_counted, sent_turns, sent_refusals, sent_full, sent_whole}
 use Rattle.pp_core.proofs.Prompts.{lets_event, serves_turn}
-use Rattle.pp_core.proofs.Relations.{gains_twice, gains_nothing, all_both}
+use Rattle.pp_core.proofs.Relations.{gains_twice, gains_nothing, all_both, reads_twice}
+use Rattle.pp_core.proofs.Servings.{reads_nothing}
 use Rattle.pp_core.proofs.Turning.{stands_event, stands_refused}
-use Rattle.pp_node.specs.Turning.{Flushes, Waits, took, missed, TakesTurn, waits, IsCalm, IsSmooth, TakesTurns}
+use Rattle.pp_node.specs.Turning.{Flushes, Waits, took, missed, TakesTurn, waits, IsCalm, IsSmooth, ServesHeld, TakesTurns}
 
 -- ---- the event in the buffer
 
@@ -87,7 +89,7 @@ record Took (seen mid : LinkState) (s taken : State) : Type 1 where
   refused : (refusals ≡ 0) ⊎ HasRisen seen.faults mid.faults
   descriptor : taken.descriptor ≡ s.descriptor
   committed : taken.committed ≡ s.committed
-  ours : (d : Descriptor) (held : Bool) → AllByRecursion (IsOurs d held) came
+  ours : (d : Descriptor) (held : List Bool) (book : LookUp) → AllByRecursion (IsOurs d held book) came
   counted : CountsTurn s.counts taken.counts
   receive_faults : (before : ℕ) → s.counts.receive_faults ≡ capped before → taken.counts.receive_faults ≡ capped (before + refusals)
   stands : (book : LookUp) (since : ℕ) (past : List Record) → StandsFor book since s past → StandsFor book since taken (came ++ past)
@@ -108,9 +110,9 @@ event_waits : (event : Event) (bytes : List ℕ) (past : List Record) → waits 
 event_waits (Datagram sender len at) bytes past = omega arith
 event_waits (Quiet at) bytes past = omega arith
 
-event_ours : (d : Descriptor) (held : Bool) (event : Event) (bytes : List ℕ) → IsOurs d held (record_of event bytes)
-event_ours d held (Datagram sender len at) bytes = tt
-event_ours d held (Quiet at) bytes = tt
+event_ours : (d : Descriptor) (held : List Bool) (book : LookUp) (event : Event) (bytes : List ℕ) → IsOurs d held book (record_of event bytes)
+event_ours d held book (Datagram sender len at) bytes = tt
+event_ours d held book (Quiet at) bytes = tt
 
 took_wait : (seen mid : LinkState) (s taken : State) → Waits seen mid s taken → Took seen mid s taken
 took_wait seen mid s taken (took event bytes is gained now_is) =
@@ -122,7 +124,7 @@ took_wait seen mid s taken (took event bytes is gained now_is) =
       refused = inl refl;
       descriptor = event_descriptor s event bytes;
       committed = event_committed s event bytes;
-      ours = λ d held. (event_ours d held event bytes, tt);
+      ours = λ d held book. (event_ours d held book event bytes, tt);
       counted = event_counted s event bytes;
       receive_faults = λ before e. let same = event_refusals s event bytes in omega (arith, same, e);
       stands = λ book since past st. stands_event book since s event bytes past is st;
@@ -138,7 +140,7 @@ took_wait seen mid s taken (missed same risen now_is) =
       refused = inr risen;
       descriptor = refl;
       committed = refl;
-      ours = λ d held. tt;
+      ours = λ d held book. tt;
       counted = refusal_counted s;
       receive_faults = λ before e. omega (arith, e);
       stands = λ book since past st. stands_refused book since s past st;
@@ -148,14 +150,14 @@ took_wait seen mid s taken (missed same risen now_is) =
 
 -- ---- one turn more
 
-pub turns_none : (disk : DiskState) (seen : LinkState) (s : State) → TakesTurns 0 disk disk seen seen s s
-turns_none disk seen s = record {
+pub turns_none : (book : LookUp) (disk : DiskState) (seen : LinkState) (s : State) → TakesTurns book 0 disk disk seen seen s s
+turns_none book disk seen s = record {
   added = [];
   gained = gains_nothing seen.traffic seen.traffic refl;
   nexts = λ some. absurd (omega (arith, some));
   unmoved = λ e. refl;
   later = omega arith;
-  reads = record { tells = refl; honest = refl; same = refl; hard = refl; later = omega arith };
+  reads = reads_nothing disk;
   descriptor = refl;
   committed = refl;
   ours = tt;
@@ -164,10 +166,11 @@ turns_none disk seen s = record {
   refused = inl refl;
   turns = λ before e. omega (arith, e);
   receive_faults = λ before e. omega (arith, e);
-  stands = λ book since le st. st;
-  whole = λ smooth book since le st w. w;
-  lets = λ calm book since le st. inl (λ after r before is. absurd (no_split after r before is), tt);
-  serves = λ smooth book since le st w. inl (λ life plain heard asks. absurd (let never : false ≡ true = heard in cc), tt);
+  full = λ e. e;
+  stands = λ since le st. st;
+  whole = λ smooth none w. w;
+  lets = λ calm since le st. inl (λ after r before is. absurd (no_split after r before is), tt);
+  serves = λ smooth none since le st w. inl (λ i within held life plain heard asks. absurd (let never : false ≡ true = heard in cc), tt);
 }
   where
     no_split : (after : List Record) (r : Record) (before : List Record) → [] ≡ after ++ r ∷ before → ⊥
@@ -178,24 +181,21 @@ next_step : (n a b c : ℕ) → (0 < n → b ≡ capped (a + n)) → (n ≡ 0 �
 next_step zero a b c more same e = let h = same refl in omega (arith, h, e)
 next_step (suc n) a b c more same e = let h = more (omega arith) in omega (arith, h, e)
 
-reads_twice : (a b c : DiskState) → ReadsAlone a b → ReadsAlone b c → ReadsAlone a c
-reads_twice a b c p q = record { tells = q.tells ∙ p.tells; honest = q.honest ∙ p.honest; same = q.same ∙ p.same; hard = q.hard ∙ p.hard; later = omega (arith, p.later, q.later) }
-
 refused_twice : (x y a b c : ℕ) → a ≤ b → b ≤ c → (x ≡ 0) ⊎ HasRisen a b → (y ≡ 0) ⊎ HasRisen b c → (x + y ≡ 0) ⊎ HasRisen a c
 refused_twice x y a b c le le' (inl e) (inl f) = inl (omega (arith, e, f))
 refused_twice x y a b c le le' (inl e) (inr g) = inr (risen_less a b c le g)
 refused_twice x y a b c le le' (inr f) g = inr (risen_more a b c le' f)
 
-ours_as : (d e : Descriptor) (set set' : List Bool) (xs : List Record) → e ≡ d → set' ≡ set → AllByRecursion (IsOurs e (slice_index_or set' 0 false)) xs → AllByRecursion (IsOurs d (slice_index_or set 0 false)) xs
-ours_as d e set set' xs is same all =
-    subst (λ (x : Descriptor). AllByRecursion (IsOurs x (slice_index_or set 0 false)) xs) is
-    (subst (λ (x : List Bool). AllByRecursion (IsOurs e (slice_index_or x 0 false)) xs) same all)
+ours_as : (d e : Descriptor) (set set' : List Bool) (book : LookUp) (xs : List Record) → e ≡ d → set' ≡ set → AllByRecursion (IsOurs e set' book) xs → AllByRecursion (IsOurs d set book) xs
+ours_as d e set set' book xs is same all =
+    subst (λ (x : Descriptor). AllByRecursion (IsOurs x set book) xs) is
+    (subst (λ (x : List Bool). AllByRecursion (IsOurs e x book) xs) same all)
 
-module _ (n : ℕ) (disk half disk' : DiskState) (seen seen1 seen' : LinkState) (s t u : State) (q : TakesTurns n disk half seen seen1 s t) (p : TakesTurn half disk' seen1 seen' t u) where
+module _ (book : LookUp) (n : ℕ) (disk half disk' : DiskState) (seen seen1 seen' : LinkState) (s t u : State) (q : TakesTurns book n disk half seen seen1 s t) (p : TakesTurn book half disk' seen1 seen' t u) where
   abbrev w : Took seen1 p.mid t p.taken
   w = took_wait seen1 p.mid t p.taken p.waited
 
-  abbrev sends : Sends (moment_of half.history) p.mid seen' p.taken u
+  abbrev sends : Sends book (moment_of half.history) p.mid seen' p.taken u
   sends = p.flushed.sends
 
   abbrev all_added : List Record
@@ -207,12 +207,12 @@ module _ (n : ℕ) (disk half disk' : DiskState) (seen seen1 seen' : LinkState) 
   taken_committed : p.taken.committed ≡ s.committed
   taken_committed = w.committed ∙ q.committed
 
-  stands_then : (book : LookUp) (since : ℕ) → since ≤ moment_of disk.history → StandsFor book since s [] → StandsFor book since p.taken (w.came ++ q.added)
-  stands_then book since le st = w.stands book since q.added (q.stands book since le st)
+  stands_then : (since : ℕ) → since ≤ moment_of disk.history → StandsFor book since s [] → StandsFor book since p.taken (w.came ++ q.added)
+  stands_then since le st = w.stands book since q.added (q.stands since le st)
 
-  stands_now : (book : LookUp) (since : ℕ) → since ≤ moment_of disk.history → StandsFor book since s [] → StandsFor book since u all_added
-  stands_now book since le st =
-      sends.stands book since (w.came ++ q.added) (subst (λ (h : History). since ≤ moment_of h) (sym q.reads.same) le) (stands_then book since le st)
+  stands_now : (since : ℕ) → since ≤ moment_of disk.history → StandsFor book since s [] → StandsFor book since u all_added
+  stands_now since le st =
+      sends.stands since (w.came ++ q.added) (subst (λ (h : History). since ≤ moment_of h) (sym q.reads.same) le) (stands_then since le st)
 
   calm_before : IsCalm seen.faults seen'.faults → IsCalm seen.faults seen1.faults
   calm_before calm risen = calm (risen_more seen.faults seen1.faults seen'.faults (omega (arith, p.later, sends.later)) risen)
@@ -223,47 +223,68 @@ module _ (n : ℕ) (disk half disk' : DiskState) (seen seen1 seen' : LinkState) 
   calm_send : IsCalm seen.faults seen'.faults → IsCalm p.mid.faults seen'.faults
   calm_send calm risen = calm (risen_less seen.faults p.mid.faults seen'.faults (omega (arith, q.later, p.later)) risen)
 
-  smooth_before : IsSmooth s.descriptor (holds_first s) disk disk' seen seen' → IsSmooth s.descriptor (holds_first s) disk half seen seen1
+  smooth_before : IsSmooth s.descriptor s.committed book disk disk' seen seen' → IsSmooth s.descriptor s.committed book disk half seen seen1
   smooth_before smooth = record {
     link = calm_before smooth.link;
     reads = λ risen. smooth.reads (risen_more disk.faults half.faults disk'.faults p.flushed.reads.later risen);
     known = smooth.known;
-    holding = smooth.holding;
-    committed = smooth.committed;
+    there = smooth.there;
   }
 
-  whole_now : IsSmooth s.descriptor (holds_first s) disk disk' seen seen' → (book : LookUp) (since : ℕ) → since ≤ moment_of disk.history → StandsFor book since s [] → IsWhole s.counts → IsWhole u.counts
-  whole_now smooth book since le st whole =
-      sent_whole p.taken.descriptor (holds_first p.taken) half disk' p.mid seen' p.taken.counts u.counts p.flushed.causes (calm_send smooth.link)
+  -- no list ran over before
+  full_taken : u.counts.full ≡ 0 → p.taken.counts.full ≡ 0
+  full_taken none = sym (sent_full p.taken.descriptor p.taken.committed book half disk' p.mid seen' p.taken.counts u.counts p.flushed.causes) ∙ none
+
+  full_before : u.counts.full ≡ 0 → t.counts.full ≡ 0
+  full_before none = w.counted.full (full_taken none)
+
+  whole_now : IsSmooth s.descriptor s.committed book disk disk' seen seen' → u.counts.full ≡ 0 → IsWhole s.counts → IsWhole u.counts
+  whole_now smooth none whole =
+      sent_whole p.taken.descriptor p.taken.committed book half disk' p.mid seen' p.taken.counts u.counts p.flushed.causes (calm_send smooth.link)
       (λ risen. smooth.reads (risen_less disk.faults half.faults disk'.faults q.reads.later risen))
       (known_on disk half q.reads.tells q.reads.honest smooth.known)
-      (subst (λ (d : Descriptor). chunks_of d ≡ 1) (sym taken_descriptor) st.one_chunk)
-      (subst (λ (d : Descriptor). holds d half.history.reads 0 ≡ true) (sym taken_descriptor)
-      (subst (λ (h : History). holds s.descriptor h.reads 0 ≡ true) (sym q.reads.same) smooth.holding))
-      (subst (λ (set : List Bool). slice_index_or set 0 false ≡ true) (sym taken_committed) smooth.committed)
-      (w.counted.whole (q.whole (smooth_before smooth) book since le st whole))
+      (λ i e. subst (λ (d : Descriptor). is_there d half.history.reads book i ≡ true) (sym taken_descriptor)
+      (subst (λ (h : History). is_there s.descriptor h.reads book i ≡ true) (sym q.reads.same)
+      (smooth.there i (subst (λ (set : List Bool). slice_index_or set i false ≡ true) taken_committed e))))
+      (w.counted.whole (full_taken none) (q.whole (smooth_before smooth) (full_before none) whole))
 
-  lets_now : IsCalm seen.faults seen'.faults → (book : LookUp) (since : ℕ) → since ≤ moment_of disk.history → StandsFor book since s [] → AtEndsBut 0 (LetsInFirst s.descriptor) all_added
-  lets_now calm book since le st =
-      let before = ends_none (LetsInFirst s.descriptor) q.added (q.lets (calm_before calm) book since le st) in
+  lets_now : IsCalm seen.faults seen'.faults → (since : ℕ) → since ≤ moment_of disk.history → StandsFor book since s [] → AtEndsBut 0 (LetsInFirst s.descriptor) all_added
+  lets_now calm since le st =
+      let before = ends_none (LetsInFirst s.descriptor) q.added (q.lets (calm_before calm) since le st) in
       let done : OwesNone u = ⊎_elim (λ none. none) (λ risen. absurd (calm_send calm risen)) p.flushed.replied in
-      let here = w.lets (calm_wait calm) book since q.added sends.added (q.stands book since le st) (subst (λ (d : Descriptor). LetsInFirst d q.added) (sym q.descriptor) before.0) sends.all_sent (sends.answered done) in
+      let here = w.lets (calm_wait calm) book since q.added sends.added (q.stands since le st) (subst (λ (d : Descriptor). LetsInFirst d q.added) (sym q.descriptor) before.0) sends.all_sent (sends.answered done) in
       inl (
         subst (λ (d : Descriptor). LetsInFirst d all_added) q.descriptor here,
         ends_sent (LetsInFirst s.descriptor) sends.added (w.came ++ q.added) sends.all_sent (w.ends (LetsInFirst s.descriptor) q.added (calm_wait calm) before.0 before.1),
       )
 
-  serves_now : IsSmooth s.descriptor (holds_first s) disk disk' seen seen' → (book : LookUp) (since : ℕ) → since ≤ moment_of disk.history → StandsFor book since s [] → IsWhole s.counts
-      → AtEndsBut 0 (ServesAsked s.descriptor fewer_than_two 0) all_added
-  serves_now smooth book since le st whole =
-      let before = ends_none (ServesAsked s.descriptor fewer_than_two 0) q.added (q.serves (smooth_before smooth) book since le st whole) in
-      let here = serves_turn book since u all_added (stands_now book since le st) (whole_now smooth book since le st whole) p.flushed.served in
+  descriptor_now : u.descriptor ≡ s.descriptor
+  descriptor_now = sends.core.descriptor ∙ taken_descriptor
+
+  committed_now : u.committed ≡ s.committed
+  committed_now = sends.core.committed ∙ taken_committed
+
+  serves_here : IsSmooth s.descriptor s.committed book disk disk' seen seen' → u.counts.full ≡ 0 → (since : ℕ) → since ≤ moment_of disk.history → StandsFor book since s [] → IsWhole s.counts
+      → ServesHeld s.descriptor s.committed all_added
+  serves_here smooth none since le st whole i within held =
+      subst (λ (d : Descriptor). ServesAsked d fewer_than_two i all_added) descriptor_now
+      (serves_turn book since u i all_added (stands_now since le st)
+      (record {
+        within = subst (λ (d : Descriptor). i < chunks_of d) (sym descriptor_now) within;
+        committed = subst (λ (set : List Bool). slice_index_or set i false ≡ true) (sym committed_now) held;
+        whole = whole_now smooth none whole;
+      }) p.flushed.served)
+
+  serves_now : IsSmooth s.descriptor s.committed book disk disk' seen seen' → u.counts.full ≡ 0 → (since : ℕ) → since ≤ moment_of disk.history → StandsFor book since s [] → IsWhole s.counts
+      → AtEndsBut 0 (ServesHeld s.descriptor s.committed) all_added
+  serves_now smooth none since le st whole =
+      let before = ends_none (ServesHeld s.descriptor s.committed) q.added (q.serves (smooth_before smooth) (full_before none) since le st whole) in
       inl (
-        subst (λ (d : Descriptor). ServesAsked d fewer_than_two 0 all_added) (sends.core.descriptor ∙ taken_descriptor) here,
-        ends_sent (ServesAsked s.descriptor fewer_than_two 0) sends.added (w.came ++ q.added) sends.all_sent (w.ends (ServesAsked s.descriptor fewer_than_two 0) q.added (calm_wait smooth.link) before.0 before.1),
+        serves_here smooth none since le st whole,
+        ends_sent (ServesHeld s.descriptor s.committed) sends.added (w.came ++ q.added) sends.all_sent (w.ends (ServesHeld s.descriptor s.committed) q.added (calm_wait smooth.link) before.0 before.1),
       )
 
-  pub turns_more : TakesTurns (n + 1) disk disk' seen seen' s u
+  pub turns_more : TakesTurns book (n + 1) disk disk' seen seen' s u
   turns_more = record {
     added = all_added;
     gained = gains_twice seen.traffic p.mid.traffic seen'.traffic (w.came ++ q.added) sends.added (gains_twice seen.traffic seen1.traffic p.mid.traffic q.added w.came q.gained w.gained) sends.gained;
@@ -271,57 +292,74 @@ module _ (n : ℕ) (disk half disk' : DiskState) (seen seen1 seen' : LinkState) 
     unmoved = λ none. absurd (omega (arith, none));
     later = omega (arith, q.later, p.later, sends.later);
     reads = reads_twice disk half disk' q.reads p.flushed.reads;
-    descriptor = sends.core.descriptor ∙ taken_descriptor;
-    committed = sends.core.committed ∙ taken_committed;
-    ours = all_both (IsOurs s.descriptor (holds_first s)) sends.added (w.came ++ q.added) (ours_as s.descriptor p.taken.descriptor s.committed p.taken.committed sends.added taken_descriptor taken_committed sends.shaped)
-        (all_both (IsOurs s.descriptor (holds_first s)) w.came q.added (w.ours s.descriptor (holds_first s)) q.ours);
+    descriptor = descriptor_now;
+    committed = committed_now;
+    ours = all_both (IsOurs s.descriptor s.committed book) sends.added (w.came ++ q.added) (ours_as s.descriptor p.taken.descriptor s.committed p.taken.committed book sends.added taken_descriptor taken_committed sends.shaped)
+        (all_both (IsOurs s.descriptor s.committed book) w.came q.added (w.ours s.descriptor s.committed book) q.ours);
     refusals = q.refusals + w.refusals;
     all = let sent = waits_sent sends.added (w.came ++ q.added) sends.all_sent in let came = w.all q.added in omega (arith, sent, came, q.all);
     refused = refused_twice q.refusals w.refusals seen.faults seen1.faults seen'.faults q.later (omega (arith, p.later, sends.later)) q.refused
         (⊎_elim (λ e. inl e) (λ risen. inr (risen_more seen1.faults p.mid.faults seen'.faults sends.later risen)) w.refused);
     turns = λ before e.
-        let h1 = sent_turns p.taken.descriptor (holds_first p.taken) half disk' p.mid seen' p.taken.counts u.counts p.flushed.causes in
+        let h1 = sent_turns p.taken.descriptor p.taken.committed book half disk' p.mid seen' p.taken.counts u.counts p.flushed.causes in
         let h2 = w.counted.turns in
         let h3 = q.turns before e in
         omega (arith, h1, h2, h3);
     receive_faults = λ before e.
-        let h1 = sent_refusals p.taken.descriptor (holds_first p.taken) half disk' p.mid seen' p.taken.counts u.counts p.flushed.causes in
+        let h1 = sent_refusals p.taken.descriptor p.taken.committed book half disk' p.mid seen' p.taken.counts u.counts p.flushed.causes in
         let h2 = w.receive_faults (before + q.refusals) (q.receive_faults before e) in
         omega (arith, h1, h2);
+    full = λ none. q.full (full_before none);
     stands = stands_now;
     whole = whole_now;
     lets = lets_now;
     serves = serves_now;
   }
 
-pub turn_of : (disk half disk' : DiskState) (seen mid seen' : LinkState) (s taken new : State) → half ≡ disk → Waits seen mid s taken → mid.nexts ≡ capped (seen.nexts + 1) → seen.faults ≤ mid.faults
-    → Flushes half disk' mid seen' taken new → TakesTurn disk disk' seen seen' s new
-turn_of disk half disk' seen mid seen' s taken new same waited nexts later flushed =
-    record { mid = mid; taken = taken; waited = waited; nexts = nexts; later = later; flushed = subst (λ (x : DiskState). Flushes x disk' mid seen' taken new) same flushed }
+pub turn_of : (book : LookUp) (disk half disk' : DiskState) (seen mid seen' : LinkState) (s taken new : State) → half ≡ disk → Waits seen mid s taken → mid.nexts ≡ capped (seen.nexts + 1) → seen.faults ≤ mid.faults
+    → Flushes book half disk' mid seen' taken new → TakesTurn book disk disk' seen seen' s new
+turn_of book disk half disk' seen mid seen' s taken new same waited nexts later flushed =
+    record { mid = mid; taken = taken; waited = waited; nexts = nexts; later = later; flushed = subst (λ (x : DiskState). Flushes book x disk' mid seen' taken new) same flushed }
 
 -- ---- the loop
 
 -- So many turns have been taken.
-pub record HasTaken {B : Type 0} (taken turns : ℕ) (disk disk' : DiskState) (seen seen' : LinkState) (s new : State) (book book' : B) (room : ℕ) : Type 0 where
+pub record HasTaken (taken turns : ℕ) (disk disk' : DiskState) (seen seen' : LinkState) (s new : State) (book book' : BookState) (room : ℕ) : Type 0 where
   pub within : taken ≤ turns
-  pub took : TakesTurns taken disk disk' seen seen' s new
+  pub took : TakesTurns (entry book) taken disk disk' seen seen' s new
   pub live : new.is_live ≡ true
   pub same : book' ≡ book
   pub buffer : room ≡ 65536
 
-pub taken_more : {B : Type 0} (taken turns : ℕ) (disk half disk' : DiskState) (seen seen1 seen' : LinkState) (s t u : State) (book book1 book' : B) (room room' : ℕ)
-    → HasTaken taken turns disk half seen seen1 s t book book1 room → taken < turns → TakesTurn half disk' seen1 seen' t u → u.is_live ≡ true → book' ≡ book1 → room' ≡ room
+-- the book still has what the peer needs
+pub paths_still : (taken turns : ℕ) (disk disk' : DiskState) (seen seen' : LinkState) (s new : State) (book book' : BookState) (room : ℕ) → HasTaken taken turns disk disk' seen seen' s new book book' room
+    → HasPaths s.descriptor s.committed (entry book) → HasPaths new.descriptor new.committed (entry book')
+paths_still taken turns disk disk' seen seen' s new book book' room h paths =
+    subst (λ (x : BookState). HasPaths new.descriptor new.committed (entry x)) (sym h.same)
+    (subst (λ (d : Descriptor). HasPaths d new.committed (entry book)) (sym h.took.descriptor)
+    (subst (λ (set : List Bool). HasPaths s.descriptor set (entry book)) (sym h.took.committed) paths))
+
+-- and after a wait
+pub paths_waited : (seen mid : LinkState) (s taken : State) (book book' : BookState) → Waits seen mid s taken → book' ≡ book → HasPaths s.descriptor s.committed (entry book) → HasPaths taken.descriptor taken.committed (entry book')
+paths_waited seen mid s taken book book' waited same paths =
+    let w = took_wait seen mid s taken waited in
+    subst (λ (x : BookState). HasPaths taken.descriptor taken.committed (entry x)) (sym same)
+    (subst (λ (d : Descriptor). HasPaths d taken.committed (entry book)) (sym w.descriptor)
+    (subst (λ (set : List Bool). HasPaths s.descriptor set (entry book)) (sym w.committed) paths))
+
+pub taken_more : (taken turns : ℕ) (disk half disk' : DiskState) (seen seen1 seen' : LinkState) (s t u : State) (book book1 book' : BookState) (room room' : ℕ)
+    → HasTaken taken turns disk half seen seen1 s t book book1 room → taken < turns → TakesTurn (entry book1) half disk' seen1 seen' t u → u.is_live ≡ true → book' ≡ book1 → room' ≡ room
     → HasTaken (taken + 1) turns disk disk' seen seen' s u book book' room'
 taken_more taken turns disk half disk' seen seen1 seen' s t u book book1 book' room room' before lt turn live same size = record {
   within = omega (arith, lt);
-  took = turns_more taken disk half disk' seen seen1 seen' s t u before.took turn;
+  took = turns_more (entry book) taken disk half disk' seen seen1 seen' s t u before.took (subst (λ (x : BookState). TakesTurn (entry x) half disk' seen1 seen' t u) before.same turn);
   live = live;
   same = same ∙ before.same;
   buffer = size ∙ before.buffer;
 }
 
-pub all_taken : {B : Type 0} (taken turns : ℕ) (disk disk' : DiskState) (seen seen' : LinkState) (s new : State) (book book' : B) (room : ℕ)
-    → HasTaken taken turns disk disk' seen seen' s new book book' room → turns ≤ taken → TakesTurns turns disk disk' seen seen' s new
+pub all_taken : (taken turns : ℕ) (disk disk' : DiskState) (seen seen' : LinkState) (s new : State) (book book' : BookState) (room : ℕ)
+    → HasTaken taken turns disk disk' seen seen' s new book book' room → turns ≤ taken → TakesTurns (entry book) turns disk disk' seen seen' s new
 all_taken taken turns disk disk' seen seen' s new book book' room h over =
     let is : taken ≡ turns = omega (arith, h.within, over) in
-    subst (λ (n : ℕ). TakesTurns n disk disk' seen seen' s new) is h.took
+    subst (λ (n : ℕ). TakesTurns (entry book) n disk disk' seen seen' s new) is h.took

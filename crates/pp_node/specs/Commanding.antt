@@ -1,14 +1,10 @@
 -- The commands that words may ask for, and how each of them ends.
-use Rattle.std.specs.Prelude.{◌≡◌, ◌⊎◌, ℕ, ◌+◌, List, length, decimal}
+use Rattle.std.specs.Prelude.{◌≡◌, ◌⊎◌, ℕ, List}
 use Rattle.pp_terms.specs.Book.{LookUp, IsRooted}
 use Rattle.pp_terms.specs.Commands.{Command, Import, Seed, Check, Export}
-use Rattle.pp_terms.specs.CommandLine.{IsSeed}
-use Rattle.pp_terms.specs.Descriptor.{Descriptor, chunks_of}
-use Rattle.pp_terms.specs.DescriptorFault as fault
 use Rattle.pp_terms.specs.Disk.{DiskState}
 use Rattle.pp_terms.specs.Stream.{SourceState, SinkState}
-use Rattle.pp_terms.specs.Traffic.{Address, LinkState}
-use Rattle.pp_terms.specs.Usage as wrong
+use Rattle.pp_terms.specs.Traffic.{LinkState}
 use Rattle.pp_node.specs.declared.status.Status.{Status}
 use Rattle.pp_node.specs.Checking.{ChecksIn}
 use Rattle.pp_node.specs.Exporting.{ExportsIn}
@@ -16,31 +12,6 @@ use Rattle.pp_node.specs.Looking.{IsUnwritten}
 use Rattle.pp_node.specs.Run.{EndsIn, IsImportRun}
 use Rattle.pp_node.specs.Seeding.{SeedsIn}
 use Rattle.pp_node.specs.Promising.{SeedPromises}
-
--- what is asked for is served: until whole trees are, `seed` serves contents of one chunk
-abbrev pub IsServed : Command → Type 0
-IsServed (Seed store descriptor listen turns) = chunks_of descriptor ≡ 1
-IsServed _ = Unit {0}
-
--- where the content size begins in a descriptor's text
-abbrev pub size_place : Descriptor → ℕ
-size_place d = 73 + length (decimal d.chunk)
-
--- the content size is what is wrong
-abbrev pub IsUnserved : Command → wrong.Usage → Type 0
-IsUnserved (Seed store descriptor listen turns) u =
-    (chunks_of descriptor ≡ 1 → ⊥) × (u ≡ wrong.usage 2 (wrong.Descriptor (fault.Size (size_place descriptor))))
-IsUnserved _ u = ⊥
-
--- The words ask to seed a content of more than one chunk: the content size is what is wrong.
-pub record IsTooLarge (words : List (List ℕ)) (u : wrong.Usage) : Type 0 where
-  pub store : List ℕ
-  pub descriptor : Descriptor
-  pub listen : Address
-  pub turns : ℕ
-  pub spelled : IsSeed words store descriptor listen turns
-  pub many : chunks_of descriptor ≡ 1 → ⊥
-  pub said : u ≡ wrong.usage 2 (wrong.Descriptor (fault.Size (size_place descriptor)))
 
 -- the commands that fill the book, and those that use the link
 abbrev pub FillsBook : Command → Type 0

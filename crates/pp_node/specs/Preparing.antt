@@ -1,5 +1,5 @@
 -- What is found and done before the first turn of a peer that seeds.
-use Rattle.std.specs.Prelude.{◌≡◌, ℕ, ◌<◌, ◌≤◌, false, List, [], length, slice_index_or, Result, Ok, Err}
+use Rattle.std.specs.Prelude.{◌≡◌, ℕ, ◌<◌, ◌≤◌, true, false, List, [], length, slice_index_or, Result, Ok, Err}
 use Rattle.pp_terms.specs.Book.{LookUp}
 use Rattle.pp_terms.specs.Count.{HasRisen}
 use Rattle.pp_terms.specs.Descriptor.{Descriptor, chunks_of}
@@ -7,6 +7,7 @@ use Rattle.pp_terms.specs.Disk.{DiskState, History, IsKnown, moment_of}
 use Rattle.pp_terms.specs.Image.{holds}
 use Rattle.pp_terms.specs.Traffic.{LinkState}
 use Rattle.pp_traffic.specs.Keeping.{StoodThroughout, StandsSince}
+use Rattle.pp_scan.specs.Holding.{is_there}
 use Rattle.pp_store.specs.Store.{AllStand}
 use Rattle.pp_store.specs.declared.findings.ProbeFault.{ProbeFault}
 use Rattle.pp_store.specs.declared.findings.ProbeFault.TheVariants as probes
@@ -39,11 +40,12 @@ pub record IsUnsent (seen seen' : LinkState) : Type 0 where
   pub later : seen.faults ≤ seen'.faults
 
 -- A peer has begun, over a store that was empty or the descriptor's when it was attached. It stands for no traffic yet, and
--- each chunk that it has stands in every image from now on.
+-- each chunk that it has is there, and stands in every image from now on.
 pub record IsReady (d : Descriptor) (random : List ℕ) (disk disk' : DiskState) (book : LookUp) (s : State) (room : ℕ) : Type 0 where
   pub begun : HasBegun d random s
   pub size : length s.committed ≡ chunks_of d
   pub stands : StandsFor book (moment_of disk'.history) s []
+  pub there : IsKnown disk → (i : ℕ) → slice_index_or s.committed i false ≡ true → is_there d disk'.history.reads book i ≡ true
   pub kept : IsKnown disk → AllStand d s.committed disk'.history
   pub begins : IsKnown disk → IsOf d disk'.history.found
   -- exactly the chunks are committed that were held at the attachment; a file that wasn't empty is read as it was

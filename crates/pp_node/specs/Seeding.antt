@@ -38,7 +38,7 @@ pub record IsSeeded (d : Descriptor) (random : List ℕ) (turns : ℕ) (disk dis
   pub listens : LinkState
   pub ready : IsReady d random disk opened book first 65536
   pub unsent : IsUnsent seen listens
-  pub turned : TakesTurns turns opened disk' listens seen' first new
+  pub turned : TakesTurns book turns opened disk' listens seen' first new
 
 -- Done: what the peer has, and what it counted, was printed.
 pub record IsDone (d : Descriptor) (random : List ℕ) (turns : ℕ) (sink sink' : SinkState) (disk disk' : DiskState) (seen seen' : LinkState) (book : LookUp) : Type 0 where
@@ -87,10 +87,10 @@ SeedsIn Memory d random turns sink sink' disk disk' seen seen' book = IsMemory d
 SeedsIn _ d random turns sink sink' disk disk' seen seen' book = ⊥
 
 -- The turns were taken, and it was reported or the sink refused.
-abbrev pub Serves : Status → ℕ → State → SinkState → SinkState → DiskState → DiskState → LinkState → LinkState → Type 0
-Serves Done turns s sink sink' disk disk' seen seen' = (new : State) × TakesTurns turns disk disk' seen seen' s new × SaysReport new.committed new.counts sink sink'
-Serves SinkFault turns s sink sink' disk disk' seen seen' = (new : State) × TakesTurns turns disk disk' seen seen' s new × HasRisen sink.faults sink'.faults
-Serves _ turns s sink sink' disk disk' seen seen' = ⊥
+abbrev pub Serves : Status → LookUp → ℕ → State → SinkState → SinkState → DiskState → DiskState → LinkState → LinkState → Type 0
+Serves Done book turns s sink sink' disk disk' seen seen' = (new : State) × TakesTurns book turns disk disk' seen seen' s new × SaysReport new.committed new.counts sink sink'
+Serves SinkFault book turns s sink sink' disk disk' seen seen' = (new : State) × TakesTurns book turns disk disk' seen seen' s new × HasRisen sink.faults sink'.faults
+Serves _ book turns s sink sink' disk disk' seen seen' = ⊥
 
 -- what is said of a fault, and the status that stands for it
 abbrev pub ReportsSeed : SeedFault → Status → SinkState → SinkState → Type 0

@@ -1,7 +1,6 @@
 // A peer is made ready to seed.
 ghost use Rattle.std.specs.Prelude.{◌≡◌, ◌⊎◌, length, IfOk};
 ghost use Rattle.pp_terms.specs.Book.{IsRooted};
-ghost use Rattle.pp_terms.specs.Descriptor.{chunks_of};
 ghost use Rattle.pp_terms.specs.Disk.{IsKnown};
 ghost use Rattle.pp_tree.specs.Book.{entry, empty_book};
 ghost use Rattle.pp_node.specs.Run.{IsFreshlyAttached};
@@ -70,7 +69,6 @@ pub(crate) fn prepare<D: Disk, L: Link>(
     book: &mut Book,
 ) -> Result<Ready, SeedFault>
     requires empty { book.old ≡ empty_book }
-    requires one { chunks_of descriptor.now ≡ 1 }
     ensures prepared { HasPrepared descriptor.now random (D.state disk.old) (D.state disk.new) (L.seen link.old) (L.seen link.new) (entry book.new) result }
     ensures lasts { IsKnown (D.state disk.old) → Lasts descriptor.now (D.state disk.new).history }
     ensures unsent { IsUnsent (L.seen link.old) (L.seen link.new) }
@@ -92,7 +90,6 @@ fn prepare_attached<D: Disk, L: Link>(
     book: &mut Book,
 ) -> Result<Ready, SeedFault>
     requires empty { book.old ≡ empty_book }
-    requires one { chunks_of descriptor.now ≡ 1 }
     requires attached { IsKnown (D.state disk.old) → IsFreshlyAttached (D.state disk.old).history }
     ensures prepared { HasPrepared descriptor.now random (D.state disk.old) (D.state disk.new) (L.seen link.old) (L.seen link.new) (entry book.new) result }
     ensures lasts { IsKnown (D.state disk.old) → Lasts descriptor.now (D.state disk.new).history }
@@ -116,7 +113,6 @@ fn listen_and_open<D: Disk, L: Link>(
     book: &mut Book,
 ) -> Result<Ready, SeedFault>
     requires empty { book.old ≡ empty_book }
-    requires one { chunks_of descriptor.now ≡ 1 }
     requires attached { IsKnown (D.state disk.old) → IsFreshlyAttached (D.state disk.old).history }
     requires begins { IsKnown (D.state disk.old) → IsOf descriptor.now (D.state disk.old).history.reads }
     ensures prepared { HasPrepared descriptor.now random (D.state disk.old) (D.state disk.new) (L.seen link.old) (L.seen link.new) (entry book.new) result }
@@ -144,7 +140,6 @@ fn open<D: Disk>(
     book: &mut Book,
 ) -> Result<Ready, SeedFault>
     requires empty { book.old ≡ empty_book }
-    requires one { chunks_of descriptor.now ≡ 1 }
     requires attached { IsKnown (D.state disk.old) → IsFreshlyAttached (D.state disk.old).history }
     requires begins { IsKnown (D.state disk.old) → IsOf descriptor.now (D.state disk.old).history.reads }
     ensures opened { HasOpenedPeer descriptor.now random (D.state disk.old) (D.state disk.new) (entry book.new) result }

@@ -2,9 +2,8 @@
 ghost use Rattle.std.specs.Prelude.{◌≡◌, ◌⊎◌, true, length, OnOk};
 ghost use Rattle.pp_terms.specs.Count.{HasCause};
 ghost use Rattle.pp_terms.specs.Book.{IsRooted};
-ghost use Rattle.pp_terms.specs.Descriptor.{chunks_of};
 ghost use Rattle.pp_tree.specs.Book.{entry, empty_book};
-ghost use Rattle.pp_core.specs.Serving.{ReadsAlone};
+ghost use Rattle.pp_core.specs.Serving.{HasPaths, ReadsAlone};
 ghost use Rattle.pp_node.specs.Promising.{SeedPromises};
 ghost use Rattle.pp_node.specs.Seeding.{SeedsIn, SaysReport, ReportsSeed, Serves};
 
@@ -20,9 +19,9 @@ use pp_outside::{Address, Disk, Link, Sink, SinkFault};
 use pp_tree::{Book, Descriptor};
 use std::alloc::Global;
 
-/// Does what `seed STORE DESCRIPTOR LISTEN TURNS` will do, which the words of a command line can't ask for yet: attaches the
-/// named store, listens, serves the content's one chunk for `turns` turns of at most 100,000 microseconds each, closes the
-/// channels, and prints which chunks the peer has and 22 lines of what it counted. The book is empty at entry; channel
+/// Does what `seed STORE DESCRIPTOR LISTEN TURNS` says: attaches the named store, listens, serves the chunks that it holds for
+/// `turns` turns of at most 100,000 microseconds each, closes the channels, and prints which chunks the peer has and 22 lines
+/// of what it counted. The book is empty at entry; channel
 /// numbers are drawn from `random`, 32 bytes that nobody can guess.
 pub fn seed<D: Disk, L: Link, K: Sink>(
     alloc: Global,
@@ -37,7 +36,6 @@ pub fn seed<D: Disk, L: Link, K: Sink>(
     book: &mut Book,
 ) -> Status
     requires empty { book.old ≡ empty_book }
-    requires one { chunks_of descriptor.now ≡ 1 }
     ensures ends { SeedsIn result descriptor.now random turns (K.state sink.old) (K.state sink.new) (D.state disk.old) (D.state disk.new)
         (L.seen link.old) (L.seen link.new) (entry book.new) }
     ensures promises { SeedPromises result descriptor.now turns (K.state sink.old) (K.state sink.new) (D.state disk.old) (D.state disk.new)
@@ -63,7 +61,8 @@ fn serve<D: Disk, L: Link, K: Sink>(
     requires live { ready.peer.is_live ≡ true }
     requires room { length ready.buffer.items ≡ 65536 }
     requires size { chunks ≡ length ready.peer.committed }
-    ensures serves { Serves result turns ready.peer (K.state sink.old) (K.state sink.new) (D.state disk.old) (D.state disk.new) (L.seen link.old) (L.seen link.new) }
+    requires paths { HasPaths ready.peer.descriptor ready.peer.committed (entry book.old) }
+    ensures serves { Serves result (entry book.old) turns ready.peer (K.state sink.old) (K.state sink.new) (D.state disk.old) (D.state disk.new) (L.seen link.old) (L.seen link.new) }
     ensures disk { ReadsAlone (D.state disk.old) (D.state disk.new) }
     ensures book { book.new ≡ book.old }
 {

@@ -153,7 +153,7 @@ fn says_the_ranges_that_are_held(rt: HostRuntime) -> Result<(), Fail> {
 }
 
 // 5, 12, 19 .., with a step more at each 256th.
-fn generated() -> [u8; 7000] {
+pub(crate) fn generated() -> [u8; 7000] {
     let mut bytes = [0u8; 7000];
     for (j, byte) in bytes.iter_mut().enumerate() {
         *byte = ((5 + 7 * j + j / 256 + j / 65_536) % 256) as u8;
@@ -161,7 +161,7 @@ fn generated() -> [u8; 7000] {
     bytes
 }
 
-const DESCRIPTOR_OF_SEVEN: &str =
+pub(crate) const DESCRIPTOR_OF_SEVEN: &str =
     "ppspp1:b42effe6efb1b60e3199b18182c63d9577f6cdfeaaa0acb3399ac8d87b4d8f73:1024:7000:2";
 
 // Seven chunks are made a store, looked at, and written out again.

@@ -1,8 +1,8 @@
 // The top call.
-ghost use Rattle.std.specs.Prelude.{◌≡◌, ◌⊎◌, ◌↔◌, ℕ, List, codes};
+ghost use Rattle.std.specs.Prelude.{◌≡◌, ◌↔◌, ℕ, List, codes};
 ghost use Rattle.pp_terms.specs.Commands as terms;
 ghost use Rattle.pp_terms.specs.CommandLine.{Spells, IsImport, IsSeed, IsOnStore, IsOneOf, IsFirstWrong};
-ghost use Rattle.pp_terms.specs.Descriptor.{Descriptor, chunks_of};
+ghost use Rattle.pp_terms.specs.Descriptor.{Descriptor};
 ghost use Rattle.pp_terms.specs.Traffic.{Address};
 ghost use Rattle.pp_terms.specs.Usage as wrong;
 ghost use Rattle.pp_terms.specs.Usage.{usage_line};
@@ -14,7 +14,7 @@ ghost use Rattle.pp_node.specs.Run.{ImportEnds};
 ghost use Rattle.pp_node.specs.Checking.{CheckEnds};
 ghost use Rattle.pp_node.specs.Exporting.{ExportEnds};
 ghost use Rattle.pp_node.specs.Promising.{SeedEnds};
-ghost use Rattle.pp_node.specs.Commanding.{IsServed, IsTooLarge, FillsBook, UsesLink, HasEnded};
+ghost use Rattle.pp_node.specs.Commanding.{FillsBook, UsesLink, HasEnded};
 
 use crate::built::read_built;
 use crate::checking::check;
@@ -46,11 +46,11 @@ pub fn run<D: Disk, L: Link, S: Source, K: Sink>(
 ) -> u8
     requires { book.old ≡ empty_book }
 
-    // Status 1 comes exactly where the words spell no command that is built and served.
-    ensures usage { (result ≡ 1) ↔ ((c : terms.Command) → IsOneOf built c → IsServed c → Spells (texts words.now) c → ⊥) }
+    // Status 1 comes exactly where the words spell no command that is built.
+    ensures usage { (result ≡ 1) ↔ ((c : terms.Command) → IsOneOf built c → Spells (texts words.now) c → ⊥) }
 
     // Then the first wrong word is named, and nothing else is touched.
-    ensures line { result ≡ 1 → (u : wrong.Usage) × (IsFirstWrong built (texts words.now) u ⊎ IsTooLarge (texts words.now) u)
+    ensures line { result ≡ 1 → (u : wrong.Usage) × IsFirstWrong built (texts words.now) u
         × Says (usage_line u) (K.state sink.old) (K.state sink.new) }
     ensures disk { result ≡ 1 → D.state disk.new ≡ D.state disk.old }
     ensures source { result ≡ 1 → S.state source.new ≡ S.state source.old }
@@ -60,7 +60,6 @@ pub fn run<D: Disk, L: Link, S: Source, K: Sink>(
         (D.state disk.old) (D.state disk.new) }
 
     ensures seed { (store : List ℕ) (descriptor : Descriptor) (listen : Address) (turns : ℕ) → IsSeed (texts words.now) store descriptor listen turns
-        → chunks_of descriptor ≡ 1
         → SeedEnds result descriptor random turns (S.state source.old) (S.state source.new) (K.state sink.old) (K.state sink.new)
         (D.state disk.old) (D.state disk.new) (L.seen link.old) (L.seen link.new) (entry book.old) (entry book.new) }
 
@@ -96,7 +95,6 @@ fn obey<D: Disk, L: Link, S: Source, K: Sink>(
     requires empty { book.old ≡ empty_book }
     requires spelled { (words : List (List ℕ)) × Spells words (command_of command.now) }
     requires built { IsOneOf built (command_of command.now) }
-    requires served { IsServed (command_of command.now) }
     ensures ended { HasEnded (command_of command.now) result random (S.state source.old) (S.state source.new) (K.state sink.old) (K.state sink.new)
         (D.state disk.old) (D.state disk.new) (L.seen link.old) (L.seen link.new) (entry book.old) (entry book.new) }
     ensures link { (UsesLink (command_of command.now) → ⊥) → L.seen link.new ≡ L.seen link.old }

@@ -1,5 +1,7 @@
 // The turns of a peer.
 ghost use Rattle.std.specs.Prelude.{◌≡◌, ◌+◌, ◌≤◌, true, length, IsOk};
+ghost use Rattle.pp_tree.specs.Book.{entry};
+ghost use Rattle.pp_core.specs.Serving.{HasPaths};
 ghost use Rattle.pp_core.specs.Standing.{capped};
 ghost use Rattle.pp_outside.specs.Outside.{size_of};
 ghost use Rattle.pp_node.specs.Turning.{Waits, TakesTurn, TakesTurns};
@@ -22,8 +24,9 @@ pub(crate) fn take_turns<D: Disk, L: Link>(
 ) -> Result<(), DiskFault>
     requires live { peer.old.is_live ≡ true }
     requires room { length buffer.old ≡ 65536 }
+    requires paths { HasPaths peer.old.descriptor peer.old.committed (entry book.old) }
     ensures done { IsOk result }
-    ensures turns { TakesTurns turns (D.state disk.old) (D.state disk.new) (L.seen link.old) (L.seen link.new) peer.old peer.new }
+    ensures turns { TakesTurns (entry book.old) turns (D.state disk.old) (D.state disk.new) (L.seen link.old) (L.seen link.new) peer.old peer.new }
     ensures live { peer.new.is_live ≡ true }
     ensures book { book.new ≡ book.old }
 {
@@ -45,8 +48,9 @@ fn take_turn<D: Disk, L: Link>(
 ) -> Result<(), DiskFault>
     requires live { peer.old.is_live ≡ true }
     requires room { length buffer.old ≡ 65536 }
+    requires paths { HasPaths peer.old.descriptor peer.old.committed (entry book.old) }
     ensures done { IsOk result }
-    ensures turn { TakesTurn (D.state disk.old) (D.state disk.new) (L.seen link.old) (L.seen link.new) peer.old peer.new }
+    ensures turn { TakesTurn (entry book.old) (D.state disk.old) (D.state disk.new) (L.seen link.old) (L.seen link.new) peer.old peer.new }
     ensures live { peer.new.is_live ≡ true }
     ensures book { book.new ≡ book.old }
 {

@@ -7,3 +7,4 @@ pub mod Verdicts
 pub mod SettledPeaks
 pub mod ProvenChunks
 pub mod ProvenClashes
+pub mod EndNodes

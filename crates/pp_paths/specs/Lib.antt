@@ -4,3 +4,4 @@ pub mod Climb
 pub mod Judge
 pub mod Settle
 pub mod Law
+pub mod Ends

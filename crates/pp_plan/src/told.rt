@@ -55,6 +55,7 @@ impl Told {
         requires most { chunks ≤ 2 ^ 20 }
         ensures chunks { IfOk result (λ t. t.chunks ≡ chunks) }
         ensures nothing { IfOk result (λ t. (n : terms.Node) → knows t n ≡ false) }
+        ensures none { IfOk result (λ t. t.some ≡ false) }
     {
         let height = height(chunks);
         Ok(Told {

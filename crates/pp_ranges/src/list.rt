@@ -42,6 +42,9 @@ impl RangeList {
     /// Adds a range, or changes nothing where more than 64 ranges would be needed.
     pub fn insert(&mut self, range: ChunkRange) -> Result<(), Full>
         ensures ok { OnOk result ((i : ℕ) → has self.new i ≡ (within range i || has self.old i)) }
+        // The list itself, which these numbers determine.
+        ensures exact { OnOk result ((self.new ≡ inserted (Some range) self.old) × (length (inserted (Some range) self.old) ≤ 64)) }
+        ensures many { OnErr result (64 < length (inserted (Some range) self.old)) }
         ensures runs { IsRunsFrom 0 self.new }
         ensures err { OnErr result (self.new ≡ self.old) }
         ensures full { IsErr result ↔ NeedsMore 64 (λ i. within range i || has self.old i) }
@@ -55,6 +58,8 @@ impl RangeList {
     /// Takes a range out, or changes nothing where more than 64 ranges would be needed.
     pub fn remove(&mut self, range: ChunkRange) -> Result<(), Full>
         ensures ok { OnOk result ((i : ℕ) → has self.new i ≡ (not (within range i) && has self.old i)) }
+        ensures exact { OnOk result ((self.new ≡ removed range self.old) × (length (removed range self.old) ≤ 64)) }
+        ensures many { OnErr result (64 < length (removed range self.old)) }
         ensures runs { IsRunsFrom 0 self.new }
         ensures err { OnErr result (self.new ≡ self.old) }
         ensures full { IsErr result ↔ NeedsMore 64 (λ i. not (within range i) && has self.old i) }

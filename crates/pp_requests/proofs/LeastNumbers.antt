@@ -1,10 +1,12 @@
 -- Taking the least number out of a list of ranges needs no further range.
-use Rattle.std.proofs.Common.{◌≡◌, ◌⊎◌, ℕ, zero, suc, ◌+◌, ◌≤◌, ◌<◌, ◌==◌, nat_le, Bool, true, false, cond, not, ◌&&◌, ◌||◌, List, [], ◌∷◌, length, refl, sym, ◌∙◌, ap, subst, inl, inr, arith}
-use Rattle.std.specs.Prelude.{Result, Ok, Err, OnOk, IsErr}
+use Rattle.std.proofs.Common.{◌≡◌, ◌⊎◌, ℕ, zero, suc, ◌+◌, ◌≤◌, ◌<◌, ◌==◌, nat_le, Bool, true, false, cond, not, ◌&&◌, ◌||◌, List, [], ◌∷◌, ◌++◌, length, refl, sym, ◌∙◌, ap, subst, inl, inr, arith}
+use Rattle.std.specs.Prelude.{Result, Ok, Err, Some, OnOk, IsErr, nat_lt, min, max, ◌-◌}
 use Rattle.std.proofs.lemmas.Bool.{cases_eq, cases_lt, cases_Bool}
 use Rattle.std.proofs.lemmas.Bool.Decides.{nat_tests}
 use Rattle.pp_terms.specs.Range.{Span, within, has, IsRunsFrom, NeedsMore}
+use Rattle.pp_ranges.specs.Edits.{removed, below, above}
 use Rattle.pp_ranges.proofs.Runs.{none_below, not_needed, runs_weaken}
+use Rattle.pp_requests.specs.Lists.{IsLeast, without, chunk_count}
 
 -- the ranges without the least number
 shrunk : List Span → List Span
@@ -104,3 +106,73 @@ least_taken (Ok v) old new range least runs few here lesser range_is ok full i =
     ok i ∙ ap (λ b. not b && has old i) (one_number range least i range_is)
 least_taken (Err e) old new range least runs few here lesser range_is ok full i =
     absurd (not_refused old range least runs few here lesser range_is (full refl))
+
+pub least_list : {T E : Type 0} (r : Result T E) (old new : List Span) (range : Span) (least : ℕ) → IsRunsFrom 0 old → length old ≤ 64
+    → has old least ≡ true → ((i : ℕ) → i < least → has old i ≡ false) → range ≡ record { first = least; last = least }
+    → OnOk r ((new ≡ removed range old) × (length (removed range old) ≤ 64))
+    → (IsErr r → NeedsMore 64 (λ i. not (within range i) && has old i))
+    → new ≡ without least old
+least_list (Ok v) old new range least runs few here lesser range_is ok full = ok.0 ∙ ap (λ (s : Span). removed s old) range_is
+least_list (Err e) old new range least runs few here lesser range_is ok full =
+    absurd (not_refused old range least runs few here lesser range_is (full refl))
+
+-- what is left of a range below another, and above it
+below_none : (s x : Span) → nat_lt x.first s.first ≡ false → below s x ≡ []
+below_none s x e = rw (e, below) refl
+
+above_none : (s x : Span) → nat_lt s.last x.last ≡ false → above s x ≡ []
+above_none s x e = rw (e, above) refl
+
+above_some : (s x : Span) → nat_lt s.last x.last ≡ true → above s x ≡ record { first = max x.first (s.last + 1); last = x.last } ∷ []
+above_some s x e = rw (e, above) refl
+
+-- ranges that begin above another stay when it is taken out
+removed_apart : (s : Span) (xs : List Span) (from : ℕ) → s.first ≤ s.last → s.last < from → IsRunsFrom from xs → removed s xs ≡ xs
+removed_apart s [] from order lt runs = refl
+removed_apart s (y ∷ xs) from order lt runs =
+    let low = runs.0 in
+    let high = runs.1 in
+    let not_below : nat_lt y.first s.first ≡ false = grind (arith, nat_tests) in
+    let is_above : nat_lt s.last y.last ≡ true = grind (arith, nat_tests) in
+    let first : max y.first (s.last + 1) ≡ y.first = omega arith in
+    ap (λ (zs : List Span). zs ++ above s y ++ removed s xs) (below_none s y not_below)
+    ∙ ap (λ (zs : List Span). zs ++ removed s xs) (above_some s y is_above)
+    ∙ ap (λ (n : ℕ). record { first = n; last = y.last } ∷ removed s xs) first
+    ∙ ap (λ (zs : List Span). y ∷ zs) (removed_apart s xs (y.last + 2) order (omega (arith, runs.0, runs.1)) runs.2)
+
+without_first : (x : Span) (xs : List Span) (rest : List Span) → IsRunsFrom 0 (x ∷ xs) → above (record { first = x.first; last = x.first }) x ≡ rest
+    → without x.first (x ∷ xs) ≡ rest ++ xs
+without_first x xs rest runs e =
+    let s : Span = record { first = x.first; last = x.first } in
+    let order = runs.1 in
+    let not_below : nat_lt x.first x.first ≡ false = grind (arith, nat_tests) in
+    ap (λ (zs : List Span). zs ++ above s x ++ removed s xs) (below_none s x not_below)
+    ∙ ap (λ (zs : List Span). zs ++ removed s xs) e
+    ∙ ap (λ (zs : List Span). rest ++ zs) (removed_apart s xs (x.last + 2) (omega arith) (omega (arith, runs.1)) runs.2)
+
+count_shrunk : (x : Span) (xs : List Span) → IsRunsFrom 0 (x ∷ xs) → chunk_count (without x.first (x ∷ xs)) < chunk_count (x ∷ xs)
+count_shrunk x xs runs =
+    let s : Span = record { first = x.first; last = x.first } in
+    elim (cases_Bool (nat_lt x.first x.last)) [
+      | inl more ↦
+          let lt : x.first < x.last = grind (arith, nat_tests) in
+          let is = ap chunk_count (without_first x xs (record { first = max x.first (x.first + 1); last = x.last } ∷ []) runs (above_some s x more)) in
+          omega (arith, is)
+      | inr one ↦
+          let is = ap chunk_count (without_first x xs [] runs (above_none s x one)) in
+          omega (arith, is, runs.1)
+    ]
+
+-- the list has fewer numbers without its least
+pub count_less : (xs : List Span) (least : ℕ) → IsRunsFrom 0 xs → IsLeast xs least → chunk_count (without least xs) < chunk_count xs
+count_less [] least runs is = absurd (let none = is.listed in cc)
+count_less (x ∷ xs) least runs is =
+    let first = least_first x xs least runs is.listed is.lesser in
+    subst (λ (n : ℕ). chunk_count (without n (x ∷ xs)) < chunk_count (x ∷ xs)) (sym first) (count_shrunk x xs runs)
+
+pub least_fewer : (list old new : List Span) (least : ℕ) → IsRunsFrom 0 list → list ≡ old → has list least ≡ true → ((i : ℕ) → i < least → has list i ≡ false)
+    → new ≡ without least old → chunk_count new < chunk_count old
+least_fewer list old new least runs same here lesser is =
+    subst (λ (xs : List Span). chunk_count new < chunk_count xs) same
+    (subst (λ (xs : List Span). chunk_count xs < chunk_count list) (sym (is ∙ ap (without least) (sym same)))
+    (count_less list least runs (record { listed = here; lesser = lesser })))

@@ -1,9 +1,9 @@
 // The chunks that one channel's peer may still be sent.
-ghost use Rattle.std.specs.Prelude.{◌≡◌, ◌↔◌, ℕ, ◌==◌, ◌&&◌, ◌||◌, not, [], OnOk, OnErr, IsErr, MatchOption};
+ghost use Rattle.std.specs.Prelude.{◌≡◌, ◌↔◌, ℕ, ◌<◌, ◌==◌, ◌&&◌, ◌||◌, not, true, false, Some, [], OnOk, OnErr, IsErr, IsSome, MatchOption};
 ghost use Rattle.std.specs.List.{filter};
 ghost use Rattle.pp_terms.specs.Range.{within, has, NeedsMore};
-ghost use Rattle.pp_ranges.specs.Edits.{is_apart};
-ghost use Rattle.pp_requests.specs.Lists.{IsLeast};
+ghost use Rattle.pp_ranges.specs.Edits.{inserted, removed, is_apart};
+ghost use Rattle.pp_requests.specs.Lists.{IsLeast, are_too_many, requested, cancelled, without, chunk_count};
 
 use pp_ranges::{ChunkRange, Full, RangeList};
 use std::marker::Model;
@@ -47,6 +47,10 @@ impl Requests {
         ensures ok { OnOk result ((i : ℕ) → has self.new i ≡ (within range i || has self.old i)) }
         ensures err { OnErr result (self.new ≡ self.old) }
         ensures full { IsErr result ↔ NeedsMore 64 (λ i. within range i || has self.old i) }
+        // The same for the list itself.
+        ensures exact { self.new ≡ requested range self.old }
+        ensures many { OnErr result (are_too_many (inserted (Some range) self.old) ≡ true) }
+        ensures few { OnOk result (are_too_many (inserted (Some range) self.old) ≡ false) }
     {
         self.list.insert(range)
     }
@@ -57,6 +61,10 @@ impl Requests {
         ensures exact { result ≡ Cancelled.Exact → (i : ℕ) → has self.new i ≡ (not (within range i) && has self.old i) }
         ensures dropped { result ≡ Cancelled.Wide → self.new ≡ filter (is_apart range) self.old }
         ensures wide { (result ≡ Cancelled.Wide) ↔ NeedsMore 64 (λ i. not (within range i) && has self.old i) }
+        // The same for the list itself.
+        ensures list { self.new ≡ cancelled range self.old }
+        ensures many { result ≡ Cancelled.Wide → are_too_many (removed range self.old) ≡ true }
+        ensures few { result ≡ Cancelled.Exact → are_too_many (removed range self.old) ≡ false }
     {
         match self.list.remove(range) {
             Ok(()) => Cancelled::Exact,
@@ -86,6 +94,8 @@ impl Requests {
         ensures least { MatchOption result (self.old ≡ []) (IsLeast self.old) }
         ensures rest { MatchOption result (self.new ≡ self.old)
             (λ least. (i : ℕ) → has self.new i ≡ (not (i == least) && has self.old i)) }
+        ensures list { MatchOption result (self.new ≡ self.old) (λ least. self.new ≡ without least self.old) }
+        ensures fewer { IsSome result → chunk_count self.new < chunk_count self.old }
     {
         // Its contract tells that there are at most 64 ranges, in order: the least number of one is left out without one more.
         let _ = self.list.count();

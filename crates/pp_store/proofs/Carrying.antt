@@ -1,14 +1,13 @@
 -- A chunk more: it is written, and then the pairs that it fills, from below.
-use Rattle.std.proofs.Common.{◌≡◌, ◌⊎◌, inl, inr, ⊎_elim, ℕ, zero, suc, ◌+◌, ◌-◌, ◌*◌, ◌/◌, ◌%◌, ◌^◌, ◌<◌, ◌≤◌, List, [], ◌++◌, length, get_or, Ok, refl, sym, ◌∙◌, ap, subst, arith, get_or-set_other, get_or-set_same}
+use Rattle.std.proofs.Common.{◌≡◌, ⊎_elim, ℕ, zero, suc, ◌+◌, ◌-◌, ◌*◌, ◌/◌, ◌%◌, ◌^◌, ◌<◌, ◌≤◌, List, [], ◌++◌, length, get_or, Ok, refl, sym, ◌∙◌, ap, subst, arith, get_or-set_other, get_or-set_same}
 use Rattle.std.proofs.Math.ListN.{set}
-use Rattle.std.proofs.lemmas.Nat.{pow_pos}
 use Rattle.std.proofs.lemmas.Bool.{cases_lt, cases_eq}
-use Rattle.std.proofs.Math.Pow.{pow-lt, pow_mono}
+use Rattle.std.proofs.Math.Pow.{pow-lt}
 use Rattle.sha2.specs.Sha256.{sha256}
 use Rattle.pp_terms.specs.Content.{chunk_of}
-use Rattle.pp_terms.specs.Tree.{node, pair, leaf_of, above}
-use Rattle.pp_terms.specs.Store.{chunk_place, pair_slot, pair_place, Has, a_chunk, a_pair}
-use Rattle.pp_terms.specs.Disk.{DiskState, IsKnown, written}
+use Rattle.pp_terms.specs.Tree.{pair, leaf_of, above}
+use Rattle.pp_terms.specs.Store.{chunk_place, pair_slot, pair_place, a_chunk, a_pair}
+use Rattle.pp_terms.specs.Disk.{DiskState, written}
 use Rattle.pp_tree.proofs.Halving.{doubled}
 use Rattle.pp_tree.proofs.Clashes.{node_is, leaf_is}
 use Rattle.pp_store.specs.Behind.{DoesPut}

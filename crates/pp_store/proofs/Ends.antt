@@ -1,8 +1,7 @@
 -- How an import goes on and ends.
-use Rattle.std.proofs.Common.{◌≡◌, ◌⊎◌, ◌↔◌, inl, inr, ⊎_elim, ℕ, zero, suc, ◌+◌, ◌-◌, ◌*◌, ◌/◌, ◌%◌, ◌^◌, ◌<◌, ◌≤◌, min, Bool, true, false, IsTrue, Option, Some, List, [], length, get_or, take, drop, Result, Ok, Err, OnOk, IfOk, IfErr, refl, sym, ◌∙◌, ap, subst, arith}
+use Rattle.std.proofs.Common.{◌≡◌, ◌⊎◌, ◌↔◌, inl, inr, ⊎_elim, ℕ, zero, suc, ◌+◌, ◌-◌, ◌*◌, ◌/◌, ◌%◌, ◌<◌, ◌≤◌, min, Bool, true, false, IsTrue, Some, List, [], length, get_or, take, drop, Result, Ok, Err, OnOk, IfOk, IfErr, refl, sym, ◌∙◌, ap, subst, arith}
 use Rattle.std.proofs.lemmas.Bool.{cases_eq, cases_lt, false≢true}
 use Rattle.std.proofs.lemmas.List.{length-take, length-drop, drop-drop}
-use Rattle.pp_terms.specs.Count.{HasCause}
 use Rattle.pp_terms.specs.Content.{chunk_count, IsChunkSize, IsContentSize}
 use Rattle.pp_terms.specs.Tree.{above}
 use Rattle.pp_terms.specs.Descriptor.{Descriptor}
@@ -14,15 +13,14 @@ use Rattle.pp_tree.proofs.Sizes.{chunk_size_range}
 use Rattle.pp_store.specs.declared.importing.ImportFault.{ImportFault}
 use Rattle.pp_store.specs.declared.importing.ImportFault.TheVariants.{NotEmpty, ContentSize, Source, Disk}
 use Rattle.pp_store.specs.Keep.{KeepsDisk, kept}
-use Rattle.pp_store.specs.Behind.{IsBehind, KeepsBehind}
+use Rattle.pp_store.specs.Behind.{KeepsBehind}
 use Rattle.pp_store.specs.Imported.{imported}
-use Rattle.pp_store.specs.Growing.{IsContent, IsPartial, IsNext, IsBuilt, chunks_in}
+use Rattle.pp_store.specs.Growing.{IsContent, IsPartial, IsNext, IsBuilt}
 use Rattle.pp_scan.specs.Look.{synced}
 use Rattle.pp_store.specs.Seal.{DoesSeal, Leaves}
 use Rattle.pp_store.specs.Import.{most_bytes, TakesAtMost, IsUnsynced, IsDiskFault, HasAnswer, HasFault, LeavesWholeStores, DoesImport, IsLeft, unfinished, finished}
-use Rattle.pp_store.proofs.Nexts.{counted_more, counted_all, counted_below, below_times, full_whole}
-use Rattle.pp_store.proofs.Pieces.{count_range}
-use Rattle.pp_store.proofs.Writings.{behind_more, behind_keeps, keeps_more}
+use Rattle.pp_store.proofs.Nexts.{counted_more, counted_all, counted_below, full_whole}
+use Rattle.pp_store.proofs.Writings.{behind_more, behind_keeps}
 use Rattle.pp_store.proofs.Sealing.{behind_no_store, no_store_yet, stored, sound, attachment_left}
 
 -- what was read is the content's next chunks

@@ -1,18 +1,17 @@
 -- The steps of a growing tree, in the code's terms.
-use Rattle.std.proofs.Common.{◌≡◌, ◌⊎◌, ℕ, suc, ◌+◌, ◌-◌, ◌*◌, ◌/◌, ◌%◌, ◌^◌, ◌<◌, ◌≤◌, List, [], ◌++◌, length, get_or, take, drop, replicate, Result, Ok, Err, IfOk, OnOk, refl, sym, ◌∙◌, ap, subst, arith}
-use Rattle.std.proofs.Math.ListN.{set}
+use Rattle.std.proofs.Common.{◌≡◌, ℕ, suc, ◌+◌, ◌-◌, ◌*◌, ◌/◌, ◌%◌, ◌^◌, ◌<◌, ◌≤◌, List, [], ◌++◌, length, get_or, drop, replicate, Result, Ok, Err, IfOk, OnOk, ◌∙◌, ap, subst, arith}
 use Rattle.std.proofs.lemmas.List.{take_at, drop_at, append-nil}
 use borrow.Rule.Slice.PartMut.{put_mid}
 use Rattle.sha2.specs.Sha256.{sha256}
 use Rattle.pp_terms.specs.Content.{chunk_of}
-use Rattle.pp_terms.specs.Tree.{empty_hash, root_of}
+use Rattle.pp_terms.specs.Tree.{empty_hash}
 use Rattle.pp_terms.specs.Store.{chunk_place}
-use Rattle.pp_terms.specs.Disk.{DiskState, IsKnown, DoesWrite}
-use Rattle.pp_store.specs.Behind.{KeepsBehind, DoesBehind, DoesPut}
-use Rattle.pp_store.specs.Growing.{IsPartial, IsCarry, IsCarrying, IsTail, IsTailing, IsBuilt, chunks_in}
-use Rattle.pp_store.proofs.Writings.{write_puts, keeps_more}
-use Rattle.pp_store.proofs.Carrying.{carry_start, carry_step, carry_end, carry_slot}
-use Rattle.pp_store.proofs.Tails.{tail_odd, tail_even, tail_slot, tail_built, tail_root}
+use Rattle.pp_terms.specs.Disk.{DiskState, DoesWrite}
+use Rattle.pp_store.specs.Behind.{DoesPut}
+use Rattle.pp_store.specs.Growing.{IsPartial, IsCarry, IsCarrying, IsTail, IsTailing, chunks_in}
+use Rattle.pp_store.proofs.Writings.{write_puts}
+use Rattle.pp_store.proofs.Carrying.{carry_start, carry_step, carry_slot}
+use Rattle.pp_store.proofs.Tails.{tail_odd, tail_even, tail_slot}
 
 -- the two digests written over zeros
 pub joined_placed : (a b left right : List ℕ) → a ≡ left → b ≡ right → length left ≡ 32 → put_mid 32 32 (a ++ replicate 32 0) b ≡ left ++ right

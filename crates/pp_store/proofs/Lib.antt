@@ -11,3 +11,12 @@ pub mod Ends
 pub mod Counted
 pub mod Opening
 pub mod Rereading
+pub mod Surviving
+pub mod KnownPairs
+pub mod PairWrites
+pub mod Marking
+pub mod Answering
+pub mod Committing
+pub mod Puttings
+pub mod Beginnings
+pub mod Writtens

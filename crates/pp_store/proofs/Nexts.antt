@@ -1,12 +1,10 @@
 -- A buffer of a content's next chunks.
-use Rattle.std.proofs.Common.{◌≡◌, ◌⊎◌, ⊎_elim, ℕ, zero, suc, ◌+◌, ◌-◌, ◌*◌, ◌/◌, ◌%◌, ◌^◌, ◌<◌, ◌≤◌, min, List, [], length, get_or, take, drop, refl, sym, ◌∙◌, ap, subst, arith, inl, inr}
+use Rattle.std.proofs.Common.{◌≡◌, ⊎_elim, ℕ, ◌+◌, ◌-◌, ◌*◌, ◌/◌, ◌%◌, ◌^◌, ◌<◌, ◌≤◌, List, length, take, drop, refl, sym, ◌∙◌, ap, arith}
 use Rattle.std.proofs.Math.Nat.{mul-le-mul_left}
 use Rattle.std.proofs.lemmas.Bool.{cases_lt}
 use Rattle.std.proofs.lemmas.List.{take_all, take-take, drop-take, drop-drop, length-drop, length-take}
-use Rattle.sha2.specs.Sha256.{sha256}
 use Rattle.pp_terms.specs.Content.{chunk_of, chunk_count, IsChunkSize}
 use Rattle.pp_tree.proofs.Sizes.{chunk_count_holds, chunk_begins, size_of_chunk_size}
-use Rattle.pp_tree.proofs.Layers.{chunk_cut}
 use Rattle.pp_store.specs.Growing.{IsNext, chunks_in}
 
 -- of two multiples the lower one has the lower factor

@@ -1,6 +1,6 @@
 -- A store is opened, and its chunks are read.
-use Rattle.std.proofs.Common.{◌≡◌, ◌⊎◌, inl, inr, ⊎_elim, ℕ, ◌+◌, ◌-◌, ◌*◌, ◌<◌, ◌≤◌, ◌==◌, nat_eq, min, Bool, true, false, cond, IsTrue, Option, Some, None, List, [], ◌++◌, length, get_or, take, drop, replicate, Result, Ok, Err, IfOk, IfErr, refl, sym, ◌∙◌, ap, subst, arith}
-use Rattle.std.specs.Prelude.{◌&&◌, is_some}
+use Rattle.std.proofs.Common.{◌≡◌, ◌⊎◌, inl, inr, ⊎_elim, ℕ, ◌+◌, ◌<◌, ◌≤◌, ◌==◌, nat_eq, Bool, true, false, Option, Some, List, [], ◌++◌, length, get_or, take, drop, replicate, Result, Ok, Err, IfOk, IfErr, refl, sym, ◌∙◌, ap, subst, arith}
+use Rattle.std.specs.Prelude.{◌&&◌}
 use Rattle.std.specs.Cmp.Lexicographic.{pointwise, same_text, other_text}
 use Rattle.std.proofs.lemmas.Bool.{cases_lt, false≢true, eqb-true}
 use Rattle.std.proofs.lemmas.List.{length-take, length-drop, get_or_past, take_at}
@@ -11,19 +11,18 @@ use Rattle.pp_terms.specs.Book.{LookUp}
 use Rattle.pp_terms.specs.Descriptor.{Descriptor, chunks_of, IsDescriptor}
 use Rattle.pp_terms.specs.Store.{header, chunk_place, Has}
 use Rattle.pp_terms.specs.Image.{slice, known, matches, has_peaks, holds, StandsIn}
-use Rattle.pp_terms.specs.Disk.{DiskState, History, IsImage, IsKnown, IsRead, DoesLen, MayLeaveSince, Throughout, moment_of, written, after_write}
+use Rattle.pp_terms.specs.Disk.{DiskState, History, IsImage, IsKnown, IsRead, DoesLen, MayLeaveSince, Throughout, moment_of, written}
 use Rattle.pp_terms.proofs.Headers.{length-header}
 use Rattle.pp_terms.proofs.Images.{written_inside, sole_image, since_now, since_settled}
 use Rattle.pp_tree.specs.Book.{HasRootAlone}
 use Rattle.pp_scan.specs.declared.scanning.ScanFault.{ScanFault}
-use Rattle.pp_scan.specs.declared.scanning.ScanFault.TheVariants.{NotAStore, Disk, Memory}
+use Rattle.pp_scan.specs.declared.scanning.ScanFault.TheVariants.{Disk}
 use Rattle.pp_scan.specs.Look.{synced}
 use Rattle.pp_scan.specs.Header.{HasHeader}
 use Rattle.pp_scan.specs.Holding.{is_there}
 use Rattle.pp_scan.specs.Scan.{IsScanned, HasFound}
 use Rattle.pp_scan.proofs.Reading.{no_bytes, read_slice}
 use Rattle.pp_scan.proofs.Finding.{found_empty, some_bytes}
-use Rattle.pp_scan.proofs.Holds.{empty_none}
 use Rattle.pp_store.specs.Keep.{kept}
 use Rattle.pp_store.specs.Store.{IsOpened, AllStand, GoesOn}
 use Rattle.pp_store.specs.ReadChunk.{IsRightChunk, IsDamaged}
@@ -39,10 +38,10 @@ fresh_found d old mid new book n set (Err f) counts none valid alone is_none sam
     (λ below. let r : mid.faults < new.faults = fault.1 below in omega (arith, counts.call.cause.later))
 
 -- of both tests of a pair of them
-and_left : (a b : Bool) → (a && b) ≡ true → a ≡ true
+pub and_left : (a b : Bool) → (a && b) ≡ true → a ≡ true
 and_left a b e = elim a as (λ v. (v && b) ≡ true → v ≡ true) [ true ↦ λ h. refl | false ↦ λ h. h ] e
 
-and_right : (a b : Bool) → (a && b) ≡ true → b ≡ true
+pub and_right : (a b : Bool) → (a && b) ≡ true → b ≡ true
 and_right a b e = elim a as (λ v. (v && b) ≡ true → b ≡ true) [ true ↦ λ h. h | false ↦ λ h. absurd (false≢true h) ] e
 
 -- a chunk that is held lies inside the file
@@ -59,10 +58,10 @@ held_inside d reads i some is =
     let test : (length bytes == chunk_length d.size d.chunk i) ≡ true = and_right (has_peaks (known d reads) (chunks_of d) 21) _ both in
     let le = inside d reads i some (eqb-true _ _ test) in omega arith
 
-in_set : (set : List Bool) (i : ℕ) → get_or set i false ≡ true → i < length set
+pub in_set : (set : List Bool) (i : ℕ) → get_or set i false ≡ true → i < length set
 in_set set i is = ⊎_elim (λ lt. lt) (λ past. absurd (false≢true (sym (get_or_past set i false past) ∙ is))) (cases_lt i (length set))
 
-has_header : (d : Descriptor) (reads : List ℕ) → IsDescriptor d → HasHeader d reads → 64 ≤ length reads → Has 0 (header d) reads
+pub has_header : (d : Descriptor) (reads : List ℕ) → IsDescriptor d → HasHeader d reads → 64 ≤ length reads → Has 0 (header d) reads
 has_header d reads valid begins long =
     let size = length-header d valid.root_length in
     record {
@@ -71,7 +70,7 @@ has_header d reads valid begins long =
     }
 
 -- the one image after a sync
-only_image : (h old : History) (image : List ℕ) → h ≡ synced old → MayLeaveSince h (moment_of h) image → image ≡ old.reads
+pub only_image : (h old : History) (image : List ℕ) → h ≡ synced old → MayLeaveSince h (moment_of h) image → image ≡ old.reads
 only_image h old image is since =
     sole_image old.reads image (since_now (synced old) image (subst (λ (x : History). MayLeaveSince x (moment_of x) image) is since))
 

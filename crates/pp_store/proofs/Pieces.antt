@@ -1,6 +1,5 @@
 -- The pieces of a content's store: each has its own range, so a write of one keeps the others.
-use Rattle.std.proofs.Common.{◌≡◌, ◌⊎◌, inl, inr, ⊎_elim, ℕ, zero, suc, ◌+◌, ◌-◌, ◌*◌, ◌/◌, ◌%◌, ◌^◌, ◌<◌, ◌≤◌, nat_lt, true, false, cond, List, [], ◌++◌, length, get_or, take, drop, replicate, refl, sym, ◌∙◌, ap, subst, arith}
-use Rattle.std.proofs.Math.Nat.{mul-le-mul_left}
+use Rattle.std.proofs.Common.{◌≡◌, ◌⊎◌, inl, inr, ⊎_elim, ℕ, zero, suc, ◌+◌, ◌*◌, ◌/◌, ◌^◌, ◌<◌, ◌≤◌, nat_lt, true, false, cond, List, ◌++◌, length, drop, refl, sym, ◌∙◌, ap, subst, arith}
 use Rattle.std.proofs.Math.Pow.{pow_mono}
 use Rattle.std.proofs.lemmas.Nat.{pow_pos}
 use Rattle.std.proofs.lemmas.Bool.{cases_lt, cases_eq}
@@ -8,10 +7,9 @@ use Rattle.std.proofs.lemmas.Bool.Decides.{nat_tests}
 use Rattle.std.proofs.lemmas.List.{length-take, length-append, length-replicate}
 use Rattle.sha2.specs.Sha256.{sha256}
 use Rattle.sha2.proofs.Facts256.{length-sha256}
-use Rattle.pp_terms.specs.Content.{chunk_of, chunk_count, IsContentSize}
+use Rattle.pp_terms.specs.Content.{chunk_of}
 use Rattle.pp_terms.specs.Tree.{empty_hash, node, pair, leaf_of, root_of, above, height}
-use Rattle.pp_terms.specs.Descriptor.{Descriptor}
-use Rattle.pp_terms.specs.Store.{header, chunk_place, pair_slot, pair_place, IsWithin, AreApart, Has, IsPiece, the_header, a_chunk, a_pair}
+use Rattle.pp_terms.specs.Store.{header, chunk_place, pair_slot, pair_place, AreApart, Has, IsPiece, the_header, a_chunk, a_pair}
 use Rattle.pp_terms.specs.Disk.{written}
 use Rattle.pp_terms.proofs.Headers.{length-header}
 use Rattle.pp_terms.proofs.Heights.{height_is}
@@ -20,7 +18,7 @@ use Rattle.pp_tree.proofs.Halving.{doubled, above_is}
 use Rattle.pp_tree.proofs.BinNumbers.{same_odd}
 use Rattle.pp_tree.proofs.Sizes.{chunk_count_range, chunk_size_range}
 use Rattle.pp_store.specs.Imported.{imported}
-use Rattle.pp_store.specs.Growing.{IsContent, IsStaged, chunks_in, digest_of, HasChunk, HasPair}
+use Rattle.pp_store.specs.Growing.{IsContent, IsStaged, chunks_in, digest_of}
 
 -- a write of bytes puts them there, and keeps those elsewhere
 pub has_written : (old : List ℕ) (place : ℕ) (bytes : List ℕ) → Has place bytes (written old place bytes)
@@ -59,18 +57,18 @@ slot_is k j =
     let twice : j * 2 ^ suc k ≡ j * (2 ^ k * 2) = ap (λ (p : ℕ). j * p) (doubled k) in
     omega arith
 
-same_slot : (k l j i : ℕ) → pair_slot k j ≡ pair_slot l i → (k ≡ l) × (j ≡ i)
+pub same_slot : (k l j i : ℕ) → pair_slot k j ≡ pair_slot l i → (k ≡ l) × (j ≡ i)
 same_slot k l j i e = same_odd k l j i (omega (arith, slot_is k j, slot_is l i))
 
 -- the range lies in slot s
-record IsInSlot (chunk place size s : ℕ) : Type 0 where
-  from : chunk_place chunk s ≤ place
-  to : place + size ≤ chunk_place chunk s + (chunk + 64)
+pub record IsInSlot (chunk place size s : ℕ) : Type 0 where
+  pub from : chunk_place chunk s ≤ place
+  pub to : place + size ≤ chunk_place chunk s + (chunk + 64)
 
 slot_order : (w s t : ℕ) → s < t → s * w + w ≤ t * w
 slot_order w s t lt = let le : suc s * w ≤ t * w = grind arith in omega arith
 
-slots_apart : (chunk place size other size' s t : ℕ) → (s ≡ t → ⊥) → IsInSlot chunk place size s → IsInSlot chunk other size' t
+pub slots_apart : (chunk place size other size' s t : ℕ) → (s ≡ t → ⊥) → IsInSlot chunk place size s → IsInSlot chunk other size' t
     → AreApart place size other size'
 slots_apart chunk place size other size' s t differ one two = ⊎_elim
     (λ low. inl (let le = slot_order (chunk + 64) s t low in omega (arith, one.to, two.from)))

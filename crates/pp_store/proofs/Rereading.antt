@@ -1,5 +1,5 @@
 -- A content's whole store, read from the root down, holds all its chunks.
-use Rattle.std.proofs.Common.{◌≡◌, ◌⊎◌, inl, inr, ⊎_elim, ℕ, zero, suc, ◌+◌, ◌-◌, ◌*◌, ◌/◌, ◌%◌, ◌^◌, ◌<◌, ◌≤◌, ◌==◌, ◌||◌, nat_eq, nat_le, min, Bool, true, false, cond, IsTrue, Option, Some, None, List, [], ◌++◌, length, get_or, take, drop, refl, sym, ◌∙◌, ap, subst, arith}
+use Rattle.std.proofs.Common.{◌≡◌, ⊎_elim, ℕ, zero, suc, ◌+◌, ◌-◌, ◌*◌, ◌/◌, ◌%◌, ◌^◌, ◌<◌, ◌≤◌, ◌==◌, ◌||◌, nat_eq, nat_le, Bool, true, false, cond, Option, Some, None, List, length, get_or, take, drop, refl, sym, ◌∙◌, ap, arith}
 use Rattle.std.specs.Prelude.{◌&&◌, is_some}
 use Rattle.std.specs.Cmp.Lexicographic.{pointwise, other_text}
 use Rattle.std.proofs.Math.Nat.{mul-le-mul_left}
@@ -12,11 +12,10 @@ use Rattle.std.proofs.lemmas.List.{places, length-take, length-drop, take_at, dr
 use Rattle.sha2.specs.Sha256.{sha256}
 use Rattle.sha2.proofs.Facts256.{length-sha256}
 use Rattle.pp_terms.specs.Content.{chunk_of, chunk_length}
-use Rattle.pp_terms.specs.Tree.{node, pair, leaf_of, above, height}
+use Rattle.pp_terms.specs.Tree.{pair, leaf_of, above}
 use Rattle.pp_terms.specs.Descriptor.{Descriptor, chunks_of, height_of}
 use Rattle.pp_terms.specs.Store.{header, chunk_place, pair_place, Has, IsStoreOf, the_header, a_chunk, a_pair}
 use Rattle.pp_terms.specs.Image.{slice, half, child, known, known_below, has_peaks, matches, holds, StandsIn}
-use Rattle.pp_terms.specs.Book.{LookUp}
 use Rattle.pp_terms.proofs.Heights.{height_is}
 use Rattle.pp_tree.proofs.Halving.{doubled, above_is}
 use Rattle.pp_tree.proofs.Clashes.{node_is, leaf_is}
@@ -26,7 +25,7 @@ use Rattle.pp_store.specs.Growing.{IsContent, chunks_in, digest_of}
 use Rattle.pp_store.proofs.Pieces.{length-digest, pair-64, count_range}
 
 -- bytes that stand at a place are the image's bytes there
-has_slice : (place : ℕ) (bytes image : List ℕ) → Has place bytes image → slice image place (length bytes) ≡ bytes
+pub has_slice : (place : ℕ) (bytes image : List ℕ) → Has place bytes image → slice image place (length bytes) ≡ bytes
 has_slice place bytes image has =
     let size : length (slice image place (length bytes)) ≡ length bytes = length-take (length bytes) (drop place image) ∙ omega (arith, length-drop place image, has.inside) in
     same_number_lists (slice image place (length bytes)) bytes size (λ k lt. at k (omega arith) ∙ has.same k (omega arith))
@@ -34,7 +33,7 @@ has_slice place bytes image has =
     at : (k : ℕ) → k < length bytes → get_or (take (length bytes) (drop place image)) k 0 ≡ get_or image (place + k) 0
     at k lt = grind (arith, places)
 
-text_itself : (xs ys : List ℕ) → xs ≡ ys → pointwise nat_eq xs ys ≡ true
+pub text_itself : (xs ys : List ℕ) → xs ≡ ys → pointwise nat_eq xs ys ≡ true
 text_itself xs ys e = ⊎_elim (λ t. t) (λ f. absurd (other_text xs ys (sym f) e)) (cases_Bool (pointwise nat_eq xs ys))
 
 module _ (chunk : ℕ) (content image : List ℕ) (fits : IsContent chunk content) (whole : IsStoreOf (imported content chunk) content image) where

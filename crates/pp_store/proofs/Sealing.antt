@@ -1,8 +1,7 @@
 -- What a crash may leave while a built store gets its header.
-use Rattle.std.proofs.Common.{◌≡◌, inl, inr, ⊎_elim, ℕ, suc, ◌+◌, ◌-◌, ◌<◌, ◌≤◌, List, [], length, get_or, refl, sym, ◌∙◌, ap, subst, arith}
+use Rattle.std.proofs.Common.{◌≡◌, inl, inr, ⊎_elim, ℕ, suc, ◌+◌, ◌<◌, ◌≤◌, List, [], length, get_or, refl, sym, ◌∙◌, ap, subst, arith}
 use Rattle.std.proofs.lemmas.Grind.{same_number_lists}
 use Rattle.std.proofs.lemmas.Bool.{cases_eq, cases_lt}
-use Rattle.pp_terms.specs.Content.{chunk_of}
 use Rattle.pp_terms.specs.Descriptor.{Descriptor}
 use Rattle.pp_terms.specs.Store.{header, Has, IsStoreOf, IsNoStore, IsPiece, the_header, a_chunk, a_pair}
 use Rattle.pp_terms.specs.Disk.{Epoch, History, IsImage, IsRefusedWrite, MayLeaveSince, Throughout, moment_of, written, pends, after_write}
@@ -10,7 +9,7 @@ use Rattle.pp_terms.proofs.Images.{length-written, written_outside, written_insi
 use Rattle.pp_store.specs.Keep.{kept, SameAttachment}
 use Rattle.pp_store.specs.Behind.{IsBehind}
 use Rattle.pp_store.specs.Imported.{imported}
-use Rattle.pp_store.specs.Growing.{IsContent, IsBuilt, HasChunk}
+use Rattle.pp_store.specs.Growing.{IsBuilt}
 use Rattle.pp_scan.specs.Look.{synced}
 use Rattle.pp_store.specs.Seal.{Leaves, unsynced, header_refused, header_unsynced, sealed}
 use Rattle.pp_store.proofs.Pieces.{piece_kept, staged_more, has_written, header-64, count_range}

@@ -1,18 +1,18 @@
 -- The end of a tree: the pairs of the nodes that aren't full, from below, and the root.
-use Rattle.std.proofs.Common.{◌≡◌, ◌⊎◌, inl, inr, ⊎_elim, ℕ, zero, suc, ◌+◌, ◌-◌, ◌*◌, ◌/◌, ◌%◌, ◌^◌, ◌<◌, ◌≤◌, List, [], ◌++◌, length, get_or, Ok, refl, sym, ◌∙◌, ap, subst, arith}
+use Rattle.std.proofs.Common.{◌≡◌, ◌⊎◌, inl, inr, ⊎_elim, ℕ, suc, ◌+◌, ◌-◌, ◌*◌, ◌/◌, ◌%◌, ◌^◌, ◌<◌, ◌≤◌, List, [], ◌++◌, get_or, Ok, refl, sym, ◌∙◌, ap, subst, arith}
 use Rattle.std.proofs.Math.Nat.{mul-le-mul_left}
 use Rattle.std.proofs.lemmas.Nat.{pow_pos}
-use Rattle.std.proofs.lemmas.Bool.{cases_lt, cases_eq}
-use Rattle.std.proofs.Math.Pow.{pow-lt, pow_mono}
+use Rattle.std.proofs.lemmas.Bool.{cases_lt}
+use Rattle.std.proofs.Math.Pow.{pow_mono}
 use Rattle.sha2.specs.Sha256.{sha256}
-use Rattle.pp_terms.specs.Tree.{empty_hash, node, pair, leaf_of, root_of, above, height, IsHeight}
-use Rattle.pp_terms.specs.Store.{pair_slot, pair_place, Has, a_chunk, a_pair}
+use Rattle.pp_terms.specs.Tree.{empty_hash, pair, leaf_of, root_of, above, height, IsHeight}
+use Rattle.pp_terms.specs.Store.{pair_slot, pair_place, a_chunk, a_pair}
 use Rattle.pp_terms.specs.Disk.{DiskState, IsKnown, written}
 use Rattle.pp_terms.proofs.Heights.{height_is, height_of_least}
 use Rattle.pp_tree.proofs.Halving.{doubled, above_is}
 use Rattle.pp_tree.proofs.Clashes.{node_is}
 use Rattle.pp_store.specs.Behind.{DoesPut}
-use Rattle.pp_store.specs.Growing.{IsContent, IsStoredTo, IsPartial, IsTail, IsStoredTail, IsTailing, IsBuilt, chunks_in, digest_of, HasChunk, HasPair}
+use Rattle.pp_store.specs.Growing.{IsContent, IsPartial, IsTail, IsStoredTail, IsTailing, IsBuilt, chunks_in, digest_of, HasPair}
 use Rattle.pp_store.proofs.Writings.{put_reads}
 use Rattle.pp_store.proofs.Pieces.{has_written, piece_kept, staged_more, pair_low, slot_is, node_empty, count_range}
 use Rattle.pp_store.proofs.Carrying.{layer_low}

@@ -1,10 +1,10 @@
 -- Calls of a disk one after the other, of which none syncs.
-use Rattle.std.proofs.Common.{◌≡◌, inl, inr, ⊎_elim, ℕ, ◌<◌, ◌≤◌, List, length, Result, Ok, Err, refl, sym, ◌∙◌, ap, subst, arith}
+use Rattle.std.proofs.Common.{◌≡◌, inl, inr, ℕ, ◌<◌, ◌≤◌, List, Result, Ok, Err, refl, sym, ◌∙◌, ap, subst, arith}
 use Rattle.pp_terms.specs.Count.{HasCause}
-use Rattle.pp_terms.specs.Disk.{DiskState, History, IsKnown, IsRefusedWrite, DoesWrite, moment_of, written, after_write}
+use Rattle.pp_terms.specs.Disk.{DiskState, History, IsKnown, IsRefusedWrite, DoesWrite, written, after_write}
 use Rattle.pp_terms.proofs.Knowing.{known_on}
 use Rattle.pp_terms.proofs.Images.{written_outside}
-use Rattle.pp_store.specs.Keep.{SameAttachment, KeepsDisk}
+use Rattle.pp_store.specs.Keep.{KeepsDisk}
 use Rattle.pp_store.specs.Behind.{IsBehind, KeepsBehind, DoesBehind, DoesPut}
 
 pub behind_same : (h : History) → IsBehind h h

@@ -6,5 +6,8 @@ pub mod Seal
 pub mod Import
 pub mod Probe
 pub mod ReadChunk
+pub mod Pairs
+pub mod Writes
+pub mod Answer
 pub mod Store
 pub mod Law

@@ -1,5 +1,5 @@
 -- The end of an import: what was written is synced, then the header is written and synced.
-use Rattle.std.specs.Prelude.{◌≡◌, ℕ, ◌≤◌, Result, OnOk}
+use Rattle.std.specs.Prelude.{◌≡◌, ◌≤◌, Result, OnOk}
 use Rattle.pp_terms.specs.Count.{HasCause}
 use Rattle.pp_terms.specs.Descriptor.{Descriptor}
 use Rattle.pp_terms.specs.Store.{header}

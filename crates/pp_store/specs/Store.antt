@@ -1,25 +1,38 @@
 -- What is meant by an open store.
-use Rattle.std.specs.Prelude.{◌≡◌, ◌⊎◌, ℕ, ◌<◌, Bool, true, false, List, [], length, replicate, slice_index_or}
+use Rattle.std.specs.Prelude.{◌≡◌, ℕ, ◌*◌, ◌<◌, ◌||◌, Bool, true, false, List, [], length, replicate, slice_index_or, slice_set, is_some}
+use Rattle.pp_terms.specs.Book.{LookUp}
 use Rattle.pp_terms.specs.Descriptor.{Descriptor, chunks_of}
 use Rattle.pp_terms.specs.Store.{header}
-use Rattle.pp_terms.specs.Image.{StandsIn}
+use Rattle.pp_terms.specs.Image.{has_peaks, StandsIn}
 use Rattle.pp_terms.specs.Disk.{History, Throughout, moment_of}
 use Rattle.pp_scan.specs.Look.{synced}
 use Rattle.pp_scan.specs.Header.{HasHeader}
+use Rattle.pp_scan.specs.Holding.{is_there}
+use Rattle.pp_store.specs.declared.admitting.Put.{Put}
+use Rattle.pp_store.specs.declared.admitting.Put.TheVariants.{Stored, Held, Missing, Wrong, Length}
 use Rattle.pp_store.specs.Keep.{kept}
+use Rattle.pp_store.specs.Pairs.{HasItsPairs, PairsStand}
+use Rattle.pp_store.specs.Writes.{pairs_for, with_pairs}
 
--- The content's descriptor; of each chunk whether it is committed and whether it is pending; and whether the store may
--- still be used.
+-- The content's descriptor; of each chunk whether it is committed and whether it is pending; of each slot whether the
+-- pair in it is stored; and whether the store may still be used.
 pub record StoreState : Type 0 where
   pub descriptor : Descriptor
   pub committed : List Bool
   pub pending : List Bool
+  pub pairs : List Bool
   pub live : Bool
 
--- the sets are of the content's chunks
-pub record IsSized (d : Descriptor) (committed pending : List Bool) : Type 0 where
+-- chunk i is in one of the sets
+abbrev pub in_either : List Bool → List Bool → ℕ → Bool
+in_either committed pending i = slice_index_or committed i false || slice_index_or pending i false
+
+-- The sets are of the content's chunks and slots, and of each chunk that is held the pairs are stored.
+pub record IsSized (d : Descriptor) (committed pending pairs : List Bool) : Type 0 where
   pub committed_size : length committed ≡ chunks_of d
   pub pending_size : length pending ≡ chunks_of d
+  pub pairs_size : length pairs ≡ 2 * chunks_of d
+  pub supported : (i : ℕ) → in_either committed pending i ≡ true → HasItsPairs d pairs i
 
 -- An empty disk got the header; of any other what was written is on the disk.
 pub record IsOpened (d : Descriptor) (old new : History) : Type 0 where
@@ -33,3 +46,37 @@ AllStand d set h = (i : ℕ) → slice_index_or set i false ≡ true → Through
 -- What stands in every image that a crash may leave goes on standing.
 abbrev pub GoesOn : Descriptor → History → History → Type 0
 GoesOn d old new = (i : ℕ) → Throughout old (moment_of old) (λ image. StandsIn d image i) → Throughout new (moment_of old) (λ image. StandsIn d image i)
+
+-- whether chunk i is committed or pending
+abbrev pub is_held : StoreState → ℕ → Bool
+is_held s i = in_either s.committed s.pending i
+
+-- The store is what a file has: it begins with the header, zeros past its end, each chunk that is committed or pending is
+-- there with the digest of its leaf, and each stored pair stands there with the book's digests.
+pub record AgreesWith (s : StoreState) (book : LookUp) (reads : List ℕ) : Type 0 where
+  pub begins : HasHeader s.descriptor reads
+  pub chunks : (i : ℕ) → is_held s i ≡ true → is_there s.descriptor reads book i ≡ true
+  pub pairs_stand : PairsStand s.descriptor book s.pairs reads
+
+-- each chunk that is committed or pending stands in the file
+abbrev pub HoldsAll : StoreState → List ℕ → Type 0
+HoldsAll s reads = (i : ℕ) → is_held s i ≡ true → StandsIn s.descriptor reads i
+
+-- The store after an answer: a stored chunk is pending, and the pairs that it needs are stored.
+abbrev pub after_put : Put → ℕ → StoreState → StoreState
+after_put Stored i s = record s { pending = slice_set s.pending i true; pairs = with_pairs s.pairs (pairs_for s.descriptor i) }
+after_put Held i s = s
+after_put (Missing at) i s = s
+after_put (Wrong at found kept) i s = s
+after_put (Length found want) i s = s
+
+-- Each chunk that was pending is committed, and none is pending; all else stays.
+pub record HasCommitted (old new : StoreState) : Type 0 where
+  pub others : new ≡ record old { committed = new.committed; pending = replicate (chunks_of old.descriptor) false }
+  pub size : length new.committed ≡ length old.committed
+  pub each : (i : ℕ) → slice_index_or new.committed i false ≡ is_held old i
+
+-- The book has the leaf of each chunk that is committed or pending, and all peaks where there is one.
+pub record KnowsHeld (s : StoreState) (book : LookUp) : Type 0 where
+  pub leaf : (i : ℕ) → is_held s i ≡ true → is_some (book 0 i) ≡ true
+  pub peaks : (i : ℕ) → is_held s i ≡ true → has_peaks book (chunks_of s.descriptor) 21 ≡ true

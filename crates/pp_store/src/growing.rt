@@ -3,7 +3,7 @@ ghost use Rattle.std.specs.Prelude.{◌≡◌, ℕ, ◌+◌, ◌-◌, ◌*◌, �
 ghost use Rattle.sha2.specs.Sha256.{sha256};
 ghost use Rattle.pp_terms.specs.Content.{chunk_of, chunk_count, IsChunkSize};
 ghost use Rattle.pp_terms.specs.Tree.{root_of};
-ghost use Rattle.pp_terms.specs.Disk.{IsKnown};
+ghost use Rattle.pp_terms.specs.Disk.{IsKnown, DoesWrite};
 ghost use Rattle.pp_terms.specs.Store.{chunk_place};
 ghost use Rattle.pp_store.specs.Behind.{DoesBehind, DoesPut};
 ghost use Rattle.pp_store.specs.Growing.{IsPartial, IsCarrying, IsTail, IsTailing, IsBuilt, IsNext, chunks_in};
@@ -198,11 +198,27 @@ fn put_pair<D: Disk>(
     ensures put { DoesPut (D.state disk.old) (chunk_place chunk slot + chunk) (left.now ++ right.now) result (D.state disk.new) }
     ensures digest { IfOk result (λ above. above ≡ sha256 (left.now ++ right.now)) }
 {
-    let place = slot_place(chunk, slot) + u64::from(chunk);
-    match disk.write_at(place, &joined(left, right)) {
+    match write_pair(disk, chunk, slot, left, right) {
         Ok(()) => Ok(parent(left, right)),
         Err(fault) => Err(fault),
     }
+}
+
+/// Writes two children's digests behind the chunk of a slot.
+pub(crate) fn write_pair<D: Disk>(
+    disk: &mut D,
+    chunk: u32,
+    slot: u32,
+    left: &Digest,
+    right: &Digest,
+) -> Result<(), DiskFault>
+    requires size { chunk ≤ 8192 }
+    requires few { slot < 2 ^ 21 }
+    ensures written { DoesWrite (D.state disk.old) (chunk_place chunk slot + chunk) (left.now ++ right.now) result (D.state disk.new) }
+    ensures long { length (left.now ++ right.now) ≡ 64 }
+{
+    let place = slot_place(chunk, slot) + u64::from(chunk);
+    disk.write_at(place, &joined(left, right))
 }
 
 // The two digests, one behind the other.

@@ -1,6 +1,7 @@
 //! The store of one content on a disk: a header, the chunks, and the inner digests of their hash tree.
 #![tactic(auto)]
 
+mod admitting;
 mod durable;
 mod filling;
 mod findings;
@@ -9,9 +10,13 @@ mod importing;
 mod keeping;
 mod laws;
 mod leaves;
+mod pairing;
 mod probing;
 mod reading;
+#[cfg(test)]
+mod stopping;
 
+pub use admitting::Put;
 pub use findings::{Probe, ProbeFault};
 pub use importing::{ImportFault, import};
 pub use keeping::Store;

@@ -17,3 +17,4 @@ pub mod TwoChunks
 pub mod Digits
 pub mod TextPieces
 pub mod Packing
+pub mod Marking

@@ -94,13 +94,13 @@ bits_more count old new first last inside more i = ⊎_elim
     bit_past count new i ge ∙ sym (ap (λ (b : Bool). slice_index_or (bits_of count old) i false || b) out ∙ sym (or_none (slice_index_or (bits_of count old) i false)) ∙ bit_past count old i ge))
     (cases_lt i count)
 
-zero_at : (n k : ℕ) → slice_index (replicate n 0) k ≡ 0
+pub zero_at : (n k : ℕ) → slice_index (replicate n 0) k ≡ 0
 zero_at n k = ⊎_elim
     (λ lt. get_or-replicate n k 0 0 lt)
     (λ ge. get_or_past (replicate n 0) k 0 (let size : length {A = ℕ} (replicate n 0) ≡ n = length-replicate n 0 in omega (arith, size)))
     (cases_lt k n)
 
-no_bit : (n i : ℕ) → bit_of (replicate n 0) i ≡ false
+pub no_bit : (n i : ℕ) → bit_of (replicate n 0) i ≡ false
 no_bit n i = ap (λ (w : ℕ). bit_at w (i % 64) == 1) (zero_at n (i / 64)) ∙ ap (λ (b : ℕ). b == 1) (bit_at-zero (i % 64))
 
 -- words of zeros have no bit
@@ -190,7 +190,7 @@ full_bits words summary w i is full here =
     ∙ bit_at_ones 64 (i % 64) (omega arith))
 
 -- a bit of the rest of a word of the summary
-shifted : (v from j : ℕ) → bit_at (v / 2 ^ from) j ≡ bit_at v (from + j)
+pub shifted : (v from j : ℕ) → bit_at (v / 2 ^ from) j ≡ bit_at v (from + j)
 shifted v from j = ap (λ (q : ℕ). q % 2) (div-div-eq-div-mul v (2 ^ from) (2 ^ j) ∙ ap (λ (d : ℕ). v / d) (sym (pow-add 2 from j)))
 
 pub all_ones : (v from j : ℕ) → v ≡ 2 ^ 64 - 1 → j < 64 - from → bit_at (v / 2 ^ from) j ≡ 1

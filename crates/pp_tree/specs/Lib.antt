@@ -8,3 +8,4 @@ pub mod Scan
 pub mod Faults
 pub mod Bits
 pub mod Sets
+pub mod Marks

@@ -2,6 +2,7 @@
 ghost use Rattle.std.specs.Prelude.{◌≡◌, ◌≢◌, ℕ, ◌+◌, ◌*◌, ◌/◌, ◌^◌, ◌-◌, ◌<◌, ◌≤◌, ◌&&◌, ◌||◌, nat_le, nat_lt, true, false, replicate, length, slice_index, slice_set, slice_index_or, IfOk};
 ghost use Rattle.pp_tree.specs.Bits.{bit_of};
 
+use crate::words::zeros;
 use std::alloc::{AllocError, Global};
 use std::marker::Model;
 
@@ -24,12 +25,6 @@ impl Model for Bits {
     ghost view = { λ b. bits_of b.count b.words.items };
 
     ghost invariant = { λ b. IsPacked b.count b.words.items b.summary.items };
-}
-
-fn zeros(alloc: Global, count: usize) -> Result<Vec<u64>, AllocError>
-    ensures { IfOk result (λ words. words.items ≡ replicate count 0) }
-{
-    vec![in alloc; 0; count]
 }
 
 // The word whose bits are those from one place to another.

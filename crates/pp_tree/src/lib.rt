@@ -8,9 +8,11 @@ mod descriptor;
 mod digest;
 mod form;
 mod laws;
+mod members;
 mod node;
 mod set;
 mod text;
+mod words;
 
 pub use bits::Bits;
 pub use book::Book;

@@ -1,7 +1,8 @@
 // Sets of chunks.
-ghost use Rattle.std.specs.Prelude.{◌≡◌, ℕ, ◌<◌, ◌≤◌, true, false, replicate, length, count_by, slice_set, slice_index_or, IfOk, MatchOption};
+ghost use Rattle.std.specs.Prelude.{◌≡◌, ℕ, ◌<◌, ◌≤◌, true, false, replicate, length, count_by, slice_set, slice_index_or, IfOk, IsTrue, MatchOption};
 ghost use Rattle.pp_tree.specs.Sets.{is_in_all};
 
+use crate::members::Members;
 use std::alloc::{AllocError, Global};
 use std::marker::Model;
 
@@ -9,7 +10,7 @@ use std::marker::Model;
 /// in the set.
 #[derive(Drop)]
 pub struct ChunkSet {
-    held: Vec<bool>,
+    members: Members,
     count: u32,
 }
 
@@ -18,9 +19,9 @@ impl Model for ChunkSet {
 
     ghost Value = { List Bool };
 
-    ghost view = { λ s. s.held.items };
+    ghost view = { λ s. s.members };
 
-    ghost invariant = { λ s. (length s.held.items < 2 ^ 32) × (s.count ≡ count_by (λ b. b) s.held.items) };
+    ghost invariant = { λ s. (length s.members < 2 ^ 32) × (s.count ≡ count_by (λ b. b) s.members) };
 }
 
 impl ChunkSet {
@@ -28,18 +29,15 @@ impl ChunkSet {
     pub fn none(alloc: Global, chunks: u32) -> Result<ChunkSet, AllocError>
         ensures { IfOk result (λ set. set ≡ replicate chunks false) }
     {
-        let mut held = Vec::with_capacity(alloc, chunks as usize)?;
-        for _ in 0..chunks {
-            held.push(false)?;
-        }
-        Ok(ChunkSet { held, count: 0 })
+        let members = Members::none(alloc, chunks as usize)?;
+        Ok(ChunkSet { members, count: 0 })
     }
 
     pub fn contains(&self, i: u32) -> bool
         requires { i < length self.now }
         ensures { result ≡ slice_index_or self.now i false }
     {
-        self.held[i as usize]
+        self.members.contains(i as usize)
     }
 
     /// Adds a chunk, which may be there already.
@@ -49,7 +47,7 @@ impl ChunkSet {
     {
         if !self.contains(i) {
             self.count += 1;
-            self.held[i as usize] = true;
+            self.members.write(i as usize, true);
         }
     }
 
@@ -60,7 +58,7 @@ impl ChunkSet {
     {
         if self.contains(i) {
             self.count -= 1;
-            self.held[i as usize] = false;
+            self.members.write(i as usize, false);
         }
     }
 
@@ -71,18 +69,19 @@ impl ChunkSet {
         self.count
     }
 
+    fn is_empty(&self) -> bool
+        ensures { IsTrue result → (k : ℕ) → slice_index_or self.now k false ≡ false }
+    {
+        self.count == 0
+    }
+
     /// The least chunk that isn't in the set.
     pub fn first_absent(&self) -> Option<u32>
         ensures { MatchOption result ((k : ℕ) → k < length self.now → slice_index_or self.now k false ≡ true)
             (λ i. (i < length self.now) × (slice_index_or self.now i true ≡ false)
             × ((k : ℕ) → k < i → slice_index_or self.now k false ≡ true)) }
     {
-        for (i, held) in self.held.iter().enumerate() {
-            if !*held {
-                return Some(i as u32);
-            }
-        }
-        None
+        self.first_absent_from(0)
     }
 
     /// The least chunk from one on that is in the set.
@@ -91,12 +90,8 @@ impl ChunkSet {
             (λ i. (from ≤ i) × (i < length self.now) × (slice_index_or self.now i false ≡ true)
             × ((k : ℕ) → from ≤ k → k < i → slice_index_or self.now k false ≡ false)) }
     {
-        for i in from..self.held.len() as u32 {
-            if self.held[i as usize] {
-                return Some(i);
-            }
-        }
-        None
+        let i = self.members.first_from(from as usize)?;
+        Some(i as u32)
     }
 
     /// The least chunk from one on that isn't in the set.
@@ -105,12 +100,8 @@ impl ChunkSet {
             (λ i. (from ≤ i) × (i < length self.now) × (slice_index_or self.now i true ≡ false)
             × ((k : ℕ) → from ≤ k → k < i → slice_index_or self.now k false ≡ true)) }
     {
-        for i in from..self.held.len() as u32 {
-            if !self.held[i as usize] {
-                return Some(i);
-            }
-        }
-        None
+        let i = self.members.first_absent_from(from as usize)?;
+        Some(i as u32)
     }
 
     /// The least chunk that is in this set and in two others of the same content.
@@ -121,18 +112,71 @@ impl ChunkSet {
             (λ i. (i < length self.now) × (is_in_all self.now other.now third.now i ≡ true)
             × ((k : ℕ) → k < i → is_in_all self.now other.now third.now k ≡ false)) }
     {
-        for i in 0..self.held.len() as u32 {
-            if self.contains(i) && other.contains(i) && third.contains(i) {
-                return Some(i);
-            }
+        if self.is_empty() || other.is_empty() || third.is_empty() {
+            return None;
         }
-        None
+        let i = self.members.first_common(&other.members, &third.members)?;
+        Some(i as u32)
     }
 }
 
 #[cfg(test)]
 mod tests {
     use super::*;
+    use std::test::Fail;
+
+    // Of 5,000 chunks the first so many, and two more.
+    fn some(alloc: Global, first: u32) -> Result<ChunkSet, AllocError>
+        requires { first ≤ 5_000 }
+        ensures { IfOk result (λ set. length set ≡ 5_000) }
+    {
+        let mut set = ChunkSet::none(alloc, 5_000)?;
+        for i in 0..first {
+            set.insert(i);
+        }
+        set.insert(4_097);
+        set.insert(4_999);
+        Ok(set)
+    }
+
+    #[test]
+    fn finds_chunks_far_apart(rt: HostRuntime) -> Result<(), Fail> {
+        let mut set = some(rt.alloc(), 64)?;
+        assert_eq!(rt; (set.count(), set.first_absent()), (66, Some(64)));
+        assert_eq!(rt;
+            (set.first_from(63), set.first_from(64)),
+            (Some(63), Some(4_097))
+        );
+        assert_eq!(rt;
+            (set.first_from(4_098), set.first_from(5_000)),
+            (Some(4_999), None)
+        );
+        assert_eq!(rt;
+            (set.first_absent_from(0), set.first_absent_from(4_097)),
+            (Some(64), Some(4_098))
+        );
+        assert_eq!(rt;
+            (set.first_absent_from(4_999), set.first_absent_from(5_000)),
+            (None, None)
+        );
+        set.remove(4_097);
+        assert_eq!(rt; (set.first_from(64), set.count()), (Some(4_999), 65));
+        Ok(())
+    }
+
+    #[test]
+    fn finds_what_three_have(rt: HostRuntime) -> Result<(), Fail> {
+        let mut set = some(rt.alloc(), 64)?;
+        let other = some(rt.alloc(), 0)?;
+        let third = some(rt.alloc(), 5)?;
+        assert_eq!(rt; set.first_common(&other, &third), Some(4_097));
+        assert_eq!(rt; set.first_common(&third, &third), Some(0));
+        set.remove(4_097);
+        assert_eq!(rt; set.first_common(&other, &third), Some(4_999));
+        set.remove(4_999);
+        assert_eq!(rt; set.first_common(&other, &third), None);
+        Ok(())
+    }
 
     #[test]
     fn keeps_a_set(rt: HostRuntime) {

@@ -1,24 +1,16 @@
 // The store of 7,000 bytes in seven chunks of 1,024.
 use super::*;
+use crate::tests::generated;
 use pp_outside::{Call, DiskFault, LyingDisk, MemoryDisk, MemorySink, MemorySource, SinkFault};
 use pp_store::{ImportFault, import};
 use std::test::Fail;
-
-// 5, 12, 19 .., with a step more at each 256th
-fn content() -> [u8; 7000] {
-    let mut bytes = [0u8; 7000];
-    for (j, byte) in bytes.iter_mut().enumerate() {
-        *byte = ((5 + 7 * j + j / 256 + j / 65_536) % 256) as u8;
-    }
-    bytes
-}
 
 // A place in chunk 2.
 const IN_CHUNK_2: u64 = 64 + 2 * 1088 + 500;
 
 // Makes the content a store on an empty disk.
 fn store_on(disk: &mut MemoryDisk) -> Result<Descriptor, ImportFault> {
-    let content = content();
+    let content = generated();
     import(1024, &mut MemorySource::new(&content), disk)
 }
 
@@ -43,7 +35,7 @@ fn a_whole_store_gives_its_content(rt: HostRuntime) -> Result<(), Fail> {
     let descriptor = store_on(&mut disk)?;
     let exported = export_from(alloc, &descriptor, &mut disk);
     assert_eq!(rt; exported.status, Status::Done);
-    assert_eq!(rt; exported.sink.bytes(), content().as_slice());
+    assert_eq!(rt; exported.sink.bytes(), generated().as_slice());
     Ok(())
 }
 
@@ -73,7 +65,7 @@ fn a_lie_about_chunk_2_is_found_out(rt: HostRuntime) -> Result<(), Fail> {
         let mut disk = LyingDisk::new(inner, IN_CHUNK_2, 1, passed);
         let exported = export_from(alloc, &descriptor, &mut disk);
         assert_eq!(rt; exported.status, status, "with {passed}");
-        assert_eq!(rt; exported.sink.bytes(), &content()[..len], "with {passed}");
+        assert_eq!(rt; exported.sink.bytes(), &generated()[..len], "with {passed}");
     }
     Ok(())
 }
@@ -136,7 +128,7 @@ fn a_sink_that_refuses_has_what_it_took(rt: HostRuntime) -> Result<(), Fail> {
         assert_eq!(rt; answer, status, "after {left} writes");
         assert_eq!(rt;
             sink.inner.bytes(),
-            &content()[..len],
+            &generated()[..len],
             "after {left} writes"
         );
     }
@@ -208,7 +200,7 @@ impl Disk for StoppingDisk {
 #[test]
 fn a_disk_that_refuses_leaves_whole_chunks(rt: HostRuntime) -> Result<(), Fail> {
     let alloc = rt.alloc();
-    let content = content();
+    let content = generated();
     let mut last = 0;
     for left in 0..40 {
         let mut inner = MemoryDisk::new(alloc, &[])?;

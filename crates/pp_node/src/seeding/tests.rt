@@ -13,6 +13,7 @@ mod counting;
 mod cutting;
 mod methods;
 mod refusing;
+mod trees;
 
 // Version 1, least version 1, the root, integrity method 1, hash function 2, addressing method 2, the supported messages,
 // chunk size 1024, and the end.

@@ -10,10 +10,10 @@ returns-then-is_closing c =
 
 pub returns-else-is_closing : goal.returns-else-is_closing
 returns-else-is_closing c =
-    hears_on c.args.descriptor.now c.args.bytes.now c.args.at c.in-Message.next _ c.args.channel c.after_message.result c.args.counts c.counted.result c.chunks.result
+    hears_on c.args.descriptor.now c.args.bytes.now c.args.at c.in-Message.next _ c.args.channel c.hear_message-full.new.channel c.args.counts c.counted.result c.chunks-chunks.result c.hear_message-full.result
     (omega (arith, c.chunk.ensures.range)) (λ i. omega (arith, c.type_inv.bytes i)) c.requires
     (rw (c.method.ensures.method, c.chunk.ensures.chunk) at c.in-Message.ensures.exact) (sym c.is_closing.ensures ∙ c.if-is_closing.false)
-    c.chunks.ensures.chunks c.after_message.ensures c.counted.ensures
+    c.chunks-chunks.ensures.chunks c.hear_message-full.ensures.channel c.hear_message-full.ensures.full c.counted.ensures
 
 pub returns-in-End : goal.returns-in-End
 returns-in-End c =

@@ -1,8 +1,17 @@
-use Rattle.std.proofs.Common.{Bool, sym, subst}
-use Rattle.pp_core.specs.Serving.{Served}
+use Rattle.std.proofs.Common.{◌≡◌, ◌∙◌, ap, subst, sym, refl, arith, List}
+use Rattle.pp_terms.specs.Range.{Span}
+use Rattle.pp_core.proofs.Servings.{may_parts, left_fewer}
 use Rattle.pp_core.proofs.serving.serve.Goals as goal
 
+pub serve_held-requires-clause-flying : goal.serve_held-requires-clause-flying
+serve_held-requires-clause-flying g c = (may_parts c.args.channel c.requires.may).few
+
 pub returns-clause-served : goal.returns-clause-served
-returns-clause-served g c =
-    subst (λ (held : Bool). Served c.args.descriptor.now held c.args.now c.args.channel c.args.counts (g.D.Disk.state c.args.disk.now) (g.D.Disk.state c.serve_held.new.disk)
-    (g.L.Link.seen c.args.link.now) (g.L.Link.seen c.serve_held.new.link) c.serve_held.result) (sym c.if-not-held.false) c.serve_held.ensures.served
+returns-clause-served g c = record {
+  chunk = c.in-Some.i;
+  least = c.in-Some.ensures.least;
+  served = c.serve_held.ensures.served c.args.channel (ap (λ (xs : List Span). record c.args.channel { asked = xs }) c.in-Some.ensures.list);
+}
+
+pub returns-clause-fewer : goal.returns-clause-fewer
+returns-clause-fewer g c = left_fewer c.serve_held.result.channel _ _ c.serve_held.ensures.asked (c.in-Some.ensures.fewer refl)

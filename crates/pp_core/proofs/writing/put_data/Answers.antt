@@ -1,4 +1,5 @@
+use Rattle.std.proofs.Common.{subst}
 use Rattle.pp_core.proofs.writing.put_data.Goals as goal
 
 pub returns : goal.returns
-returns c = record { last = λ channel ms front. c.append.ensures.last channel ms front c.requires.most }
+returns c = record { last = λ channel ms front. rw c.from.ensures at (c.append.ensures.last channel ms front c.requires.most) }

@@ -10,6 +10,7 @@ returns-in-Ok-open-clause-opened g c = record {
   begun = c.in-Ok-open.ensures.begun;
   size = c.in-Ok-open.ensures.size;
   stands = c.in-Ok-open.ensures.stands;
+  there = λ known. c.in-Ok-open.ensures.there known;
   kept = λ known. c.in-Ok-open.ensures.kept known;
   begins = λ known. subst (λ (r : List ℕ). IsOf c.args.descriptor.now r) (sym ((c.open.ensures.disk.attachment known).found ∙ (c.requires.attached known).showed)) (c.requires.begins known);
   held = λ known i within. c.in-Ok-open.ensures.held known i within

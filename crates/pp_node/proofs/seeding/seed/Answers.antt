@@ -9,7 +9,7 @@ returns-in-Ok-clause-promises g c =
     turned_promises c.args.descriptor.now c.args.random c.args.turns (g.K.Sink.state c.args.sink.now) (g.K.Sink.state c.serve.new.sink) (g.D.Disk.state c.args.disk.now) (g.D.Disk.state c.serve.new.disk)
     (g.L.Link.seen c.args.link.now) (g.L.Link.seen c.serve.new.link) (entry c.serve.new.book)
     (λ known. lasts_same c.args.descriptor.now (g.D.Disk.state c.prepare.new.disk).history (g.D.Disk.state c.serve.new.disk).history c.serve.ensures.disk.same (c.prepare.ensures.lasts known))
-    c.serve.result (g.D.Disk.state c.prepare.new.disk) (g.L.Link.seen c.prepare.new.link) c.in-Ok.ready.peer (length c.in-Ok.ready.buffer.items) c.chunks.ensures.valid (rw c.serve.ensures.book c.in-Ok.ensures.prepared) c.prepare.ensures.unsent c.serve.ensures.serves
+    c.serve.result (g.D.Disk.state c.prepare.new.disk) (g.L.Link.seen c.prepare.new.link) c.in-Ok.ready.peer (length c.in-Ok.ready.buffer.items) (rw c.serve.ensures.book c.in-Ok.ensures.prepared) c.prepare.ensures.unsent (rw c.serve.ensures.book c.serve.ensures.serves)
 
 pub returns-in-Err-clause-promises : goal.returns-in-Err-clause-promises
 returns-in-Err-clause-promises g c =

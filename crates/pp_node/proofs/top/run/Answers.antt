@@ -29,21 +29,21 @@ returns-in-Ok-clause-export g c =
     (g.K.Sink.state c.args.sink.now) (g.K.Sink.state c.obey.new.sink) (g.D.Disk.state c.args.disk.now) (g.D.Disk.state c.obey.new.disk) (g.L.Link.seen c.args.link.now) (g.L.Link.seen c.obey.new.link)
     (entry c.args.book.now) (entry c.obey.new.book) c.in-Ok.ensures.ok.0 c.number.ensures c.obey.ensures.ended
 
--- words that are wrong spell no command that is built and served
+-- words that are wrong spell no command that is built
 pub returns-in-Err-clause-usage : goal.returns-in-Err-clause-usage
 returns-in-Err-clause-usage g c = (
-  λ is command one served spelled. none_spelled (texts c.args.words.now) (usage_of c.in-Err.usage) c.in-Err.ensures.err command one served spelled,
+  λ is command one spelled. none_spelled (texts c.args.words.now) (usage_of c.in-Err.usage) c.in-Err.ensures.err command one spelled,
   λ never. search rules,
 )
 
 pub returns-in-Err-clause-seed : goal.returns-in-Err-clause-seed
-returns-in-Err-clause-seed g c = λ store descriptor listen turns spelled one.
-    absurd (none_spelled (texts c.args.words.now) (usage_of c.in-Err.usage) c.in-Err.ensures.err (Seed store descriptor listen turns) refl one spelled)
+returns-in-Err-clause-seed g c = λ store descriptor listen turns spelled.
+    absurd (none_spelled (texts c.args.words.now) (usage_of c.in-Err.usage) c.in-Err.ensures.err (Seed store descriptor listen turns) refl spelled)
 
 pub returns-in-Err-clause-check : goal.returns-in-Err-clause-check
 returns-in-Err-clause-check g c = λ store descriptor spelled.
-    absurd (none_spelled (texts c.args.words.now) (usage_of c.in-Err.usage) c.in-Err.ensures.err (Check store descriptor) refl tt spelled)
+    absurd (none_spelled (texts c.args.words.now) (usage_of c.in-Err.usage) c.in-Err.ensures.err (Check store descriptor) refl spelled)
 
 pub returns-in-Err-clause-export : goal.returns-in-Err-clause-export
 returns-in-Err-clause-export g c = λ store descriptor spelled.
-    absurd (none_spelled (texts c.args.words.now) (usage_of c.in-Err.usage) c.in-Err.ensures.err (Export store descriptor) refl tt spelled)
+    absurd (none_spelled (texts c.args.words.now) (usage_of c.in-Err.usage) c.in-Err.ensures.err (Export store descriptor) refl spelled)

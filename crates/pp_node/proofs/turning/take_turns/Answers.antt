@@ -1,13 +1,17 @@
 use Rattle.std.proofs.Common.{refl, arith}
-use Rattle.pp_node.proofs.Turns.{turns_none, taken_more, all_taken}
+use Rattle.pp_tree.specs.Book.{entry}
+use Rattle.pp_node.proofs.Turns.{turns_none, taken_more, all_taken, paths_still}
 use Rattle.pp_node.proofs.turning.take_turns.Goals as goal
 
 pub loop-taken-init : goal.loop-taken-init
 loop-taken-init g c =
-    record { within = omega arith; took = turns_none (g.D.Disk.state c.args.disk.now) (g.L.Link.seen c.args.link.now) c.args.peer.now; live = c.requires.live; same = refl; buffer = c.requires.room }
+    record { within = omega arith; took = turns_none (entry c.args.book.now) (g.D.Disk.state c.args.disk.now) (g.L.Link.seen c.args.link.now) c.args.peer.now; live = c.requires.live; same = refl; buffer = c.requires.room }
 
 pub take_turn-requires-clause-live : goal.take_turn-requires-clause-live
 take_turn-requires-clause-live g c = c.loop-taken.invariant.live
+
+pub take_turn-requires-clause-paths : goal.take_turn-requires-clause-paths
+take_turn-requires-clause-paths g c = paths_still _ _ _ _ _ _ _ _ _ _ _ c.loop-taken.invariant c.requires.paths
 
 pub loop-taken-preserved : goal.loop-taken-preserved
 loop-taken-preserved g c =

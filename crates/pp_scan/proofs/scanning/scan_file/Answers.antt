@@ -1,5 +1,6 @@
 use Rattle.pp_tree.specs.Book.{entry}
-use Rattle.pp_scan.proofs.Finding.{found_after}
+use Rattle.pp_tree.proofs.Rootedness.{rooted_alone}
+use Rattle.pp_scan.proofs.Finding.{found_after, only_after}
 use Rattle.pp_scan.proofs.Holds.{root_known}
 use Rattle.pp_scan.proofs.scanning.scan_file.Goals as goal
 
@@ -10,3 +11,18 @@ returns-in-Ok-None-clause-found g c =
 
 pub returns-in-Ok-Some-clause-only : goal.returns-in-Ok-Some-clause-only
 returns-in-Ok-Some-clause-only g c known = root_known c.args.descriptor.now _ (entry c.args.book.now) c.requires.alone
+
+pub returns-in-Ok-None-clause-only : goal.returns-in-Ok-None-clause-only
+returns-in-Ok-None-clause-only g c =
+    only_after c.args.descriptor.now (g.D.Disk.state c.args.disk.now) (g.D.Disk.state c.header_difference.new.disk) (entry c.scan_tree.new.book) c.in-Ok-None.ensures.looks.keeps c.scan_tree.ensures.only
+
+pub returns-in-Ok-Some-clause-rooted : goal.returns-in-Ok-Some-clause-rooted
+returns-in-Ok-Some-clause-rooted g c =
+    rooted_alone c.args.descriptor.now (entry c.args.book.now) c.requires.valid.root_length c.requires.alone
+
+pub returns-in-Err-clause-rooted : goal.returns-in-Err-clause-rooted
+returns-in-Err-clause-rooted g c =
+    rooted_alone c.args.descriptor.now (entry c.args.book.now) c.requires.valid.root_length c.requires.alone
+
+pub returns-in-Err-clause-only : goal.returns-in-Err-clause-only
+returns-in-Err-clause-only g c known = root_known c.args.descriptor.now _ (entry c.args.book.now) c.requires.alone

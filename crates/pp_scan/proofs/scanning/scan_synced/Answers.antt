@@ -1,7 +1,9 @@
 use Rattle.std.proofs.Common.{sym, ◌∙◌}
 use Rattle.pp_tree.specs.Book.{entry}
+use Rattle.pp_tree.proofs.Rootedness.{rooted_alone}
 use Rattle.pp_scan.proofs.Reading.{len_keeps, no_bytes}
 use Rattle.pp_scan.proofs.Finding.{found_after, found_empty, only_after}
+use Rattle.pp_scan.proofs.Holds.{root_known}
 use Rattle.pp_scan.proofs.scanning.scan_synced.Goals as goal
 
 pub returns-in-Ok-eq0-clause-found : goal.returns-in-Ok-eq0-clause-found
@@ -17,3 +19,17 @@ returns-in-Ok-clause-found g c =
 pub returns-in-Ok-clause-only : goal.returns-in-Ok-clause-only
 returns-in-Ok-clause-only g c =
     only_after c.args.descriptor.now (g.D.Disk.state c.args.disk.now) (g.D.Disk.state c.len.new.self) (entry c.scan_file.new.book) (len_keeps _ _ _ c.len.ensures) c.scan_file.ensures.only
+
+pub returns-in-Ok-eq0-clause-rooted : goal.returns-in-Ok-eq0-clause-rooted
+returns-in-Ok-eq0-clause-rooted g c =
+    rooted_alone c.args.descriptor.now (entry c.args.book.now) c.requires.valid.root_length c.requires.alone
+
+pub returns-in-Ok-eq0-clause-only : goal.returns-in-Ok-eq0-clause-only
+returns-in-Ok-eq0-clause-only g c known = root_known c.args.descriptor.now _ (entry c.args.book.now) c.requires.alone
+
+pub returns-in-Err-clause-rooted : goal.returns-in-Err-clause-rooted
+returns-in-Err-clause-rooted g c =
+    rooted_alone c.args.descriptor.now (entry c.args.book.now) c.requires.valid.root_length c.requires.alone
+
+pub returns-in-Err-clause-only : goal.returns-in-Err-clause-only
+returns-in-Err-clause-only g c known = root_known c.args.descriptor.now _ (entry c.args.book.now) c.requires.alone

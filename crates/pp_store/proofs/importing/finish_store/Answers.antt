@@ -1,6 +1,6 @@
-use Rattle.std.proofs.Common.{◌≡◌, ℕ, ap, sym, ◌∙◌, arith}
+use Rattle.std.proofs.Common.{ℕ, ap, sym, ◌∙◌, arith}
 use Rattle.pp_terms.specs.Content.{chunk_count}
-use Rattle.pp_tree.proofs.Sizes.{chunk_size_range, chunk_count_range}
+use Rattle.pp_tree.proofs.Sizes.{chunk_size_range}
 use Rattle.pp_store.specs.Import.{unfinished}
 use Rattle.pp_store.proofs.Ends.{sealed_store, sealed_left, sealed_keeps}
 use Rattle.pp_store.proofs.importing.finish_store.Goals as goal

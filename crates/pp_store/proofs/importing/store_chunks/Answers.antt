@@ -1,4 +1,4 @@
-use Rattle.std.proofs.Common.{◌≡◌, ℕ, ◌*◌, ◌≤◌, Some, List, length, drop, arith, sym, ◌∙◌, ap, subst}
+use Rattle.std.proofs.Common.{ℕ, ◌≤◌, Some, length, drop, arith, sym, ◌∙◌, ap, subst}
 use Rattle.pp_store.specs.Growing.{IsPartial}
 use Rattle.pp_store.proofs.Writings.{keeps_same, keeps_more}
 use Rattle.pp_store.proofs.Ends.{round_first, round_more, round_low, round_last, round_counted, round_all, read_none, read_more, read_end, takes_read, takes_more, fault_later}

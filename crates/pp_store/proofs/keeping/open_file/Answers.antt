@@ -1,10 +1,9 @@
-use Rattle.std.proofs.Common.{ap}
-use Rattle.pp_terms.specs.Disk.{History}
 use Rattle.pp_tree.specs.Book.{entry}
 use Rattle.pp_tree.proofs.Rootedness.{rooted_alone}
 use Rattle.pp_terms.proofs.Knowing.{known_on}
 use Rattle.pp_scan.proofs.Reading.{len_keeps}
-use Rattle.pp_scan.proofs.Finding.{found_after}
+use Rattle.pp_scan.proofs.Finding.{found_after, only_after}
+use Rattle.pp_scan.proofs.Holds.{root_known}
 use Rattle.pp_store.proofs.Opening.{fresh_found, goes_on_same, goes_on_synced, goes_on_empty}
 use Rattle.pp_store.proofs.keeping.open_file.Goals as goal
 
@@ -38,3 +37,13 @@ returns-in-Ok-clause-goes_on g c known =
 pub returns-in-Err-clause-goes_on : goal.returns-in-Err-clause-goes_on
 returns-in-Err-clause-goes_on g c known =
     goes_on_same c.args.descriptor.now (g.D.Disk.state c.args.disk.now).history (g.D.Disk.state c.len.new.self).history c.len.ensures.same
+
+pub returns-in-Ok-eq0-clause-only : goal.returns-in-Ok-eq0-clause-only
+returns-in-Ok-eq0-clause-only g c known = root_known c.args.descriptor.now _ (entry c.args.book.now) c.requires.alone
+
+pub returns-in-Err-clause-only : goal.returns-in-Err-clause-only
+returns-in-Err-clause-only g c known = root_known c.args.descriptor.now _ (entry c.args.book.now) c.requires.alone
+
+pub returns-in-Ok-clause-only : goal.returns-in-Ok-clause-only
+returns-in-Ok-clause-only g c =
+    only_after c.args.descriptor.now (g.D.Disk.state c.args.disk.now) (g.D.Disk.state c.len.new.self) (entry c.scan_into.new.book) (len_keeps _ _ _ c.len.ensures) c.scan_into.ensures.only

@@ -1,7 +1,7 @@
-use Rattle.std.proofs.Common.{◌<◌, List, [], length, get_or, arith, refl}
+use Rattle.std.proofs.Common.{◌<◌, [], length, get_or, arith, refl}
 use Rattle.pp_tree.proofs.Layers.{default_in}
 use Rattle.pp_store.proofs.Writings.{keeps_more, does_later, does_fault}
-use Rattle.pp_store.proofs.Carrying.{carry_low, carry_up, carry_slot, carry_end}
+use Rattle.pp_store.proofs.Carrying.{carry_low, carry_up, carry_end}
 use Rattle.pp_store.proofs.Layering.{carry_put}
 use Rattle.pp_store.proofs.growing.GrowingTree.carry.Goals as goal
 

@@ -1,4 +1,4 @@
-use Rattle.std.proofs.Common.{◌≡◌, ℕ, ◌<◌, ◌^◌, List}
+use Rattle.std.proofs.Common.{ℕ, List}
 use Rattle.pp_store.specs.Behind.{KeepsBehind}
 use Rattle.pp_store.specs.Growing.{IsCarry, IsCarrying}
 use Rattle.pp_store.proofs.growing.GrowingTree.carry.Given as goal

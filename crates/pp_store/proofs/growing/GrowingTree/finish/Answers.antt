@@ -1,6 +1,6 @@
-use Rattle.std.proofs.Common.{◌<◌, List, [], inl, inr, length, get_or, arith, refl, ◌∙◌}
+use Rattle.std.proofs.Common.{◌<◌, [], inl, inr, length, arith, refl, ◌∙◌}
 use Rattle.pp_tree.proofs.Layers.{default_in, zeros_empty}
-use Rattle.pp_store.proofs.Writings.{keeps_same, keeps_more, does_later}
+use Rattle.pp_store.proofs.Writings.{keeps_same, keeps_more}
 use Rattle.pp_store.proofs.Tails.{tail_first, tail_up, tail_low, tail_start, tail_built, tail_root}
 use Rattle.pp_store.proofs.growing.GrowingTree.finish.Goals as goal
 

@@ -1,4 +1,4 @@
-use Rattle.std.proofs.Common.{◌≡◌, ℕ, ◌<◌, ◌-◌, ◌^◌, List}
+use Rattle.std.proofs.Common.{◌≡◌, ℕ, ◌-◌, List}
 use Rattle.pp_store.specs.Behind.{KeepsBehind}
 use Rattle.pp_store.specs.Growing.{IsPartial, IsTail, IsTailing, chunks_in}
 use Rattle.pp_store.proofs.growing.GrowingTree.finish.Given as goal

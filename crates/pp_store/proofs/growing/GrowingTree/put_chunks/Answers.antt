@@ -1,4 +1,4 @@
-use Rattle.std.proofs.Common.{◌≡◌, ℕ, ◌+◌, ◌-◌, ◌*◌, ◌<◌, List, [], length, take, drop, arith, sym, ◌∙◌, ap, subst}
+use Rattle.std.proofs.Common.{◌≡◌, ℕ, ◌-◌, ◌*◌, ◌<◌, List, [], length, take, drop, arith, sym, ◌∙◌, ap, subst}
 use Rattle.sha2.specs.Sha256.{sha256}
 use Rattle.pp_terms.specs.Content.{chunk_of}
 use Rattle.pp_tree.proofs.Sizes.{chunk_size_range}

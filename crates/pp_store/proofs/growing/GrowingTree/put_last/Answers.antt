@@ -1,4 +1,4 @@
-use Rattle.std.proofs.Common.{◌<◌, List, [], length, get_or, arith, ◌∙◌}
+use Rattle.std.proofs.Common.{◌<◌, [], length, get_or, arith, ◌∙◌}
 use Rattle.pp_tree.proofs.Layers.{zeros_empty, default_in}
 use Rattle.pp_store.proofs.Tails.{tail_low, tail_none}
 use Rattle.pp_store.proofs.Layering.{last_odd, last_even}

@@ -1,0 +1,11 @@
+use Rattle.std.proofs.Common.{◌∙◌, ap, refl}
+use Rattle.std.specs.Prelude.{position}
+use Rattle.pp_channels.specs.Timing.{is_over}
+use Rattle.pp_channels.proofs.Seating.{found_used}
+use Rattle.pp_channels.proofs.channels.Channels.expired.Goals as goal
+
+pub returns-clause-used : goal.returns-clause-used
+returns-clause-used c =
+    found_used (is_over c.args.now) c.args.self.now c.self.inside.seats.items c.seat_of.result refl c.self.invariant
+    (ap (λ s. s.channels) c.self.view_is)
+    (c.seat_of.ensures ∙ c.first_over.ensures.place ∙ ap (position (is_over c.args.now)) c.deref.ensures.value)

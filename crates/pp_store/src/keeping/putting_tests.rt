@@ -1,0 +1,232 @@
+// Chunks that are put, crashes, and what is held afterwards.
+ghost use Rattle.std.specs.Prelude.{◌≡◌, IfOk};
+ghost use Rattle.pp_terms.specs.Content.{IsChunkSize};
+ghost use Rattle.pp_terms.specs.Book.{IsRooted};
+ghost use Rattle.pp_terms.specs.Descriptor.{chunks_of};
+ghost use Rattle.pp_tree.specs.Book.{entry, HasRootAlone};
+
+use super::*;
+use crate::importing::import;
+use crate::stopping::StoppingDisk;
+use pp_outside::{MemoryDisk, MemorySource};
+use pp_tree::{Node, peaks};
+use std::test::Fail;
+
+// A content and the book of a store of all of it.
+#[derive(Drop)]
+struct Swarm {
+    descriptor: Descriptor,
+    known: Book,
+}
+
+// byte j of each content: 5, 12, 19 .., with a step more at each 256th
+fn byte(j: u32) -> u8 {
+    let j = u64::from(j);
+    ((5 + 7 * j + j / 256 + j / 65_536) % 256) as u8
+}
+
+fn make_swarm(alloc: Global, chunk: u32, size: usize) -> Result<Swarm, Fail>
+    requires { IsChunkSize chunk }
+{
+    let mut content = [0u8; 17_920];
+    for (j, byte_j) in content.iter_mut().enumerate() {
+        *byte_j = byte(j as u32);
+    }
+    let size = size.min(content.len());
+    let mut disk = MemoryDisk::new(alloc, &[])?;
+    let descriptor = import(chunk, &mut MemorySource::new(&content[..size]), &mut disk)?;
+    let mut known = Book::empty(alloc);
+    known.prepare(alloc, &descriptor)?;
+    let _ = Store::open(alloc, &descriptor, &mut disk, &mut known)?;
+    Ok(Swarm { descriptor, known })
+}
+
+// 7,000 bytes in chunks of 1,024
+fn seven_chunks(alloc: Global) -> Result<Swarm, Fail> {
+    make_swarm(alloc, 1024, 7000)
+}
+
+// 17,920 bytes in chunks of 256
+fn seventy_chunks(alloc: Global) -> Result<Swarm, Fail> {
+    make_swarm(alloc, 256, 17_920)
+}
+
+// What proves a chunk: the peaks, and the siblings on its way.
+fn claims_of(alloc: Global, swarm: &Swarm, i: u32) -> Result<Claims, Fail> {
+    let mut claims = Claims::new(alloc)?;
+    claim(&mut claims, swarm, &peaks(swarm.descriptor.chunks()));
+    for layer in 0..swarm.descriptor.height() {
+        let offset = (i >> layer) ^ 1;
+        claim(&mut claims, swarm, &[Node { layer, offset }]);
+    }
+    Ok(claims)
+}
+
+fn claim(claims: &mut Claims, swarm: &Swarm, nodes: &[Node]) {
+    for node in nodes {
+        if let Some(digest) = swarm.known.get(*node) {
+            claims.add(*node, digest);
+        }
+    }
+}
+
+// Puts chunk i, with what proves it; None where the disk refused a call.
+fn put_chunk<D: Disk>(
+    alloc: Global,
+    swarm: &Swarm,
+    i: u32,
+    store: &mut Store,
+    book: &mut Book,
+    disk: &mut D,
+) -> Result<Option<Put>, Fail>
+    requires same { store.old.descriptor ≡ swarm.now.descriptor }
+    requires rooted { IsRooted store.old.descriptor (entry book.old) }
+    ensures same { store.new.descriptor ≡ store.old.descriptor }
+    ensures rooted { IsRooted store.old.descriptor (entry book.new) }
+{
+    if !store.is_live() || i >= swarm.descriptor.chunks() {
+        return Err("not to be put".into());
+    }
+    let mut bytes = [0u8; 1024];
+    let first = i % 100 * (swarm.descriptor.chunk() % 10_000);
+    for (at, byte_at) in bytes.iter_mut().enumerate() {
+        *byte_at = byte(first + at as u32);
+    }
+    let len = (swarm.descriptor.chunk_len(i) as usize).min(1024);
+    let claims = claims_of(alloc, swarm, i)?;
+    Ok(store.put(i, &bytes[..len], &claims, book, disk).ok())
+}
+
+// Puts the first chunks in falling order, so many of them, and commits after every second one where it is to. Answers
+// whether the disk refused no call.
+fn put_all<D: Disk>(
+    alloc: Global,
+    swarm: &Swarm,
+    count: u32,
+    commits: bool,
+    store: &mut Store,
+    book: &mut Book,
+    disk: &mut D,
+) -> Result<bool, Fail>
+    requires same { store.old.descriptor ≡ swarm.now.descriptor }
+    requires rooted { IsRooted store.old.descriptor (entry book.old) }
+{
+    let mut i = count;
+    while i > 0 {
+        i -= 1;
+        if put_chunk(alloc, swarm, i, store, book, disk)?.is_none() {
+            return Ok(false);
+        }
+        if commits && i % 2 == 0 && store.is_live() && store.commit(disk).is_err() {
+            return Ok(false);
+        }
+    }
+    Ok(true)
+}
+
+fn prepared(alloc: Global, descriptor: &Descriptor) -> Result<Book, Fail>
+    ensures alone { IfOk result (λ book. HasRootAlone descriptor.now (entry book)) }
+    ensures chunks { IfOk result (λ book. book.chunks ≡ chunks_of descriptor.now) }
+{
+    let mut book = Book::empty(alloc);
+    book.prepare(alloc, descriptor)?;
+    Ok(book)
+}
+
+#[test]
+fn a_chunk_is_stored_once(rt: HostRuntime) -> Result<(), Fail> {
+    let alloc = rt.alloc();
+    let swarm = seven_chunks(alloc)?;
+    let mut disk = MemoryDisk::new(alloc, &[])?;
+    let mut book = prepared(alloc, &swarm.descriptor)?;
+    let mut store = Store::open(alloc, &swarm.descriptor, &mut disk, &mut book)?;
+    let put = put_chunk(alloc, &swarm, 0, &mut store, &mut book, &mut disk)?;
+    assert_eq!(rt; put, Some(Put::Stored));
+    // The chunk, three pairs on its way, and two of nodes that aren't full: (1,3) and (2,1).
+    assert_eq!(rt; disk.bytes().len(), 7680);
+    assert_eq!(rt; (store.pending(), store.committed().count()), (1, 0));
+    let put = put_chunk(alloc, &swarm, 0, &mut store, &mut book, &mut disk)?;
+    assert_eq!(rt; put, Some(Put::Held));
+    assert!(rt; store.is_live());
+    store.commit(&mut disk)?;
+    assert_eq!(rt; (store.pending(), store.committed().count()), (0, 1));
+    Ok(())
+}
+
+#[test]
+fn a_crash_loses_what_is_pending(rt: HostRuntime) -> Result<(), Fail> {
+    let alloc = rt.alloc();
+    let swarm = seven_chunks(alloc)?;
+    let mut disk = MemoryDisk::new(alloc, &[])?;
+    let mut book = prepared(alloc, &swarm.descriptor)?;
+    let mut store = Store::open(alloc, &swarm.descriptor, &mut disk, &mut book)?;
+    put_chunk(alloc, &swarm, 0, &mut store, &mut book, &mut disk)?;
+    disk.crash(2);
+    let mut book = prepared(alloc, &swarm.descriptor)?;
+    let mut store = Store::open(alloc, &swarm.descriptor, &mut disk, &mut book)?;
+    assert_eq!(rt; store.committed().count(), 0);
+    let put = put_chunk(alloc, &swarm, 0, &mut store, &mut book, &mut disk)?;
+    assert_eq!(rt; put, Some(Put::Stored));
+    Ok(())
+}
+
+// Refuses the call after so many, crashes with the pick and opens again: answers whether all was put. What was committed
+// is to be held.
+fn survives(alloc: Global, swarm: &Swarm, calls: u32, pick: u64) -> Result<bool, Fail> {
+    let mut disk = MemoryDisk::new(alloc, &[])?;
+    let mut book = prepared(alloc, &swarm.descriptor)?;
+    let mut store = Store::open(alloc, &swarm.descriptor, &mut disk, &mut book)?;
+    let mut disk = StoppingDisk {
+        inner: disk,
+        left: calls,
+    };
+    let done = put_all(alloc, swarm, 7, true, &mut store, &mut book, &mut disk)?;
+    if store.is_live() != done {
+        return Err("live after a refusal".into());
+    }
+    disk.inner.crash(pick);
+    let mut book = prepared(alloc, &swarm.descriptor)?;
+    let again = Store::open(alloc, &swarm.descriptor, &mut disk.inner, &mut book)?;
+    for i in 0..7 {
+        if store.committed().first_from(i) == Some(i)
+            && again.committed().first_from(i) != Some(i)
+        {
+            return Err("a chunk that was committed is lost".into());
+        }
+    }
+    Ok(done)
+}
+
+// Seven chunks, seven pairs and four syncs are 18 calls.
+#[test]
+fn what_was_committed_is_held(rt: HostRuntime) -> Result<(), Fail> {
+    let swarm = seven_chunks(rt.alloc())?;
+    for calls in 0..20 {
+        for pick in 0..6 {
+            let done = survives(rt.alloc(), &swarm, calls, pick)?;
+            assert_eq!(rt; done, calls >= 18, "{calls} calls, pick {pick}");
+        }
+    }
+    Ok(())
+}
+
+#[test]
+fn one_sync_commits_many(rt: HostRuntime) -> Result<(), Fail> {
+    let alloc = rt.alloc();
+    let swarm = seventy_chunks(alloc)?;
+    let mut disk = MemoryDisk::new(alloc, &[])?;
+    let mut book = prepared(alloc, &swarm.descriptor)?;
+    let mut store = Store::open(alloc, &swarm.descriptor, &mut disk, &mut book)?;
+    let before = disk.moment();
+    let done = put_all(alloc, &swarm, 64, false, &mut store, &mut book, &mut disk)?;
+    assert!(rt; done);
+    assert_eq!(rt; (store.pending(), disk.moment()), (64, before));
+    assert!(rt; store.is_live());
+    store.commit(&mut disk)?;
+    assert_eq!(rt; disk.moment(), before + 1);
+    assert_eq!(rt; (store.pending(), store.committed().count()), (0, 64));
+    assert!(rt; store.is_live());
+    store.commit(&mut disk)?;
+    assert_eq!(rt; disk.moment(), before + 1);
+    Ok(())
+}

@@ -1,0 +1,10 @@
+-- No bit is set in all three from the place on up to the one that is looked at.
+use Rattle.std.proofs.Common.{◌≡◌, ℕ, ◌+◌, ◌*◌, ◌<◌, ◌≤◌, ◌&&◌, false}
+use Rattle.pp_tree.specs.Bits.{bit_of}
+use Rattle.pp_tree.proofs.words.next_common.Given as goal
+
+abbrev pub invariant-loop-w : goal.invariant-loop-w
+invariant-loop-w l =
+    (l.place < 64)
+    × (l.from ≤ 64 * l.w + l.place)
+    × ((k : ℕ) → l.from ≤ k → k < 64 * l.w + l.place → (bit_of l.words k && (bit_of l.other k && bit_of l.third k)) ≡ false)
