@@ -38,23 +38,12 @@ pub struct Life {
     pub opening: usize,
 }
 
-/// Whether two addresses are one.
-pub(crate) fn is_same(a: Address, b: Address) -> bool
-    ensures { result ≡ terms.same_address (address_of a) (address_of b) }
-{
-    match (a, b) {
-        (Address::V4(a, p), Address::V4(b, q)) => a == b && p == q,
-        (Address::V6(a, p), Address::V6(b, q)) => a == b && p == q,
-        _ => false,
-    }
-}
-
 /// Whether it is a datagram that came from the address.
 pub(crate) fn comes_from<'m>(address: Address, entry: &'m Entry<'m>) -> bool
     ensures { result ≡ terms.comes_from (address_of address) (record_of entry.now) }
 {
     match *entry {
-        Entry::Received { from, .. } => is_same(from, address),
+        Entry::Received { from, .. } => from.is_same(address),
         Entry::Quiet { .. } | Entry::Sent { .. } => false,
     }
 }
@@ -64,7 +53,7 @@ pub(crate) fn goes_to<'m>(address: Address, entry: &'m Entry<'m>) -> bool
     ensures { result ≡ terms.goes_to (address_of address) (record_of entry.now) }
 {
     match *entry {
-        Entry::Sent { to, .. } => is_same(to, address),
+        Entry::Sent { to, .. } => to.is_same(address),
         Entry::Quiet { .. } | Entry::Received { .. } => false,
     }
 }

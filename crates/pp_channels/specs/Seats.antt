@@ -2,8 +2,7 @@
 use Rattle.std.specs.Prelude.{◌≡◌, ℕ, ◌+◌, ◌<◌, ◌==◌, min, Bool, true, false, not, ◌&&◌, ◌||◌, if◌then◌else◌, Option, Some, None, IsSome, IfSome, is_none, option_map, unwrap_or, List, length, map, find, position, slice_index_or, slice_set}
 use Rattle.std.specs.List.{list_any, range_with_len}
 use Rattle.rand_chacha.specs.ChaCha.{ChaCha, next_word}
-use Rattle.pp_traffic.specs.Past.{same_address}
-use Rattle.pp_outside.specs.Outside.{address_of}
+use Rattle.pp_outside.specs.Outside.{is_same}
 use Rattle.pp_outside.specs.declared.link.Address.{Address}
 use Rattle.pp_channels.specs.declared.channel.State.TheVariants.{Greeted}
 use Rattle.pp_channels.specs.declared.channel.Opening.{Opening}
@@ -33,10 +32,6 @@ IsUsedSeat s seat = (seat < 64) × IsUsed s seat
 -- all are in use
 abbrev pub IsFull : Seats → Type 0
 IsFull s = (seat : ℕ) → seat < 64 → IsUsed s seat
-
--- one address
-abbrev pub is_same : Address → Address → Bool
-is_same a b = same_address (address_of a) (address_of b)
 
 -- ---- what one seat has
 

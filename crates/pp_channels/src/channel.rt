@@ -1,7 +1,7 @@
 //! One channel.
 
 ghost use Rattle.std.specs.Prelude.{◌≡◌};
-ghost use Rattle.pp_channels.specs.Seats.{answered, dialled, is_same, is_dialled, with_handshake, unreplied};
+ghost use Rattle.pp_channels.specs.Seats.{answered, dialled, is_dialled, with_handshake, unreplied};
 
 use pp_outside::Address;
 
@@ -109,16 +109,5 @@ impl Channel {
             wrote: now,
             shadowed: false,
         }
-    }
-}
-
-/// Whether two addresses are one.
-pub(crate) fn is_same(a: Address, b: Address) -> bool
-    ensures { result ≡ is_same a b }
-{
-    match (a, b) {
-        (Address::V4(a, p), Address::V4(b, q)) => a == b && p == q,
-        (Address::V6(a, p), Address::V6(b, q)) => a == b && p == q,
-        _ => false,
     }
 }

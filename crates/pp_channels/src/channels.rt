@@ -7,7 +7,7 @@ ghost use Rattle.pp_channels.specs.Seats.{Seats, AreSeats, channel_at, IsUsed, I
 ghost use Rattle.pp_channels.specs.Timing.{handshake_due, is_silent, is_over};
 ghost use Rattle.pp_channels.specs.declared.channel.State.TheVariants.{Proven};
 
-use crate::channel::{Channel, State, is_same};
+use crate::channel::{Channel, State};
 use crate::numbers::draw;
 use crate::places::{first_found, first_free, first_over, first_source, seat_of};
 use crate::timing::{handshake_due, is_over, is_silent};
@@ -51,7 +51,7 @@ fn after_drop(channel: Option<Channel>, dropped: Channel) -> Option<Channel>
 {
     match channel {
         Some(channel) => Some(Channel {
-            shadowed: channel.shadowed || is_same(dropped.address, channel.address),
+            shadowed: channel.shadowed || dropped.address.is_same(channel.address),
             ..channel
         }),
         None => None,

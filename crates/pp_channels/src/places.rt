@@ -5,7 +5,7 @@ ghost use Rattle.std.specs.Option.{ForSome};
 ghost use Rattle.pp_channels.specs.Seats.{is_found, is_source};
 ghost use Rattle.pp_channels.specs.Timing.{is_over};
 
-use crate::channel::{Channel, is_same};
+use crate::channel::Channel;
 use crate::timing::is_over;
 use pp_outside::Address;
 
@@ -24,7 +24,7 @@ fn is_found(channel: Option<Channel>, local: u32, from: Address) -> bool
     ensures { result ≡ is_found local from channel }
 {
     match channel {
-        Some(channel) => channel.local == local && is_same(channel.address, from),
+        Some(channel) => channel.local == local && channel.address.is_same(from),
         None => false,
     }
 }
@@ -33,7 +33,7 @@ fn is_source(channel: Option<Channel>, from: Address, source: u32) -> bool
     ensures { result ≡ is_source from source channel }
 {
     match channel {
-        Some(channel) => channel.remote == Some(source) && is_same(channel.address, from),
+        Some(channel) => channel.remote == Some(source) && channel.address.is_same(from),
         None => false,
     }
 }

@@ -5,13 +5,13 @@ use Rattle.std.specs.Prelude.{MatchOption}
 use Rattle.std.specs.Int.{w32, from_be_bytes}
 use Rattle.rand_chacha.specs.ChaCha.{ChaCha, next_word}
 use Rattle.pp_terms.specs.Traffic as traffic
-use Rattle.pp_terms.specs.Traffic.{Record, Received, Sent}
+use Rattle.pp_terms.specs.Traffic.{Record, Received, Sent, same_address}
 use Rattle.pp_terms.specs.Descriptor.{Descriptor, chunks_of}
 use Rattle.pp_terms.specs.Options.{Options}
 use Rattle.pp_terms.specs.Range as range
 use Rattle.pp_terms.specs.Range.{IsRunsFrom, has}
 use Rattle.pp_terms.specs.Messages.{Message, Handshake, Data, Ack, Have, Integrity, Pex4, PexReq, Request, Cancel, Choke, Unchoke, Pex6, WireKind, Messages, Datagram, datagram, messages_at}
-use Rattle.pp_traffic.specs.Past.{now, read, same_address, comes_from, goes_to, is_event, is_number, some_since, is_at, EachRecord}
+use Rattle.pp_traffic.specs.Past.{now, read, comes_from, goes_to, is_event, is_number, some_since, is_at, EachRecord}
 use Rattle.pp_traffic.specs.Life.{Life, greets, answers, comes_on, closes_on, closes, is_closed, fits, begins_fitting}
 use Rattle.pp_traffic.specs.Story.{Line, Heard, Said, Taken, hear, heard_in, told, story}
 use Rattle.pp_traffic.specs.Plain.{IsPlainNow}

@@ -15,3 +15,4 @@ pub mod Sends
 pub mod Relations
 pub mod Prompts
 pub mod Counted
+pub mod Staying

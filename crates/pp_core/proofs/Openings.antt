@@ -4,11 +4,11 @@ use Rattle.std.proofs.lemmas.Bool.{and_parts, and_from, or_cases, or_left, or_ri
 use Rattle.std.specs.Prelude.{MatchOption}
 use Rattle.rand_chacha.specs.ChaCha.{ChaCha, next_word}
 use Rattle.pp_terms.specs.Traffic as traffic
-use Rattle.pp_terms.specs.Traffic.{Record, Received}
+use Rattle.pp_terms.specs.Traffic.{Record, Received, same_address}
 use Rattle.pp_terms.specs.Descriptor.{Descriptor, chunks_of}
 use Rattle.pp_terms.specs.Options.{Options}
 use Rattle.pp_terms.specs.Messages.{Message, Handshake, Data, Ack, Have, Integrity, Pex4, PexReq, Request, Cancel, Choke, Unchoke, Pex6, WireKind, Messages, datagram}
-use Rattle.pp_traffic.specs.Past.{now, read, same_address, comes_from, is_number, some_since, is_at}
+use Rattle.pp_traffic.specs.Past.{now, read, comes_from, is_number, some_since, is_at}
 use Rattle.pp_traffic.specs.Life.{Life, greets, comes_on, shakes_on, closes_on, is_closed, fits, begins_fitting}
 use Rattle.pp_traffic.specs.Story.{Line, Heard, Said, Taken, hear, heard_in, told, story}
 use Rattle.pp_traffic.specs.Life.{answers}

@@ -7,10 +7,10 @@ use Rattle.std.proofs.Math.Seq.{take-length}
 use Rattle.rand_chacha.specs.ChaCha.{ChaCha, next_word}
 use Rattle.pp_terms.specs.Book.{LookUp}
 use Rattle.pp_terms.specs.Traffic as traffic
-use Rattle.pp_terms.specs.Traffic.{Record, Received, Sent}
+use Rattle.pp_terms.specs.Traffic.{Record, Received, Sent, same_address}
 use Rattle.pp_terms.specs.Descriptor.{Descriptor, chunks_of}
 use Rattle.pp_terms.specs.Messages.{Message, Handshake, Data, Ack, Have, Integrity, Pex4, PexReq, Request, Cancel, Choke, Unchoke, Pex6, WireKind, Messages, Datagram, datagram}
-use Rattle.pp_traffic.specs.Past.{read, goes_to, comes_from, is_number, same_address, is_event, some_since, is_at}
+use Rattle.pp_traffic.specs.Past.{read, goes_to, comes_from, is_number, is_event, some_since, is_at}
 use Rattle.pp_traffic.specs.Life.{Life, greets, answers, begins, begins_as, begins_fitting, fits}
 use Rattle.pp_traffic.specs.Story.{story}
 use Rattle.pp_traffic.specs.Asking.{asked, is_heard}

@@ -5,12 +5,12 @@ use Rattle.std.specs.List.{AllByRecursion, list_any}
 use Rattle.std.proofs.lemmas.Bool.{and_parts, and_from, and_left, and_right, ltb-true, eq-eqb, or_left, or_right}
 use Rattle.pp_terms.specs.Book.{LookUp}
 use Rattle.pp_terms.specs.Count.{HasRisen}
-use Rattle.pp_terms.specs.Traffic.{LinkState, Record, Sent, GainsRecords}
+use Rattle.pp_terms.specs.Traffic.{LinkState, Record, Sent, GainsRecords, same_address}
 use Rattle.pp_terms.specs.Descriptor.{Descriptor}
 use Rattle.pp_terms.specs.Disk.{DiskState, History, IsKnown, moment_of}
 use Rattle.pp_terms.specs.Messages.{Message, Datagram, datagram}
 use Rattle.pp_terms.proofs.Knowing.{known_on}
-use Rattle.pp_traffic.specs.Past.{read, goes_to, is_number, same_address, is_event}
+use Rattle.pp_traffic.specs.Past.{read, goes_to, is_number, is_event}
 use Rattle.pp_traffic.specs.Life.{begins_as}
 use Rattle.pp_outside.specs.Outside.{address_of}
 use Rattle.pp_terms.specs.Range.{has}

@@ -3,10 +3,10 @@ use Rattle.std.proofs.Common.{◌≡◌, ◌⊎◌, inl, inr, ⊎_elim, ℕ, zer
 use Rattle.std.proofs.lemmas.Bool.{and_parts, and_from, or_cases, or_left, or_right, or_parts, or_from, and_left, and_right, cases_Bool, both_ways, cond-true, cond-false, not-true, not-false, not_from_true, not_from_false, le-leb, lt-leb, le-ltb, lt-ltb, eqb-true, eqb-false, eq-eqb, ne_eqb, false_from_ne_true}
 use Rattle.std.specs.Cmp.Lexicographic.{pointwise, same_text, other_text}
 use Rattle.std.specs.Prelude.{MatchOption, nat_eq}
-use Rattle.pp_terms.specs.Traffic.{Address, V4, V6, Record, Received, Quiet, Sent}
+use Rattle.pp_terms.specs.Traffic.{Address, V4, V6, Record, Received, Quiet, Sent, same_address}
 use Rattle.pp_terms.specs.Descriptor.{Descriptor, chunks_of}
 use Rattle.pp_terms.specs.Messages.{Message, Handshake, Messages}
-use Rattle.pp_traffic.specs.Past.{now, read, same_address, comes_from, goes_to, is_event, is_number, some_since, is_at, EachRecord}
+use Rattle.pp_traffic.specs.Past.{now, read, comes_from, goes_to, is_event, is_number, some_since, is_at, EachRecord}
 use Rattle.pp_traffic.specs.Life.{Life, IsLife, greets, answers, comes_on, shakes_on, closes_on, is_closed, fits, begins_fitting}
 use Rattle.pp_traffic.specs.Story.{Line, Heard, Said, Taken, hear, heard_in, told, story}
 use Rattle.pp_traffic.specs.Asking.{choked, asked, is_heard}

@@ -5,13 +5,13 @@ use Rattle.std.proofs.lemmas.List.{append_assoc}
 use Rattle.std.specs.Prelude.{MatchOption, slice_index_or}
 use Rattle.std.specs.List.{AllByRecursion, list_all, list_any}
 use Rattle.pp_terms.specs.Traffic as traffic
-use Rattle.pp_terms.specs.Traffic.{Record, Sent}
+use Rattle.pp_terms.specs.Traffic.{Record, Sent, same_address}
 use Rattle.pp_terms.specs.Tree.{Node}
 use Rattle.pp_terms.specs.Range.{has}
 use Rattle.pp_terms.specs.Descriptor.{Descriptor, Method, IsDescriptor, chunks_of}
 use Rattle.pp_terms.specs.Book.{LookUp}
 use Rattle.pp_terms.specs.Messages.{Span, Message, Handshake, Data, Have, Integrity, Datagram, datagram}
-use Rattle.pp_traffic.specs.Past.{now, read, same_address, goes_to, is_number, some_since, is_at, EachRecord}
+use Rattle.pp_traffic.specs.Past.{now, read, goes_to, is_number, some_since, is_at, EachRecord}
 use Rattle.pp_traffic.specs.Life.{Life, IsLife, answers, comes_on, closes_on, begins_as}
 use Rattle.pp_traffic.specs.Story.{Line, Heard, Said, Taken, say, said_in, told, story, behind}
 use Rattle.pp_traffic.specs.Asking.{covers, choked, asked, is_heard}

@@ -4,7 +4,7 @@ use Rattle.rand_chacha.specs.ChaCha.{ChaCha, next_word}
 use Rattle.pp_terms.specs.Descriptor.{Descriptor, chunks_of}
 use Rattle.pp_terms.specs.Options.{Options}
 use Rattle.pp_terms.specs.Messages.{Message, Handshake, Data, Ack, Have, Integrity, Pex4, PexReq, Request, Cancel, Choke, Unchoke, Pex6, WireKind, UnknownType, Short, Range, Wide, InOptions, Messages, Datagram, datagram}
-use Rattle.pp_traffic.specs.Past.{same_address}
+use Rattle.pp_terms.specs.Traffic.{same_address}
 use Rattle.pp_traffic.specs.Life.{fits}
 use Rattle.pp_outside.specs.Outside.{address_of}
 use Rattle.pp_outside.specs.declared.link.Address.{Address}

@@ -5,11 +5,9 @@ ghost use Rattle.std.specs.Int.{w32, from_be_bytes};
 ghost use Rattle.rand_chacha.specs.ChaCha.{next_word};
 ghost use Rattle.pp_terms.specs.Descriptor.{chunks_of};
 ghost use Rattle.pp_terms.specs.Messages.{messages_at};
-ghost use Rattle.pp_traffic.specs.Past.{same_address};
 ghost use Rattle.pp_traffic.specs.Life.{fits};
 ghost use Rattle.pp_options.specs.Views.{options_of};
 ghost use Rattle.pp_wire.specs.Views.{kind_of};
-ghost use Rattle.pp_outside.specs.Outside.{address_of};
 ghost use Rattle.pp_core.specs.Taking.{is_short, is_stranger, is_refused, is_unseated, is_kept_alive, is_own, take_own, take_numbered, number_from, opened_by, is_again, greet_fitting, greet, greet_nothing, take_greeting, take_datagram, Taken};
 
 use crate::channel::Channel;
@@ -70,26 +68,16 @@ fn kept_alive(counts: Counts) -> Counts
     }
 }
 
-fn is_same(a: Address, b: Address) -> bool
-    ensures { result ≡ same_address (address_of a) (address_of b) }
-{
-    match (a, b) {
-        (Address::V4(a, p), Address::V4(b, q)) => a == b && p == q,
-        (Address::V6(a, p), Address::V6(b, q)) => a == b && p == q,
-        _ => false,
-    }
-}
-
 fn is_own(number: u32, from: Address, channel: &Channel) -> bool
     ensures { result ≡ is_own number from channel.now }
 {
-    channel.local == number && is_same(from, channel.address)
+    channel.local == number && from.is_same(channel.address)
 }
 
 fn is_again(from: Address, source: u32, channel: &Channel) -> bool
     ensures { result ≡ is_again from source channel.now }
 {
-    channel.remote == source && is_same(from, channel.address)
+    channel.remote == source && from.is_same(channel.address)
 }
 
 // A datagram on its channel.

@@ -1,6 +1,7 @@
-ghost use Rattle.std.specs.Prelude.{◌≡◌};
-ghost use Rattle.pp_tree.specs.Book.{empty_book};
+ghost use Rattle.std.specs.Prelude.{◌≡◌, IfOk};
+ghost use Rattle.pp_tree.specs.Book.{empty_book, entry};
 ghost use Rattle.pp_outside.specs.Arrivals.{IsEvent};
+ghost use Rattle.pp_core.specs.Serving.{HasPaths};
 
 // The store of `abc` in chunks of 1,024 bytes, and a peer with a seed of zeros. By the first test vector of ChaCha20
 // (RFC 8439, appendix A.1) the keystream begins with 76 b8 e0 ad: its first channel has the number ade0b876.
@@ -87,22 +88,20 @@ struct Scene {
 
 fn open(alloc: Global, disk: &mut MemoryDisk, book: &mut Book) -> Result<Peer, OpenFault>
     requires { book.old ≡ empty_book }
+    ensures { IfOk result (λ p. HasPaths p.descriptor p.committed (entry book.new)) }
 {
-    match Descriptor::new(Digest::new(ROOT), 1024, 3, Method::Range32) {
-        Ok(descriptor) if descriptor.chunks() == 1 => Peer::open(
-            alloc,
-            &descriptor,
-            [0; 32],
-            disk,
-            book,
-        ),
-        _ => Err(OpenFault::Memory),
-    }
+    let Ok(descriptor) = Descriptor::new(Digest::new(ROOT), 1024, 3, Method::Range32) else {
+        return Err(OpenFault::Memory);
+    };
+    let peer = Peer::open(alloc, &descriptor, [0; 32], disk, book)?;
+    Ok(peer)
 }
 
 impl Scene {
     // The peer of a disk with this image.
-    fn over(alloc: Global, image: &[u8]) -> Result<Scene, Fail> {
+    fn over(alloc: Global, image: &[u8]) -> Result<Scene, Fail>
+        ensures { IfOk result (λ s. HasPaths s.peer.descriptor s.peer.committed (entry s.book)) }
+    {
         let mut disk = MemoryDisk::new(alloc, image)?;
         let mut book = Book::empty(alloc);
         let peer = open(alloc, &mut disk, &mut book)?;
@@ -117,14 +116,19 @@ impl Scene {
     }
 
     // The peer of the store of `abc`, which was greeted.
-    fn greeted(alloc: Global) -> Result<Scene, Fail> {
+    fn greeted(alloc: Global) -> Result<Scene, Fail>
+        ensures { IfOk result (λ s. HasPaths s.peer.descriptor s.peer.committed (entry s.book)) }
+    {
         let mut scene = Scene::over(alloc, &STORE)?;
         scene.hear(PEER, &[&GREETING, &OPTIONS])?;
         Ok(scene)
     }
 
     // A turn with a datagram, at moment 7.
-    fn hear(&mut self, from: Address, parts: &[&[u8]]) -> Result<(), Fail> {
+    fn hear(&mut self, from: Address, parts: &[&[u8]]) -> Result<(), Fail>
+        requires { HasPaths self.old.peer.descriptor self.old.peer.committed (entry self.old.book) }
+        ensures { HasPaths self.new.peer.descriptor self.new.peer.committed (entry self.new.book) }
+    {
         let bytes = joined(self.alloc, parts)?;
         let event = Event::Datagram {
             from,
@@ -138,7 +142,9 @@ impl Scene {
     }
 
     fn turn(&mut self, event: &Event, bytes: &[u8]) -> Result<(), Fail>
-        requires { IsEvent event.now bytes.now }
+        requires event { IsEvent event.now bytes.now }
+        requires paths { HasPaths self.old.peer.descriptor self.old.peer.committed (entry self.old.book) }
+        ensures { HasPaths self.new.peer.descriptor self.new.peer.committed (entry self.new.book) }
     {
         if !self.peer.is_live() {
             return Err("not live".into());

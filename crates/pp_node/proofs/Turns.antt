@@ -28,6 +28,7 @@ use Rattle.pp_core.proofs.Counted.{CountsTurn, event_counted, event_refusals, re
 use Rattle.pp_core.proofs.Prompts.{lets_event, serves_turn}
 use Rattle.pp_core.proofs.Relations.{gains_twice, gains_nothing, all_both, reads_twice}
 use Rattle.pp_core.proofs.Servings.{reads_nothing}
+use Rattle.pp_core.proofs.Staying.{event_descriptor, event_committed, paths_kept}
 use Rattle.pp_core.proofs.Turning.{stands_event, stands_refused}
 use Rattle.pp_node.specs.Turning.{Flushes, Waits, took, missed, TakesTurn, waits, IsCalm, IsSmooth, ServesHeld, TakesTurns}
 
@@ -97,14 +98,6 @@ record Took (seen mid : LinkState) (s taken : State) : Type 1 where
       → AllByRecursion (λ r. is_event r ≡ false) sent → OwesNone taken ⊎ (list_any (replies_on taken.descriptor taken.channel) sent ≡ true)
       → LetsInFirst s.descriptor (sent ++ (came ++ past))
   ends : (P : List Record → Type 0) (past : List Record) → IsCalm seen.faults mid.faults → P past → AtTurnEndsBut 0 P past → AtTurnEndsBut 0 P (came ++ past)
-
-event_descriptor : (s : State) (event : Event) (bytes : List ℕ) → (after_event s event bytes).descriptor ≡ s.descriptor
-event_descriptor s (Datagram sender len at) bytes = refl
-event_descriptor s (Quiet at) bytes = refl
-
-event_committed : (s : State) (event : Event) (bytes : List ℕ) → (after_event s event bytes).committed ≡ s.committed
-event_committed s (Datagram sender len at) bytes = refl
-event_committed s (Quiet at) bytes = refl
 
 event_waits : (event : Event) (bytes : List ℕ) (past : List Record) → waits (record_of event bytes ∷ past) + 0 ≡ waits past + 1
 event_waits (Datagram sender len at) bytes past = omega arith
@@ -334,18 +327,12 @@ pub record HasTaken (taken turns : ℕ) (disk disk' : DiskState) (seen seen' : L
 -- the book still has what the peer needs
 pub paths_still : (taken turns : ℕ) (disk disk' : DiskState) (seen seen' : LinkState) (s new : State) (book book' : BookState) (room : ℕ) → HasTaken taken turns disk disk' seen seen' s new book book' room
     → HasPaths s.descriptor s.committed (entry book) → HasPaths new.descriptor new.committed (entry book')
-paths_still taken turns disk disk' seen seen' s new book book' room h paths =
-    subst (λ (x : BookState). HasPaths new.descriptor new.committed (entry x)) (sym h.same)
-    (subst (λ (d : Descriptor). HasPaths d new.committed (entry book)) (sym h.took.descriptor)
-    (subst (λ (set : List Bool). HasPaths s.descriptor set (entry book)) (sym h.took.committed) paths))
+paths_still taken turns disk disk' seen seen' s new book book' room h = paths_kept s new book book' h.took.descriptor h.took.committed h.same
 
 -- and after a wait
 pub paths_waited : (seen mid : LinkState) (s taken : State) (book book' : BookState) → Waits seen mid s taken → book' ≡ book → HasPaths s.descriptor s.committed (entry book) → HasPaths taken.descriptor taken.committed (entry book')
-paths_waited seen mid s taken book book' waited same paths =
-    let w = took_wait seen mid s taken waited in
-    subst (λ (x : BookState). HasPaths taken.descriptor taken.committed (entry x)) (sym same)
-    (subst (λ (d : Descriptor). HasPaths d taken.committed (entry book)) (sym w.descriptor)
-    (subst (λ (set : List Bool). HasPaths s.descriptor set (entry book)) (sym w.committed) paths))
+paths_waited seen mid s taken book book' waited =
+    let w = took_wait seen mid s taken waited in paths_kept s taken book book' w.descriptor w.committed
 
 pub taken_more : (taken turns : ℕ) (disk half disk' : DiskState) (seen seen1 seen' : LinkState) (s t u : State) (book book1 book' : BookState) (room room' : ℕ)
     → HasTaken taken turns disk half seen seen1 s t book book1 room → taken < turns → TakesTurn (entry book1) half disk' seen1 seen' t u → u.is_live ≡ true → book' ≡ book1 → room' ≡ room

@@ -1,5 +1,5 @@
 -- What the calls of a link mean, in the words on traffic.
-use Rattle.std.specs.Prelude.{◌≡◌, ℕ, ◌+◌, ◌-◌, ◌^◌, ◌≤◌, min, [], ◌∷◌, List, length, take, Result, IfOk, OnOk, OnErr}
+use Rattle.std.specs.Prelude.{◌≡◌, ℕ, ◌+◌, ◌-◌, ◌^◌, ◌≤◌, min, Bool, [], ◌∷◌, List, length, take, Result, IfOk, OnOk, OnErr}
 use Rattle.pp_terms.specs.Count.{HasCause}
 use Rattle.pp_terms.specs.Traffic as traffic
 use Rattle.pp_terms.specs.Traffic.{Record, Received, Sent, LinkState, GainsRecords}
@@ -12,6 +12,10 @@ use Rattle.pp_outside.specs.declared.link.Event.TheVariants.{Datagram, Quiet}
 abbrev pub address_of : Address → traffic.Address
 address_of (V4 bytes port) = traffic.V4 bytes port
 address_of (V6 bytes port) = traffic.V6 bytes port
+
+-- one address
+abbrev pub is_same : Address → Address → Bool
+is_same a b = traffic.same_address (address_of a) (address_of b)
 
 -- the record of an event, with the buffer that it came in
 abbrev pub record_of : Event → List ℕ → Record

@@ -12,6 +12,22 @@ pub enum Address {
     V6([u8; 16], u16),
 }
 
+impl Address {
+    ghost use Rattle.pp_terms.specs.Traffic.{same_address};
+    ghost use Rattle.pp_outside.specs.Outside.{address_of};
+
+    /// Whether two addresses are one: of the same family, with the same bytes and the same port.
+    pub fn is_same(self, other: Address) -> bool
+        ensures { result ≡ same_address (address_of self) (address_of other) }
+    {
+        match (self, other) {
+            (Address::V4(a, p), Address::V4(b, q)) => a == b && p == q,
+            (Address::V6(a, p), Address::V6(b, q)) => a == b && p == q,
+            _ => false,
+        }
+    }
+}
+
 /// The IPv4 address of zeros with port 0, which is no peer's.
 impl Default for Address {
     ghost use Rattle.std.specs.Prelude.{[], ◌∷◌};

@@ -7,4 +7,3 @@ pub mod Verdicts
 pub mod SettledPeaks
 pub mod ProvenChunks
 pub mod ProvenClashes
-pub mod EndNodes

@@ -7,10 +7,11 @@ use Rattle.std.proofs.lemmas.Bool.{and_parts, and_from, or_parts, or_from, cases
 use Rattle.std.proofs.lemmas.List.Quantifiers.{position-Some}
 use Rattle.std.proofs.lemmas.Bool.Decides.{nat_tests}
 use Rattle.std.proofs.lemmas.List.Sums.{fails_before_first}
+use Rattle.pp_outside.specs.Outside.{is_same}
 use Rattle.pp_outside.specs.declared.link.Address.{Address}
 use Rattle.pp_outside.specs.declared.link.Address.TheVariants.{V4, V6}
 use Rattle.pp_pex.specs.declared.table.Contact.{Contact}
-use Rattle.pp_pex.specs.Exchange.{is_same, is_in, IsOnce, addresses, contact_of, place_of, Hears, is_told, answers, port_of, HavePorts, is_ignored, suggested}
+use Rattle.pp_pex.specs.Exchange.{is_in, IsOnce, addresses, contact_of, place_of, Hears, is_told, answers, port_of, HavePorts, is_ignored, suggested}
 
 -- ---- addresses
 

@@ -2,8 +2,7 @@
 -- microseconds.
 use Rattle.std.specs.Prelude.{◌≡◌, ◌⊎◌, ℕ, ◌-◌, ◌<◌, ◌≤◌, ◌==◌, ◌&&◌, ◌||◌, nat_lt, nat_le, not, Bool, false, cond, Option, Some, None, IfSome, List, [], ◌∷◌, ◌++◌, length, map, take, position, slice_get, slice_set}
 use Rattle.std.specs.List.{filter, list_any}
-use Rattle.pp_traffic.specs.Past.{same_address}
-use Rattle.pp_outside.specs.Outside.{address_of}
+use Rattle.pp_outside.specs.Outside.{is_same}
 use Rattle.pp_outside.specs.declared.link.Address.{Address}
 use Rattle.pp_outside.specs.declared.link.Address.TheVariants.{V4, V6}
 use Rattle.pp_pex.specs.declared.table.Contact.{Contact}
@@ -12,10 +11,6 @@ use Rattle.pp_pex.specs.declared.table.Contact.{Contact}
 pub record Exchange : Type 0 where
   pub table : List Contact
   pub queue : List Address
-
--- one address
-abbrev pub is_same : Address → Address → Bool
-is_same a b = same_address (address_of a) (address_of b)
 
 -- an address is in a list
 abbrev pub is_in : List Address → Address → Bool

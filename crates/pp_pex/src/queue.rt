@@ -2,7 +2,6 @@
 ghost use Rattle.std.specs.Prelude.{◌≡◌, ℕ, ◌++◌, [], ◌∷◌, MatchOption};
 ghost use Rattle.pp_pex.specs.Exchange.{is_in, port_of, suggested};
 
-use crate::table::is_same;
 use arrayvec::ArrayVec;
 use pp_outside::Address;
 
@@ -20,7 +19,7 @@ fn port_of(address: Address) -> u16
 fn contains(queue: &[Address], address: Address) -> bool
     ensures { result ≡ is_in queue.now address }
 {
-    queue.iter().any(|other| is_same(*other, address))
+    queue.iter().any(|other| other.is_same(address))
 }
 
 /// Puts an address behind the others, but one with port 0, one that is there already, and any while 64 are there.

@@ -1,6 +1,6 @@
 // The table of the addresses that were heard.
 ghost use Rattle.std.specs.Prelude.{◌≡◌, ℕ, ◌<◌, ◌++◌, [], ◌∷◌, length, take, if◌then◌else◌};
-ghost use Rattle.pp_pex.specs.Exchange.{is_same, place_of, IsOldest, Hears, is_told, answers};
+ghost use Rattle.pp_pex.specs.Exchange.{place_of, IsOldest, Hears, is_told, answers};
 
 use arrayvec::ArrayVec;
 use pp_outside::Address;
@@ -21,24 +21,13 @@ pub struct Contact {
     pub moment: u64,
 }
 
-/// Whether two addresses are one.
-pub(crate) fn is_same(a: Address, b: Address) -> bool
-    ensures { result ≡ is_same a b }
-{
-    match (a, b) {
-        (Address::V4(a, p), Address::V4(b, q)) => a == b && p == q,
-        (Address::V6(a, p), Address::V6(b, q)) => a == b && p == q,
-        _ => false,
-    }
-}
-
 /// The place of an address.
 pub(crate) fn place_of(table: &[Contact], address: Address) -> Option<usize>
     ensures { result ≡ place_of table.now address }
 {
     table
         .iter()
-        .position(|contact| is_same(contact.address, address))
+        .position(|contact| contact.address.is_same(address))
 }
 
 /// The place of the one that was heard longest ago, the earliest of those that were heard at one moment.
@@ -78,7 +67,7 @@ pub(crate) fn hear(table: &mut ArrayVec<Contact, MOST_HEARD>, address: Address, 
 fn is_told(contact: Contact, asker: Address, now: u64) -> bool
     ensures { result ≡ is_told asker now contact }
 {
-    now.saturating_sub(contact.moment) < LATELY && !is_same(contact.address, asker)
+    now.saturating_sub(contact.moment) < LATELY && !contact.address.is_same(asker)
 }
 
 // Tells a contact too, where it is to be told and there is room.

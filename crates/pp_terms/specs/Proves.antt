@@ -1,6 +1,6 @@
 -- When digests prove a chunk (RFC 7574, sections 5.2 and 5.6): they lead from the chunk up to its peak, and from the peaks to
 -- the root.
-use Rattle.std.specs.Prelude.{◌≡◌, ℕ, zero, suc, ◌+◌, ◌-◌, ◌*◌, ◌/◌, ◌%◌, ◌^◌, ◌<◌, ◌==◌, nat_lt, cond, Option, Some, None, is_none, option_and_then, List, ◌++◌, length}
+use Rattle.std.specs.Prelude.{◌≡◌, ℕ, zero, suc, ◌+◌, ◌-◌, ◌*◌, ◌/◌, ◌%◌, ◌^◌, ◌==◌, nat_lt, cond, Option, Some, None, is_none, option_and_then, List, ◌++◌, length}
 use Rattle.std.specs.List.{find}
 use Rattle.std.specs.Int.{w32, trailing_zeros}
 use Rattle.sha2.specs.Sha256.{sha256}

@@ -1,10 +1,18 @@
 -- The datagrams of one link, as plain data (RFC 7574, section 8: UDP encapsulation).
-use Rattle.std.specs.Prelude.{◌≡◌, ℕ, Option, Some, None, List, ◌++◌}
+use Rattle.std.specs.Prelude.{◌≡◌, ℕ, ◌==◌, nat_eq, Bool, false, ◌&&◌, Option, Some, None, List, ◌++◌}
+use Rattle.std.specs.Cmp.Lexicographic.{pointwise}
 
 -- An IPv4 address of 4 bytes or an IPv6 address of 16, and a port.
 pub data Address : Type 0 where
   V4 : (bytes : List ℕ) (port : ℕ) → Address
   V6 : (bytes : List ℕ) (port : ℕ) → Address
+
+-- one address: of one family, with the same bytes and the same port
+abbrev pub same_address : Address → Address → Bool
+same_address (V4 a p) (V4 b q) = pointwise nat_eq a b && p == q
+same_address (V4 a p) (V6 b q) = false
+same_address (V6 a p) (V4 b q) = false
+same_address (V6 a p) (V6 b q) = pointwise nat_eq a b && p == q
 
 -- One record: a datagram that came, a wait in which none came, both at a moment of the link in microseconds; or a
 -- datagram that was sent, with the disk's moment then.

@@ -1,10 +1,10 @@
 -- Requests and chokes in words by places.
-use Rattle.std.proofs.Common.{◌≡◌, ◌≢◌, ◌⊎◌, inl, inr, ⊎_elim, ℕ, ◌+◌, ◌<◌, ◌≤◌, eqb, Bool, true, false, not, ◌&&◌, ◌||◌, List, [], ◌∷◌, ◌++◌, length, refl, sym, ◌∙◌, ap, subst, arith}
-use Rattle.std.proofs.lemmas.Bool.{and_parts, and_from, or_cases, or_left, or_right, not-true, not_from_false, eqb-false, ne_eqb, cases_Bool, both_ways}
+use Rattle.std.proofs.Common.{◌≡◌, ⊎_elim, ℕ, eqb, true, not, ◌&&◌, List, [], ◌∷◌, ◌++◌, refl, sym, ap, subst}
+use Rattle.std.proofs.lemmas.Bool.{and_parts, and_from, or_cases, or_left, or_right, not-true, not_from_false, eqb-false, ne_eqb}
 use Rattle.std.specs.List.{AllByRecursion}
-use Rattle.pp_terms.specs.Messages.{Span, Message, Handshake, Data, Ack, Have, Integrity, Pex4, PexReq, Request, Cancel, Choke, Unchoke, Pex6}
+use Rattle.pp_terms.specs.Messages.{Span, Handshake, Data, Ack, Have, Integrity, Pex4, PexReq, Request, Cancel, Choke, Unchoke, Pex6}
 use Rattle.pp_traffic.specs.Story.{Line, Heard, Said, Taken}
-use Rattle.pp_traffic.specs.Asking.{covers, choked, asked, asked_by, asked_after, choked_by}
+use Rattle.pp_traffic.specs.Asking.{covers, choked, asked}
 use Rattle.pp_traffic.specs.Places.{LeavesOpen, IsAskedByPlaces, LeavesChoked, IsChokedByPlaces, AskedByPlaces, ChokedByPlaces}
 
 -- a line that leaves a request open, before an older one

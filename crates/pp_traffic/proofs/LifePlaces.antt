@@ -1,12 +1,12 @@
 -- Lives in words by places.
-use Rattle.std.proofs.Common.{◌≡◌, ◌⊎◌, inl, inr, ⊎_elim, ℕ, zero, suc, ◌+◌, ◌<◌, ◌≤◌, ltb, leb, Bool, true, false, not, ◌&&◌, ◌||◌, List, [], ◌∷◌, ◌++◌, length, refl, sym, ◌∙◌, ap, subst, arith}
-use Rattle.std.proofs.lemmas.Bool.{and_parts, and_from, or_cases, or_left, or_right, or_parts, or_from, and_cases, not-false, not-true, lt-ltb, ltb-true, cases_Bool, both_ways, false_from_ne_true}
+use Rattle.std.proofs.Common.{◌≡◌, ⊎_elim, ◌<◌, ltb, true, false, not, ◌&&◌, ◌||◌, List, [], ◌∷◌, ◌++◌, length, refl, ap, subst}
+use Rattle.std.proofs.lemmas.Bool.{and_parts, and_from, or_cases, or_parts, or_from, and_cases, not-false, not-true, lt-ltb, ltb-true, both_ways, false_from_ne_true}
 use Rattle.pp_terms.specs.Traffic.{Record}
 use Rattle.pp_terms.specs.Descriptor.{Descriptor}
-use Rattle.pp_traffic.specs.Past.{some_since, is_at}
+use Rattle.pp_traffic.specs.Past.{some_since}
 use Rattle.pp_traffic.specs.Life.{Life, IsLife, greets, answers, shakes_on, closes_on, is_closed}
-use Rattle.pp_traffic.specs.Places.{Stands, StandsFrom, IsLifeByPlaces, LivesByPlaces}
-use Rattle.pp_traffic.proofs.Standing.{found_since, stands_since, found_at, stands_at, none_since, stands_none}
+use Rattle.pp_traffic.specs.Places.{StandsFrom, IsLifeByPlaces, LivesByPlaces}
+use Rattle.pp_traffic.proofs.Standing.{found_since, stands_since, found_at, stands_at, stands_none}
 
 abbrev Excused : Descriptor → Life → Record → List Record → Type 0
 Excused d life r before = (life.is_dialled ≡ true) × (shakes_on d life r ≡ false) × (StandsFrom (shakes_on d life) life.opening before → ⊥)

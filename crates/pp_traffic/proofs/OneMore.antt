@@ -1,14 +1,12 @@
 -- What one record more does.
-use Rattle.std.proofs.Common.{◌≡◌, ◌⊎◌, inl, inr, ⊎_elim, ℕ, zero, suc, ◌+◌, ◌<◌, ◌≤◌, max, ltb, leb, eqb, Bool, true, false, cond, not, ◌&&◌, ◌||◌, List, [], ◌∷◌, ◌++◌, length, refl, sym, ◌∙◌, ap, subst, arith}
-use Rattle.std.proofs.lemmas.Bool.{and_parts, and_from, or_cases, or_left, or_right, or_parts, or_from, le-leb, lt-leb, eqb-true, ne_eqb, eq-eqb, and_left, and_right, cases_Bool}
+use Rattle.std.proofs.Common.{◌≡◌, ℕ, ◌<◌, ◌≤◌, ltb, leb, eqb, Bool, true, false, not, ◌&&◌, ◌||◌, List, [], ◌∷◌, length, refl, ap, arith}
+use Rattle.std.proofs.lemmas.Bool.{or_right, or_from, le-leb, lt-leb, ne_eqb, eq-eqb, and_left, and_right}
 use Rattle.std.proofs.lemmas.List.{length-append}
-use Rattle.pp_terms.specs.Traffic.{Address, Record, Received, Quiet, Sent}
+use Rattle.pp_terms.specs.Traffic.{Record, Received, Quiet, Sent}
 use Rattle.pp_terms.specs.Descriptor.{Descriptor}
-use Rattle.pp_terms.specs.Tree.{Node}
-use Rattle.pp_terms.specs.Messages.{Message}
 use Rattle.pp_traffic.specs.Past.{now, some_since, is_at}
-use Rattle.pp_traffic.specs.Life.{Life, IsLife, greets, answers, comes_on, shakes_on, closes_on, is_closed}
-use Rattle.pp_traffic.specs.Story.{Line, Heard, Said, Taken, hear, say, heard_in, said_in, told, story}
+use Rattle.pp_traffic.specs.Life.{Life, greets, answers, shakes_on, closes_on, is_closed}
+use Rattle.pp_traffic.specs.Story.{Heard, Said, Taken, told, story}
 use Rattle.pp_traffic.specs.Hashes.{is_told, told_by}
 use Rattle.pp_traffic.specs.Laws.{LivesStay, LivesBegan, StoriesGrow, ToldStays}
 use Rattle.pp_traffic.proofs.Standing.{found_at}

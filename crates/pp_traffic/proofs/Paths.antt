@@ -1,12 +1,12 @@
 -- Complete paths: they stay complete with more hashes, and a plan completes one.
-use Rattle.std.proofs.Common.{◌≡◌, ◌⊎◌, inl, inr, ⊎_elim, ℕ, zero, suc, ◌+◌, ◌-◌, ◌*◌, ◌/◌, ◌%◌, ◌^◌, ◌<◌, ◌≤◌, eqb, Bool, true, false, cond, not, ◌&&◌, ◌||◌, List, [], ◌∷◌, ◌++◌, refl, sym, ◌∙◌, ap, subst, arith, add-one, pow-suc}
-use Rattle.std.proofs.lemmas.Bool.{and_parts, and_from, or_cases, or_left, or_right, or_parts, or_from, not-true, not_from_false, cases_Bool, cases_eq, cases_lt, both_ways, cond-true, cond-false, eq-eqb, false_from_ne_true}
+use Rattle.std.proofs.Common.{◌≡◌, inl, inr, ⊎_elim, ℕ, zero, suc, ◌+◌, ◌-◌, ◌*◌, ◌/◌, ◌%◌, ◌^◌, ◌<◌, ◌≤◌, eqb, Bool, true, false, cond, not, ◌&&◌, ◌||◌, List, [], ◌∷◌, ◌++◌, refl, sym, ◌∙◌, ap, subst, arith, add-one, pow-suc}
+use Rattle.std.proofs.lemmas.Bool.{and_parts, and_from, or_cases, or_left, or_right, or_from, not-true, cases_Bool, cases_eq, cases_lt, both_ways, cond-false, eq-eqb}
 use Rattle.std.specs.List.{list_any, list_all}
 use Rattle.std.proofs.lemmas.List.Folds.{list_any-append}
 use Rattle.pp_terms.specs.Tree.{Node, height, peaks, peaks_below, above, IsHeight}
 use Rattle.pp_terms.specs.Bins.{parent_of, sibling_of}
 use Rattle.pp_terms.proofs.Heights.{height_is}
-use Rattle.pp_traffic.specs.Hashes.{same_node, is_peak, leaf_at, completes_from, completes}
+use Rattle.pp_traffic.specs.Hashes.{same_node, is_peak, leaf_at, completes_from}
 use Rattle.pp_traffic.specs.Laws.{PathsGrow, uncles_from, plan, PlansComplete}
 use Rattle.pp_traffic.proofs.PathPlaces.{ends_here, goes_up}
 

@@ -1,15 +1,15 @@
 -- Plain channels in words by places.
-use Rattle.std.proofs.Common.{◌≡◌, ◌⊎◌, inl, inr, ⊎_elim, ℕ, zero, suc, ◌+◌, ◌<◌, ◌≤◌, ltb, leb, Bool, true, false, cond, not, ◌&&◌, ◌||◌, Option, Some, None, List, [], ◌∷◌, ◌++◌, length, refl, sym, ◌∙◌, ap, subst, arith}
-use Rattle.std.proofs.lemmas.Bool.{and_parts, and_from, or_cases, or_left, or_right, or_parts, or_from, and_cases, not-false, not-true, not_from_true, lt-ltb, ltb-true, ltb-false, leb-true, le-leb, cases_Bool, both_ways, false_from_ne_true, true_from_ne_false, cond-true, cond-false, cases_lt}
+use Rattle.std.proofs.Common.{◌≡◌, ◌⊎◌, inl, inr, ⊎_elim, ℕ, ◌+◌, ◌<◌, ◌≤◌, ltb, leb, Bool, true, false, not, ◌&&◌, ◌||◌, Option, Some, None, List, [], ◌∷◌, ◌++◌, length, refl, sym, ◌∙◌, ap, subst, arith}
+use Rattle.std.proofs.lemmas.Bool.{and_parts, and_from, or_cases, or_left, or_right, and_cases, not-true, lt-ltb, ltb-true, ltb-false, leb-true, le-leb, cases_Bool, both_ways, false_from_ne_true, cond-true, cond-false}
 use Rattle.std.specs.Prelude.{MatchBool}
 use Rattle.std.specs.List.{AllByRecursion}
 use Rattle.std.proofs.lemmas.List.{length-append}
 use Rattle.pp_terms.specs.Traffic.{Record}
 use Rattle.pp_terms.specs.Descriptor.{Descriptor}
-use Rattle.pp_traffic.specs.Past.{now, now_at, comes_from, goes_to, is_event, some_since, some_until, is_at}
+use Rattle.pp_traffic.specs.Past.{now, now_at, comes_from, goes_to, is_event, some_since, some_until}
 use Rattle.pp_traffic.specs.Life.{Life, greets, answers, comes_on, closes_on}
 use Rattle.pp_traffic.specs.Plain.{greets_once, asks_anew, concerns, first_since, none_until_first, heard_at, greeting_time, silence_time, is_in_time, is_timely, IsPlainAnswer, IsPlainDial, IsPlain}
-use Rattle.pp_traffic.specs.Places.{Stands, StandsFrom, StandsBefore, IsFirst, IsLatest, InTime, IsPlainAnswerByPlaces, IsPlainDialByPlaces, IsPlainByPlaces, PlainByPlaces, HeardByPlaces}
+use Rattle.pp_traffic.specs.Places.{Stands, StandsFrom, IsFirst, IsLatest, InTime, IsPlainAnswerByPlaces, IsPlainDialByPlaces, IsPlainByPlaces, PlainByPlaces, HeardByPlaces}
 use Rattle.pp_traffic.proofs.Standing.{found_since, stands_since, found_until, stands_until, found_at, stands_at, none_since, stands_none, since_from}
 
 -- the first that passes a test

@@ -1,18 +1,17 @@
 -- Plain channels, and one record more.
-use Rattle.std.proofs.Common.{◌≡◌, ◌⊎◌, inl, inr, ⊎_elim, ℕ, zero, suc, ◌+◌, ◌<◌, ◌≤◌, ltb, leb, eqb, Bool, true, false, cond, not, ◌&&◌, ◌||◌, List, [], ◌∷◌, ◌++◌, length, drop, refl, sym, ◌∙◌, ap, subst, arith, append_assoc}
-use Rattle.std.proofs.lemmas.Bool.{and_parts, and_from, or_cases, or_left, or_right, or_parts, or_from, and_cases, cases_Bool, both_ways, cond-true, cond-false, leb-true, lt-leb, eqb-true, le-leb, not-true, ltb-true, lt-ltb, cases_order, false_from_ne_true}
+use Rattle.std.proofs.Common.{◌≡◌, ◌⊎◌, inl, inr, ⊎_elim, ℕ, ◌<◌, ◌≤◌, ltb, leb, eqb, Bool, true, false, cond, not, ◌&&◌, ◌||◌, List, [], ◌∷◌, ◌++◌, length, drop, refl, sym, ◌∙◌, ap, subst, arith, append_assoc}
+use Rattle.std.proofs.lemmas.Bool.{and_parts, and_from, or_cases, or_left, or_right, or_parts, cases_Bool, both_ways, cond-true, cond-false, leb-true, eqb-true, le-leb, cases_order, false_from_ne_true}
 use Rattle.std.specs.Prelude.{MatchBool}
 use Rattle.std.specs.List.{list_any}
 use Rattle.std.proofs.lemmas.List.{length-append}
-use Rattle.pp_terms.specs.Traffic.{Address, V4, V6, Record, Received, Quiet, Sent}
+use Rattle.pp_terms.specs.Traffic.{Address, Record, Received, Quiet, Sent}
 use Rattle.pp_terms.specs.Descriptor.{Descriptor}
 use Rattle.pp_terms.specs.Messages.{Message, Handshake, Data, Ack, Have, Integrity, Pex4, PexReq, Request, Cancel, Choke, Unchoke, Pex6}
-use Rattle.pp_traffic.specs.Past.{now, now_at, read, comes_from, goes_to, is_event, is_number, same_address, some_since, some_until, is_at}
-use Rattle.pp_traffic.specs.Life.{Life, greets, answers, comes_on, closes_on, begins_fitting}
-use Rattle.pp_traffic.specs.Plain.{is_handshake, concerns, greets_once, asks_anew, first_since, none_until_first, heard_at, is_in_time, is_timely, IsPlainAnswer, IsPlainDial, IsPlain, IsPlainNow}
-use Rattle.pp_traffic.specs.Places.{Stands, StandsFrom, StandsAt, StandsBefore}
-use Rattle.pp_traffic.proofs.Standing.{found_since, stands_since, found_at, stands_until, stands_none}
-use Rattle.pp_traffic.proofs.OneMore.{at_within}
+use Rattle.pp_traffic.specs.Past.{now, now_at, read, comes_from, goes_to, is_event, is_number, some_since, some_until, is_at}
+use Rattle.pp_traffic.specs.Life.{Life, greets, answers, closes_on, begins_fitting}
+use Rattle.pp_traffic.specs.Plain.{is_handshake, concerns, greets_once, asks_anew, first_since, none_until_first, heard_at, is_in_time, is_timely, IsPlainAnswer, IsPlainDial, IsPlainNow}
+use Rattle.pp_traffic.specs.Places.{StandsFrom, StandsBefore}
+use Rattle.pp_traffic.proofs.Standing.{found_since, stands_since, found_at, stands_until}
 use Rattle.pp_traffic.proofs.PlainPlaces.{only_from}
 
 -- no record stands from the end on

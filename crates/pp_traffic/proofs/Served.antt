@@ -1,13 +1,13 @@
 -- What was served by a book was served by a larger one.
-use Rattle.std.proofs.Common.{◌≡◌, ℕ, Bool, true, false, Option, Some, List, [], ◌∷◌, ◌++◌, refl, sym, ◌∙◌, ap, subst}
+use Rattle.std.proofs.Common.{ℕ, Option, List, [], ◌∷◌, ◌++◌}
 use Rattle.std.specs.List.{AllByRecursion}
 use Rattle.pp_terms.specs.Traffic.{Address, Record, Received, Quiet, Sent}
 use Rattle.pp_terms.specs.Descriptor.{Descriptor}
-use Rattle.pp_terms.specs.Book.{LookUp, IsRooted, IsBacked}
+use Rattle.pp_terms.specs.Book.{LookUp, IsRooted}
 use Rattle.pp_terms.specs.Messages.{Message, Handshake, Data, Ack, Have, Integrity, Pex4, PexReq, Request, Cancel, Choke, Unchoke, Pex6}
 use Rattle.pp_traffic.specs.Past.{read}
 use Rattle.pp_traffic.specs.Hashes.{Carries}
-use Rattle.pp_traffic.specs.Serving.{Window, ServesChunk, ServesFrom, Serves, ServesAll}
+use Rattle.pp_traffic.specs.Serving.{Window, ServesFrom, Serves}
 use Rattle.pp_traffic.specs.Laws.{Extends, ServedStays}
 
 pub carries_stay : (book larger : LookUp) → Extends book larger → (m : Message) → Carries book m → Carries larger m

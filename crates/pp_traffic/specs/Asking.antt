@@ -2,7 +2,7 @@
 use Rattle.std.specs.Prelude.{ℕ, ◌==◌, nat_le, Bool, true, false, not, ◌&&◌, ◌||◌, List, [], ◌∷◌}
 use Rattle.pp_terms.specs.Traffic.{Record}
 use Rattle.pp_terms.specs.Descriptor.{Descriptor}
-use Rattle.pp_terms.specs.Messages.{Span, Message, Handshake, Data, Ack, Have, Integrity, Pex4, PexReq, Request, Cancel, Choke, Unchoke, Pex6}
+use Rattle.pp_terms.specs.Messages.{Span, Message, Data, Request, Cancel, Choke, Unchoke}
 use Rattle.pp_traffic.specs.Past.{some_since}
 use Rattle.pp_traffic.specs.Life.{Life, comes_on}
 use Rattle.pp_traffic.specs.Story.{Line, Heard, Said, Taken}

@@ -1,10 +1,10 @@
 -- The hashes that a chunk needs, and those that a peer has told it knows (RFC 7574, sections 5.2 to 5.5).
-use Rattle.std.specs.Prelude.{◌≡◌, ℕ, zero, suc, ◌+◌, ◌==◌, nat_le, nat_lt, Bool, true, false, not, ◌&&◌, ◌||◌, List, [], ◌∷◌, ◌++◌, IsTrue, Option, Some}
+use Rattle.std.specs.Prelude.{◌≡◌, ℕ, zero, suc, ◌+◌, ◌==◌, nat_le, nat_lt, Bool, true, false, not, ◌&&◌, ◌||◌, List, [], ◌∷◌, Some}
 use Rattle.std.specs.List.{list_any, list_all}
 use Rattle.pp_terms.specs.Tree.{Node, height, peaks}
 use Rattle.pp_terms.specs.Bins.{first_leaf, last_leaf, parent_of, sibling_of}
 use Rattle.pp_terms.specs.Book.{LookUp}
-use Rattle.pp_terms.specs.Messages.{Span, Message, Handshake, Data, Ack, Have, Integrity, Pex4, PexReq, Request, Cancel, Choke, Unchoke, Pex6}
+use Rattle.pp_terms.specs.Messages.{Span, Message, Ack, Have, Integrity}
 use Rattle.pp_traffic.specs.Story.{Line, Heard, Said, Taken}
 
 abbrev pub same_node : Node → Node → Bool

@@ -5,7 +5,7 @@ use Rattle.pp_terms.specs.Traffic.{Record, Received, Quiet, Sent}
 use Rattle.pp_terms.specs.Descriptor.{Descriptor}
 use Rattle.pp_terms.specs.Disk.{History, IsImage, Throughout}
 use Rattle.pp_terms.specs.Image.{StandsIn}
-use Rattle.pp_terms.specs.Messages.{Message, Handshake, Data, Ack, Have, Integrity, Pex4, PexReq, Request, Cancel, Choke, Unchoke, Pex6}
+use Rattle.pp_terms.specs.Messages.{Message, Ack, Have}
 use Rattle.pp_traffic.specs.Past.{read}
 use Rattle.pp_traffic.specs.Asking.{covers}
 

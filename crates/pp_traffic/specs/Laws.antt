@@ -1,19 +1,16 @@
 -- Laws on these words: what one record more does, and what stays.
-use Rattle.std.specs.Prelude.{◌≡◌, ◌⊎◌, ℕ, zero, suc, ◌+◌, ◌^◌, ◌<◌, ◌≤◌, max, Bool, true, false, not, ◌&&◌, ◌||◌, Some, List, [], ◌∷◌, ◌++◌, length, drop, if◌then◌else◌}
+use Rattle.std.specs.Prelude.{◌≡◌, ℕ, zero, suc, ◌+◌, ◌^◌, ◌<◌, ◌≤◌, max, Bool, true, false, ◌||◌, Some, List, [], ◌∷◌, ◌++◌, length, if◌then◌else◌}
 use Rattle.std.specs.List.{list_any, list_all}
 use Rattle.pp_terms.specs.Traffic.{Address, Record, Received, Quiet, Sent}
 use Rattle.pp_terms.specs.Tree.{Node, height, peaks}
 use Rattle.pp_terms.specs.Bins.{parent_of, sibling_of}
 use Rattle.pp_terms.specs.Book.{LookUp, IsRooted}
-use Rattle.pp_terms.specs.Descriptor.{Descriptor, chunks_of}
-use Rattle.pp_terms.specs.Messages.{Message}
-use Rattle.pp_traffic.specs.Past.{now, read, comes_from, goes_to, is_event, some_since, is_number}
-use Rattle.pp_traffic.specs.Life.{Life, IsLife, greets, answers, comes_on, closes_on}
-use Rattle.pp_traffic.specs.Story.{Line, Heard, Said, Taken, hear, say, heard_in, said_in, story}
-use Rattle.pp_traffic.specs.Asking.{choked, asked, is_heard}
+use Rattle.pp_terms.specs.Descriptor.{Descriptor}
+use Rattle.pp_traffic.specs.Past.{now}
+use Rattle.pp_traffic.specs.Life.{Life, IsLife, closes_on}
+use Rattle.pp_traffic.specs.Story.{Line, Taken, hear, say, heard_in, said_in, story}
 use Rattle.pp_traffic.specs.Hashes.{same_node, is_peak, leaf_at, is_told, completes}
 use Rattle.pp_traffic.specs.Serving.{Window, ServesAll}
-use Rattle.pp_traffic.specs.Plain.{IsPlain, IsPlainNow, is_timely}
 
 -- A longer past keeps a life, unless a closing handshake came for it.
 abbrev pub LivesStay : Type 0

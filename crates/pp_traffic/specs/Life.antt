@@ -6,7 +6,7 @@ use Rattle.pp_terms.specs.Traffic.{Address, Record}
 use Rattle.pp_terms.specs.Descriptor.{Descriptor}
 use Rattle.pp_terms.specs.Options.{Options}
 use Rattle.pp_terms.specs.Mismatch.{mismatch_of}
-use Rattle.pp_terms.specs.Messages.{Message, Handshake, Data, Ack, Have, Integrity, Pex4, PexReq, Request, Cancel, Choke, Unchoke, Pex6}
+use Rattle.pp_terms.specs.Messages.{Message, Handshake}
 use Rattle.pp_traffic.specs.Past.{read, comes_from, goes_to, is_number, some_since, is_at}
 
 -- The peer's address; this peer's number for the channel, to which the other one sends, and the other one's, to which this

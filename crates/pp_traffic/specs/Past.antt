@@ -1,8 +1,7 @@
 -- What a link carried (RFC 7574, section 8): a list of records, the newest first. The place of a record is the number of
 -- the records before it, so it stays when records are added.
-use Rattle.std.specs.Prelude.{◌≡◌, ℕ, max, ◌==◌, nat_eq, nat_lt, nat_le, Bool, true, false, ◌&&◌, ◌||◌, if◌then◌else◌, Option, Some, None, List, [], ◌∷◌, length}
-use Rattle.std.specs.Cmp.Lexicographic.{pointwise}
-use Rattle.pp_terms.specs.Traffic.{Address, V4, V6, Record, Received, Quiet, Sent}
+use Rattle.std.specs.Prelude.{ℕ, max, ◌==◌, nat_lt, nat_le, Bool, true, false, ◌&&◌, ◌||◌, if◌then◌else◌, Option, Some, None, List, [], ◌∷◌, length}
+use Rattle.pp_terms.specs.Traffic.{Address, same_address, Record, Received, Quiet, Sent}
 use Rattle.pp_terms.specs.Descriptor.{Descriptor}
 use Rattle.pp_terms.specs.Messages.{Datagram, datagram}
 
@@ -12,13 +11,6 @@ now [] = 0
 now (Received at sender bytes ∷ before) = max at (now before)
 now (Quiet at ∷ before) = max at (now before)
 now (Sent moment receiver bytes ∷ before) = now before
-
--- one address
-abbrev pub same_address : Address → Address → Bool
-same_address (V4 a p) (V4 b q) = pointwise nat_eq a b && p == q
-same_address (V4 a p) (V6 b q) = false
-same_address (V6 a p) (V4 b q) = false
-same_address (V6 a p) (V6 b q) = pointwise nat_eq a b && p == q
 
 -- a record of a datagram that came from an address, and of one that went to it
 abbrev pub comes_from : Address → Record → Bool

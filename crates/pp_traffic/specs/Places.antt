@@ -1,12 +1,12 @@
 -- The same in words by places: before, after, between. A record stands in the traffic where the traffic is what came after
 -- it, the record, and what was before it.
-use Rattle.std.specs.Prelude.{◌≡◌, ◌≢◌, ◌⊎◌, ℕ, zero, suc, ◌+◌, ◌<◌, ◌≤◌, Bool, true, false, ◌||◌, None, Some, List, [], ◌∷◌, ◌++◌, length, MatchBool, ◌↔◌}
+use Rattle.std.specs.Prelude.{◌≡◌, ◌≢◌, ◌⊎◌, ℕ, zero, suc, ◌+◌, ◌<◌, ◌≤◌, Bool, true, false, ◌||◌, List, ◌∷◌, ◌++◌, length, MatchBool, ◌↔◌}
 use Rattle.std.specs.List.{AllByRecursion, list_all}
 use Rattle.pp_terms.specs.Traffic.{Record}
 use Rattle.pp_terms.specs.Tree.{Node, height, peaks}
 use Rattle.pp_terms.specs.Bins.{parent_of, sibling_of}
 use Rattle.pp_terms.specs.Descriptor.{Descriptor}
-use Rattle.pp_terms.specs.Messages.{Span, Message, Handshake, Data, Ack, Have, Integrity, Pex4, PexReq, Request, Cancel, Choke, Unchoke, Pex6}
+use Rattle.pp_terms.specs.Messages.{Span, Data, Request, Cancel, Choke, Unchoke}
 use Rattle.pp_traffic.specs.Past.{now, now_at, comes_from, goes_to, is_event}
 use Rattle.pp_traffic.specs.Life.{Life, greets, answers, comes_on, shakes_on, closes_on, IsLife}
 use Rattle.pp_traffic.specs.Story.{Line, Heard, Said, Taken}

@@ -1,10 +1,10 @@
 -- Plain channels: those that both sides opened afresh, by one handshake each, and that neither closed nor left silent for too
 -- long (RFC 7574, sections 3.1.1, 8.3 and 8.4; the times are this profile's). To these the promises of completeness are made.
-use Rattle.std.specs.Prelude.{◌≡◌, ℕ, ◌+◌, ◌<◌, ◌==◌, nat_lt, nat_le, Bool, true, false, not, ◌&&◌, ◌||◌, if◌then◌else◌, Option, Some, None, List, [], ◌∷◌, length, drop, MatchBool}
+use Rattle.std.specs.Prelude.{◌≡◌, ℕ, ◌+◌, ◌<◌, nat_lt, nat_le, Bool, true, false, not, ◌&&◌, ◌||◌, if◌then◌else◌, Option, Some, None, List, [], ◌∷◌, length, drop, MatchBool}
 use Rattle.std.specs.List.{list_any}
 use Rattle.pp_terms.specs.Traffic.{Address, Record}
 use Rattle.pp_terms.specs.Descriptor.{Descriptor}
-use Rattle.pp_terms.specs.Messages.{Message, Handshake, Data, Ack, Have, Integrity, Pex4, PexReq, Request, Cancel, Choke, Unchoke, Pex6}
+use Rattle.pp_terms.specs.Messages.{Message, Handshake}
 use Rattle.pp_traffic.specs.Past.{now, now_at, read, comes_from, goes_to, is_event, is_number, some_since, some_until, is_at}
 use Rattle.pp_traffic.specs.Life.{Life, greets, answers, comes_on, closes_on}
 

@@ -1,9 +1,9 @@
 -- What a peer owes at the end of each of its turns while nothing fails (RFC 7574, sections 3.1.1 and 3.7).
-use Rattle.std.specs.Prelude.{◌≡◌, ℕ, ◌==◌, Bool, true, false, not, ◌&&◌, List, [], ◌∷◌, ◌++◌, drop}
+use Rattle.std.specs.Prelude.{◌≡◌, ℕ, ◌==◌, Bool, true, false, not, ◌&&◌, List, ◌∷◌, ◌++◌, drop}
 use Rattle.std.specs.List.{list_any}
 use Rattle.pp_terms.specs.Traffic.{Record, Received, Quiet, Sent}
 use Rattle.pp_terms.specs.Descriptor.{Descriptor}
-use Rattle.pp_terms.specs.Messages.{Message, Handshake, Data, Ack, Have, Integrity, Pex4, PexReq, Request, Cancel, Choke, Unchoke, Pex6}
+use Rattle.pp_terms.specs.Messages.{Message, Handshake}
 use Rattle.pp_traffic.specs.Past.{read, goes_to, is_number}
 use Rattle.pp_traffic.specs.Life.{Life, begins, fits}
 use Rattle.pp_traffic.specs.Story.{story}

@@ -1,11 +1,11 @@
 -- The promise on what is sent: every chunk has its hash path in the book, answers an outstanding request of an unchoked
 -- peer, brings the hashes that the peer lacks, and fits the window (RFC 7574, sections 3.5 to 3.9, 5.3 and 8.16).
-use Rattle.std.specs.Prelude.{◌≡◌, ℕ, Bool, true, false, Option, Some, List, [], ◌∷◌, ◌++◌, IsTrue}
+use Rattle.std.specs.Prelude.{◌≡◌, ℕ, Bool, true, false, Option, Some, List, [], ◌∷◌, ◌++◌}
 use Rattle.std.specs.List.{AllByRecursion}
 use Rattle.pp_terms.specs.Traffic.{Address, Record, Received, Quiet, Sent}
 use Rattle.pp_terms.specs.Descriptor.{Descriptor, chunks_of}
 use Rattle.pp_terms.specs.Book.{LookUp, IsBacked}
-use Rattle.pp_terms.specs.Messages.{Message, Handshake, Data, Ack, Have, Integrity, Pex4, PexReq, Request, Cancel, Choke, Unchoke, Pex6}
+use Rattle.pp_terms.specs.Messages.{Message, Data}
 use Rattle.pp_traffic.specs.Past.{read, EachRecord}
 use Rattle.pp_traffic.specs.Life.{Life, IsLife}
 use Rattle.pp_traffic.specs.Story.{Line, story}

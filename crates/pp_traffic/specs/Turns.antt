@@ -1,5 +1,5 @@
 -- Turns of the peer: each begins with an event, and ends just before the next one, or where the peer closes its channels.
-use Rattle.std.specs.Prelude.{◌≡◌, ◌⊎◌, ℕ, suc, ◌≤◌, ◌==◌, Bool, true, List, [], ◌∷◌, length}
+use Rattle.std.specs.Prelude.{◌≡◌, ◌⊎◌, ℕ, suc, ◌≤◌, ◌==◌, true, List, [], ◌∷◌, length}
 use Rattle.std.specs.List.{list_any}
 use Rattle.pp_terms.specs.Traffic.{Record, Received, Quiet, Sent}
 

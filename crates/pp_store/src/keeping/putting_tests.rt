@@ -8,8 +8,9 @@ ghost use Rattle.pp_tree.specs.Book.{entry, HasRootAlone};
 use super::*;
 use crate::importing::import;
 use crate::stopping::StoppingDisk;
+use hex::FromHex;
 use pp_outside::{MemoryDisk, MemorySource};
-use pp_tree::{Node, peaks};
+use pp_tree::{Digest, Node, peaks};
 use std::test::Fail;
 
 // A content and the book of a store of all of it.
@@ -70,6 +71,37 @@ fn claim(claims: &mut Claims, swarm: &Swarm, nodes: &[Node]) {
     }
 }
 
+// The bytes of chunk i, and more of the same kind where a chunk is shorter.
+fn bytes_of(chunk: u32, i: u32) -> [u8; 1024] {
+    let mut bytes = [0u8; 1024];
+    let first = i % 100 * (chunk % 10_000);
+    for (at, byte_at) in bytes.iter_mut().enumerate() {
+        *byte_at = byte(first + at as u32);
+    }
+    bytes
+}
+
+// Puts bytes as chunk i; None where the disk refused a call.
+fn put_bytes<D: Disk>(
+    swarm: &Swarm,
+    i: u32,
+    bytes: &[u8],
+    claims: &Claims,
+    store: &mut Store,
+    book: &mut Book,
+    disk: &mut D,
+) -> Result<Option<Put>, Fail>
+    requires same { store.old.descriptor ≡ swarm.now.descriptor }
+    requires rooted { IsRooted store.old.descriptor (entry book.old) }
+    ensures same { store.new.descriptor ≡ store.old.descriptor }
+    ensures rooted { IsRooted store.old.descriptor (entry book.new) }
+{
+    if !store.is_live() || i >= swarm.descriptor.chunks() {
+        return Err("not to be put".into());
+    }
+    Ok(store.put(i, bytes, claims, book, disk).ok())
+}
+
 // Puts chunk i, with what proves it; None where the disk refused a call.
 fn put_chunk<D: Disk>(
     alloc: Global,
@@ -84,17 +116,13 @@ fn put_chunk<D: Disk>(
     ensures same { store.new.descriptor ≡ store.old.descriptor }
     ensures rooted { IsRooted store.old.descriptor (entry book.new) }
 {
-    if !store.is_live() || i >= swarm.descriptor.chunks() {
+    if i >= swarm.descriptor.chunks() {
         return Err("not to be put".into());
     }
-    let mut bytes = [0u8; 1024];
-    let first = i % 100 * (swarm.descriptor.chunk() % 10_000);
-    for (at, byte_at) in bytes.iter_mut().enumerate() {
-        *byte_at = byte(first + at as u32);
-    }
+    let bytes = bytes_of(swarm.descriptor.chunk(), i);
     let len = (swarm.descriptor.chunk_len(i) as usize).min(1024);
     let claims = claims_of(alloc, swarm, i)?;
-    Ok(store.put(i, &bytes[..len], &claims, book, disk).ok())
+    put_bytes(swarm, i, &bytes[..len], &claims, store, book, disk)
 }
 
 // Puts the first chunks in falling order, so many of them, and commits after every second one where it is to. Answers
@@ -150,6 +178,49 @@ fn a_chunk_is_stored_once(rt: HostRuntime) -> Result<(), Fail> {
     assert!(rt; store.is_live());
     store.commit(&mut disk)?;
     assert_eq!(rt; (store.pending(), store.committed().count()), (0, 1));
+    Ok(())
+}
+
+// What the first chunk with the lowest bit of its first byte changed leads to at node (2, 0), and what is there: worked out
+// with another implementation of SHA-256.
+const CHANGED: &str = "76844da83ec3f078d284c1cf75f03f390e4cc4ab803d09644d8c541295999f78";
+
+const PEAK: &str = "ec5bb09e21df1ebfb769ce3360f5ff39335612ae52728b4cf2d410f8dbf31f9c";
+
+#[test]
+fn other_bytes_are_refused(rt: HostRuntime) -> Result<(), Fail> {
+    let alloc = rt.alloc();
+    let swarm = seven_chunks(alloc)?;
+    let mut disk = MemoryDisk::new(alloc, &[])?;
+    let mut book = prepared(alloc, &swarm.descriptor)?;
+    let mut store = Store::open(alloc, &swarm.descriptor, &mut disk, &mut book)?;
+    let mut bytes = bytes_of(1024, 0);
+    let none = Claims::new(alloc)?;
+    let put = put_bytes(
+        &swarm,
+        0,
+        &bytes[..1023],
+        &none,
+        &mut store,
+        &mut book,
+        &mut disk,
+    )?;
+    let found = 1023;
+    assert_eq!(rt; put, Some(Put::Length { found, want: 1024 }));
+    let put = put_bytes(&swarm, 0, &bytes, &none, &mut store, &mut book, &mut disk)?;
+    let node = Node {
+        layer: 2,
+        offset: 0,
+    };
+    assert_eq!(rt; put, Some(Put::Missing(node)));
+    bytes[0] ^= 1;
+    let claims = claims_of(alloc, &swarm, 0)?;
+    let put = put_bytes(&swarm, 0, &bytes, &claims, &mut store, &mut book, &mut disk)?;
+    let found = Digest::new(<[u8; 32]>::from_hex(CHANGED)?);
+    let kept = Digest::new(<[u8; 32]>::from_hex(PEAK)?);
+    assert_eq!(rt; put, Some(Put::Wrong { node, found, kept }));
+    // The header alone was written.
+    assert_eq!(rt; (store.pending(), disk.bytes().len()), (0, 64));
     Ok(())
 }
 
