@@ -1,34 +1,29 @@
 -- A peer stands for one event more.
-use Rattle.std.proofs.Common.{◌≡◌, ◌⊎◌, inl, inr, ⊎_elim, ℕ, zero, suc, ◌+◌, ◌-◌, ◌^◌, ◌<◌, ◌≤◌, min, max, ltb, leb, eqb, Bool, true, false, cond, not, ◌&&◌, ◌||◌, Option, Some, None, List, [], ◌∷◌, ◌++◌, length, take, drop, refl, sym, ◌∙◌, ap, subst, arith}
-use Rattle.std.proofs.lemmas.Bool.{and_parts, and_from, or_cases, or_left, or_right, or_parts, and_left, and_right, cases_Bool, both_ways, cond-true, cond-false, not-true, not-false, lt-ltb, le-ltb, eqb-true, eqb-false, eq-eqb, ne_eqb, false_from_ne_true, cases_lt}
+use Rattle.std.proofs.Common.{◌≡◌, ◌⊎◌, inl, inr, ⊎_elim, ℕ, ◌<◌, max, eqb, Bool, true, false, cond, not, ◌&&◌, ◌||◌, Option, Some, None, List, [], ◌∷◌, length, refl, sym, ◌∙◌, ap, subst, arith}
+use Rattle.std.proofs.lemmas.Bool.{and_parts, and_from, and_left, and_right, cases_Bool, both_ways, cond-true, cond-false, eqb-true, eqb-false, eq-eqb, ne_eqb, false_from_ne_true}
 use Rattle.std.specs.Prelude.{MatchOption}
-use Rattle.std.specs.Int.{w32, from_be_bytes}
-use Rattle.rand_chacha.specs.ChaCha.{ChaCha, next_word}
+use Rattle.rand_chacha.specs.ChaCha.{ChaCha}
 use Rattle.pp_terms.specs.Traffic as traffic
 use Rattle.pp_terms.specs.Traffic.{Record, Received, Sent, same_address}
 use Rattle.pp_terms.specs.Descriptor.{Descriptor, chunks_of}
-use Rattle.pp_terms.specs.Options.{Options}
 use Rattle.pp_terms.specs.Range as range
 use Rattle.pp_terms.specs.Range.{IsRunsFrom, has}
-use Rattle.pp_terms.specs.Messages.{Message, Handshake, Data, Ack, Have, Integrity, Pex4, PexReq, Request, Cancel, Choke, Unchoke, Pex6, WireKind, Messages, Datagram, datagram, messages_at}
-use Rattle.pp_traffic.specs.Past.{now, read, comes_from, goes_to, is_event, is_number, some_since, is_at, EachRecord}
-use Rattle.pp_traffic.specs.Life.{Life, greets, answers, comes_on, closes_on, closes, is_closed, fits, begins_fitting}
-use Rattle.pp_traffic.specs.Story.{Line, Heard, Said, Taken, hear, heard_in, told, story}
-use Rattle.pp_traffic.specs.Plain.{IsPlainNow}
-use Rattle.pp_traffic.proofs.OneMore.{story_step, story_opening}
-use Rattle.pp_traffic.proofs.Plains.{NoneDialled, plain_before}
+use Rattle.pp_terms.specs.Messages.{Message, Handshake, Data, Ack, Have, Integrity, Pex4, PexReq, Request, Cancel, Choke, Unchoke, Pex6, WireKind, Messages, datagram}
+use Rattle.pp_traffic.specs.Past.{now, read, is_number}
+use Rattle.pp_traffic.specs.Life.{Life, comes_on, closes_on, closes, fits}
+use Rattle.pp_traffic.specs.Story.{Line, Taken, hear, story}
+use Rattle.pp_traffic.proofs.OneMore.{story_step}
 use Rattle.pp_outside.specs.Outside.{address_of}
 use Rattle.pp_outside.specs.declared.link.Address.{Address}
-use Rattle.pp_core.specs.Counting.{rise}
-use Rattle.pp_core.specs.Hearing.{hear_all, hear_rest}
+use Rattle.pp_core.specs.Hearing.{hear_all}
 use Rattle.pp_core.specs.Taking as taking
 use Rattle.pp_core.specs.Taking.{leaves, is_short, is_stranger, is_refused, is_unseated, is_kept_alive, is_own, take_own, take_numbered, number_from, opened_by, is_again, greet_fitting, greet, is_in_options, greet_nothing, take_greeting, take_for, take_datagram}
-use Rattle.pp_core.specs.Standing.{Follows, SeatStands, HasSeat, NonePlain}
+use Rattle.pp_core.specs.Standing.{Follows, SeatStands}
 use Rattle.pp_core.specs.declared.counts.Counts.{Counts}
 use Rattle.pp_core.specs.declared.channel.Channel.{Channel}
 use Rattle.pp_core.specs.declared.hearing.Heard as heard
-use Rattle.pp_core.proofs.Following.{SameSeat, same_seat, LeftOn, Since, follow_all, closed_by, open_by}
-use Rattle.pp_core.proofs.Seats.{same_self, same_is, seat_began, GoesOn, seat_on, follow_taken}
+use Rattle.pp_core.proofs.Following.{Since, follow_all, closed_by, open_by}
+use Rattle.pp_core.proofs.Seats.{seat_began, GoesOn, seat_on, follow_taken}
 
 -- ---- a record that isn't on the seat's channel
 

@@ -1,16 +1,15 @@
 -- The ranges that a reply announces.
-use Rattle.std.proofs.Common.{◌≡◌, ◌⊎◌, inl, inr, ⊎_elim, ℕ, zero, suc, ◌+◌, ◌-◌, ◌*◌, ◌/◌, ◌%◌, ◌^◌, ◌<◌, ◌≤◌, leb, Bool, true, false, ◌&&◌, Option, Some, None, List, [], ◌∷◌, ◌++◌, map, length, get_or, refl, sym, ◌∙◌, ap, subst, arith}
-use Rattle.std.specs.Prelude.{MatchOption, slice_index_or, unwrap_or, nat_le}
+use Rattle.std.proofs.Common.{◌≡◌, ◌⊎◌, inl, inr, ⊎_elim, ℕ, zero, suc, ◌+◌, ◌-◌, ◌*◌, ◌/◌, ◌%◌, ◌^◌, ◌<◌, ◌≤◌, leb, Bool, true, false, Option, Some, None, List, [], ◌∷◌, ◌++◌, map, length, refl, sym, ◌∙◌, ap, subst, arith}
+use Rattle.std.specs.Prelude.{MatchOption, slice_index_or, unwrap_or}
 use Rattle.std.proofs.lemmas.Bool.{cases_lt, and_parts, and_from, le-leb, leb-true, false≢true}
 use Rattle.std.proofs.lemmas.List.{append_assoc, map-append}
 use Rattle.pp_terms.specs.Descriptor.{Descriptor, Method, Bin32, Range32, Bin64, Range64}
 use Rattle.pp_terms.specs.Messages.{Span, Message, Have, IsNamed, IsBinSpan}
-use Rattle.pp_traffic.specs.Asking.{covers}
 use Rattle.pp_tree.proofs.BinNumbers.{shifted}
 use Rattle.pp_ranges.specs.Covering.{IsMultiple}
 use Rattle.pp_ranges.proofs.Dyadic.{quotient_of, even_multiple, odd_highest, last_highest}
 use Rattle.pp_core.proofs.Fronts.{some_power}
-use Rattle.pp_core.specs.Announcing.{IsWidest, IsLongest, IsRow, IsHeldSpan, IsNext, AreNext, HasNews}
+use Rattle.pp_core.specs.Announcing.{IsWidest, IsLongest, IsRow, IsNext, AreNext, HasNews}
 use Rattle.pp_core.specs.Writing.{IsFront}
 
 -- ---- the largest node

@@ -1,6 +1,6 @@
 -- Lists of what is asked for, after a REQUEST, a CANCEL and a chunk.
-use Rattle.std.proofs.Common.{◌≡◌, ◌⊎◌, inl, inr, ⊎_elim, ℕ, zero, suc, ◌+◌, ◌-◌, ◌^◌, ◌<◌, ◌≤◌, min, eqb, leb, ltb, Bool, true, false, not, ◌&&◌, ◌||◌, cond, Option, Some, None, List, [], ◌∷◌, ◌++◌, length, filter, refl, sym, ◌∙◌, ap, subst, arith}
-use Rattle.std.proofs.lemmas.Bool.{and_parts, and_from, or_cases, or_left, or_right, not-true, not_from_true, not_from_false, cases_Bool, both_ways, cond-true, cond-false, le-leb, leb-true, lt-ltb, ltb-true, false_from_ne_true, false≢true}
+use Rattle.std.proofs.Common.{◌≡◌, ◌⊎◌, inr, ⊎_elim, ℕ, ◌-◌, ◌<◌, ◌≤◌, min, leb, ltb, true, false, not, ◌&&◌, ◌||◌, Some, None, List, [], ◌∷◌, filter, sym, ◌∙◌, ap, subst, arith}
+use Rattle.std.proofs.lemmas.Bool.{and_parts, and_from, or_cases, or_left, or_right, not-true, not_from_false, cases_Bool, both_ways, cond-true, cond-false, le-leb, leb-true, lt-ltb, ltb-true, false_from_ne_true, false≢true}
 use Rattle.pp_terms.specs.Messages.{Span}
 use Rattle.pp_terms.specs.Range as range
 use Rattle.pp_terms.specs.Range.{within, has, IsRunsFrom}
@@ -8,7 +8,7 @@ use Rattle.pp_traffic.specs.Asking.{covers}
 use Rattle.pp_ranges.specs.Edits.{inserted, removed, is_apart}
 use Rattle.pp_ranges.proofs.Runs.{inserted_has, inserted_runs, removed_has, removed_runs, filter_runs}
 use Rattle.pp_requests.specs.Lists.{are_too_many, requested, cancelled, without}
-use Rattle.pp_core.specs.Hearing.{inside, overflows}
+use Rattle.pp_core.specs.Hearing.{inside}
 
 -- what of a span lies in the content
 pub record IsPart (chunks : ℕ) (span : Span) (part : range.Span) : Type 0 where

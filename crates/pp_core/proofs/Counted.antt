@@ -1,5 +1,5 @@
 -- What a turn does to counts.
-use Rattle.std.proofs.Common.{◌≡◌, ◌⊎◌, inl, inr, ⊎_elim, ℕ, ◌+◌, ◌-◌, ◌^◌, ◌<◌, ◌≤◌, min, Bool, true, false, List, length, refl, sym, ◌∙◌, ap, subst, arith}
+use Rattle.std.proofs.Common.{◌≡◌, ⊎_elim, ℕ, Bool, true, false, List, refl, sym, ◌∙◌, ap}
 use Rattle.std.specs.Prelude.{slice_index_or}
 use Rattle.std.proofs.lemmas.Bool.{false≢true}
 use Rattle.pp_terms.specs.Book.{LookUp}
@@ -8,12 +8,11 @@ use Rattle.pp_scan.specs.Holding.{is_there}
 use Rattle.pp_terms.specs.Descriptor.{Descriptor}
 use Rattle.pp_terms.specs.Disk.{DiskState, IsKnown}
 use Rattle.pp_terms.specs.Traffic.{LinkState}
-use Rattle.pp_outside.specs.Arrivals.{IsEvent}
 use Rattle.pp_outside.specs.declared.link.Event.{Event}
 use Rattle.pp_outside.specs.declared.link.Event.TheVariants.{Datagram, Quiet}
 use Rattle.pp_core.specs.Counting.{rise}
 use Rattle.pp_core.specs.Events.{reached, after_event, after_refusal}
-use Rattle.pp_core.specs.Sends.{RisesWith, Causes}
+use Rattle.pp_core.specs.Sends.{Causes}
 use Rattle.pp_core.specs.Standing.{State, IsWhole}
 use Rattle.pp_core.specs.declared.counts.Counts.{Counts}
 use Rattle.pp_core.proofs.Losses.{takes_loss}

@@ -1,13 +1,13 @@
 -- A channel follows the story of its life, message by message.
-use Rattle.std.proofs.Common.{◌≡◌, ◌⊎◌, inl, inr, ⊎_elim, ℕ, zero, suc, ◌+◌, ◌-◌, ◌^◌, ◌<◌, ◌≤◌, min, eqb, leb, ltb, Bool, true, false, not, ◌&&◌, ◌||◌, cond, Option, Some, None, List, [], ◌∷◌, ◌++◌, length, filter, refl, sym, ◌∙◌, ap, subst, arith}
-use Rattle.std.proofs.lemmas.Bool.{and_parts, and_from, or_cases, or_left, or_right, not-true, not_from_true, not_from_false, cases_Bool, both_ways, cond-true, cond-false, le-leb, leb-true, lt-ltb, ltb-true, false_from_ne_true, false≢true}
+use Rattle.std.proofs.Common.{◌≡◌, ⊎_elim, ℕ, ◌+◌, ◌-◌, ◌^◌, ◌<◌, min, eqb, Bool, true, false, not, ◌&&◌, ◌||◌, Option, Some, None, List, [], ◌∷◌, filter, refl, sym, ◌∙◌, ap, subst, arith}
+use Rattle.std.proofs.lemmas.Bool.{and_parts, and_from, or_cases, or_left, or_right, not-true, not_from_false, cases_Bool, both_ways, cond-true, cond-false, false_from_ne_true}
 use Rattle.pp_terms.specs.Messages.{Span, Message, Handshake, Data, Ack, Have, Integrity, Pex4, PexReq, Request, Cancel, Choke, Unchoke, Pex6, WireKind}
 use Rattle.pp_terms.specs.Range as range
 use Rattle.pp_terms.specs.Range.{within, has}
-use Rattle.pp_traffic.specs.Story.{Line, Heard, Said, Taken, hear}
+use Rattle.pp_traffic.specs.Story.{Line, Heard, hear}
 use Rattle.pp_traffic.specs.Asking.{covers, choked, asked}
 use Rattle.pp_traffic.specs.Life.{closes}
-use Rattle.pp_traffic.specs.Flight.{in_flight, landed}
+use Rattle.pp_traffic.specs.Flight.{in_flight}
 use Rattle.pp_ranges.specs.Edits.{inserted, removed}
 use Rattle.pp_requests.specs.Lists.{are_too_many}
 use Rattle.pp_core.specs.Counting.{rise}
@@ -16,7 +16,7 @@ use Rattle.pp_core.specs.Standing.{Follows}
 use Rattle.pp_core.specs.declared.counts.Counts.{Counts}
 use Rattle.pp_core.specs.declared.channel.Channel.{Channel}
 use Rattle.pp_core.specs.declared.hearing.Heard as heard
-use Rattle.pp_core.proofs.Askings.{IsPart, Inside, none, some, inside?, IsAsked, is_asked, IsLetGo, is_let_go}
+use Rattle.pp_core.proofs.Askings.{Inside, none, some, inside?, is_asked, is_let_go}
 
 -- ---- one message
 

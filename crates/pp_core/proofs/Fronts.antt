@@ -1,21 +1,20 @@
 -- A message put behind a datagram.
-use Rattle.std.proofs.Common.{◌≡◌, ◌⊎◌, inl, inr, ℕ, zero, suc, ltb, false, ◌^◌, ◌*◌, ◌+◌, ◌-◌, ◌<◌, ◌≤◌, Option, Some, None, List, [], ◌∷◌, ◌++◌, length, take, drop, get_or, Result, Ok, Err, refl, sym, ◌∙◌, ap, subst, arith}
+use Rattle.std.proofs.Common.{◌≡◌, ℕ, zero, suc, ltb, false, ◌^◌, ◌*◌, ◌+◌, ◌<◌, ◌≤◌, Some, None, List, [], ◌∷◌, ◌++◌, length, take, drop, Result, Ok, Err, refl, sym, ◌∙◌, ap, subst, arith}
 use Rattle.std.specs.List.{AllByRecursion}
 use Rattle.std.specs.Int.{w32, w64, to_be_bytes, from_be_bytes}
 use Rattle.std.proofs.lemmas.Bool.{le-ltb}
-use Rattle.std.specs.Prelude.{IfOk}
-use Rattle.std.proofs.lemmas.List.{length-take, length-append, length-drop, take_at, take-append-le, drop_all}
+use Rattle.std.proofs.lemmas.List.{length-take, length-append, take_at, drop_all}
 use Rattle.std.proofs.Math.Seq.{take-length}
 use Rattle.pp_terms.specs.Place.{placed}
 use Rattle.pp_terms.specs.Tree.{Node}
 use Rattle.pp_terms.specs.Content.{IsChunkSize}
 use Rattle.pp_terms.specs.Descriptor.{Descriptor, IsDescriptor, Method, Bin32, Range32, Bin64, Range64}
 use Rattle.pp_terms.specs.Options.{IsBytes, spelling_of}
-use Rattle.pp_terms.specs.Messages.{Message, Handshake, Data, Ack, Have, Integrity, Pex4, PexReq, Request, Cancel, Choke, Unchoke, Pex6, Span, only, spell, spell_span, bin_number_of, IsNamed, IsBinSpan, IsSpelt, IsFull, AtMostFull, Datagram, datagram, with_last, messages_from, messages_at, next_message}
+use Rattle.pp_terms.specs.Messages.{Message, Handshake, Data, Ack, Have, Integrity, Pex4, PexReq, Request, Cancel, Choke, Unchoke, Pex6, Span, only, spell, spell_span, bin_number_of, IsNamed, IsBinSpan, IsSpelt, IsFull, AtMostFull, Datagram, datagram, with_last, messages_from}
 use Rattle.pp_terms.proofs.DatagramLaws.{grows_by_one}
 use Rattle.pp_terms.proofs.MessageLaws.{wide32, wide64, IsBytes-take}
 use Rattle.pp_tree.proofs.Sizes.{chunk_size_range}
-use Rattle.pp_wire.specs.Put.{NamesChunks, IsPut, IsSpan}
+use Rattle.pp_wire.specs.Put.{IsPut, IsSpan}
 use Rattle.pp_wire.specs.declared.message.PutFault.{PutFault}
 use Rattle.pp_wire.specs.declared.message.PutFault.TheVariants as faults
 use Rattle.pp_core.specs.Writing.{IsDatagram, IsFront, IsWritten, own_options, span_under}

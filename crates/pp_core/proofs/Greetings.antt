@@ -1,11 +1,11 @@
 -- Datagrams for channel 0, by their first message.
-use Rattle.std.proofs.Common.{◌≡◌, ℕ, ◌+◌, ◌<◌, ◌≤◌, Bool, true, false, not, ◌||◌, cond, eqb, ltb, Option, Some, None, List, [], ◌∷◌, length, take, drop, refl, sym, ◌∙◌, ap, subst, arith}
-use Rattle.std.proofs.lemmas.Bool.{cond-true, cond-false, not-true, le-ltb, lt-ltb, ne_eqb, eq-eqb}
+use Rattle.std.proofs.Common.{◌≡◌, ℕ, ◌+◌, ◌<◌, ◌≤◌, true, false, not, ◌||◌, eqb, Option, Some, List, ◌∷◌, length, take, drop, refl, sym, ◌∙◌, ap}
+use Rattle.std.proofs.lemmas.Bool.{cond-false, not-true, le-ltb, lt-ltb, ne_eqb, eq-eqb}
 use Rattle.std.specs.Int.{w32, from_be_bytes}
 use Rattle.rand_chacha.specs.ChaCha.{ChaCha}
-use Rattle.pp_terms.specs.Descriptor.{Method, Descriptor, chunks_of}
+use Rattle.pp_terms.specs.Descriptor.{Descriptor, chunks_of}
 use Rattle.pp_terms.specs.Options.{Options, IsBytes}
-use Rattle.pp_terms.specs.Messages.{Message, WireKind, Step, Read, End, Cut, next_message, moved, Messages, messages_at, with_first, datagram, Datagram}
+use Rattle.pp_terms.specs.Messages.{Message, WireKind, Read, End, Cut, next_message, moved, Messages, messages_at, datagram}
 use Rattle.pp_terms.proofs.MessageLaws.{IsBytes-drop}
 use Rattle.pp_terms.proofs.DatagramLaws.{one_by_one}
 use Rattle.pp_wire.specs.Views.{message_of}
@@ -14,7 +14,7 @@ use Rattle.pp_wire.specs.declared.message.Message.TheVariants as variants
 use Rattle.pp_options.specs.declared.value.Options as written
 use Rattle.pp_traffic.specs.Life.{fits}
 use Rattle.pp_outside.specs.declared.link.Address.{Address}
-use Rattle.pp_core.specs.Taking.{Taken, leaves, is_short, is_stranger, is_refused, greet_nothing, greet_fitting, greet, take_greeting, take_numbered, take_for, take_datagram}
+use Rattle.pp_core.specs.Taking.{Taken, leaves, is_short, is_stranger, is_refused, greet_nothing, greet_fitting, greet, take_greeting, take_numbered, take_datagram}
 use Rattle.pp_core.specs.declared.counts.Counts.{Counts}
 use Rattle.pp_core.specs.declared.channel.Channel.{Channel}
 use Rattle.pp_core.specs.declared.hearing.Heard.{Heard}

@@ -1,16 +1,14 @@
 -- What a datagram does to the counts that traffic and given-up requests are tied to.
-use Rattle.std.proofs.Common.{◌≡◌, ◌⊎◌, inl, inr, ⊎_elim, ℕ, zero, suc, ◌+◌, ◌-◌, ◌^◌, ◌<◌, ◌≤◌, min, ltb, leb, eqb, Bool, true, false, cond, not, ◌&&◌, ◌||◌, Option, Some, None, List, [], ◌∷◌, length, take, drop, refl, sym, ◌∙◌, ap, subst, arith}
-use Rattle.std.proofs.lemmas.Bool.{cases_Bool, cond-true, cond-false, lt-ltb, le-ltb, cases_lt}
+use Rattle.std.proofs.Common.{◌≡◌, ⊎_elim, ℕ, ◌<◌, ◌≤◌, ltb, eqb, Bool, true, false, cond, not, ◌||◌, Option, Some, None, List, [], ◌∷◌, length, take, refl, sym, ◌∙◌, subst}
+use Rattle.std.proofs.lemmas.Bool.{cond-true, cond-false, lt-ltb, le-ltb, cases_lt}
 use Rattle.std.specs.Int.{w32, from_be_bytes}
 use Rattle.rand_chacha.specs.ChaCha.{ChaCha, next_word}
 use Rattle.pp_terms.specs.Descriptor.{Descriptor, chunks_of}
-use Rattle.pp_terms.specs.Options.{Options}
-use Rattle.pp_terms.specs.Messages.{Message, Handshake, Data, Ack, Have, Integrity, Pex4, PexReq, Request, Cancel, Choke, Unchoke, Pex6, WireKind, Messages, Datagram, datagram}
+use Rattle.pp_terms.specs.Messages.{Message, Handshake, Data, Ack, Have, Integrity, Pex4, PexReq, Request, Cancel, Choke, Unchoke, Pex6, WireKind, Messages, datagram}
 use Rattle.pp_traffic.specs.Life.{fits}
 use Rattle.pp_outside.specs.declared.link.Address.{Address}
 use Rattle.pp_core.specs.Counting.{rise}
-use Rattle.pp_core.specs.Hearing.{hear_all, hear_rest}
-use Rattle.pp_core.specs.Taking.{Taken, leaves, is_short, is_stranger, is_refused, is_unseated, is_kept_alive, is_own, take_own, take_numbered, number_from, opened_by, is_again, greet_fitting, greet, is_in_options, greet_nothing, take_greeting, take_for, take_datagram}
+use Rattle.pp_core.specs.Taking.{Taken, leaves, is_short, is_stranger, is_refused, is_unseated, is_kept_alive, is_own, take_own, take_numbered, number_from, opened_by, is_again, greet_fitting, is_in_options, greet_nothing, take_greeting, take_for, take_datagram}
 use Rattle.pp_core.specs.declared.counts.Counts.{Counts}
 use Rattle.pp_core.specs.declared.channel.Channel.{Channel}
 use Rattle.pp_core.specs.declared.hearing.Heard.{Heard}

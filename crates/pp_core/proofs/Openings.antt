@@ -1,16 +1,15 @@
 -- A channel that a datagram opens.
-use Rattle.std.proofs.Common.{◌≡◌, ◌⊎◌, inl, inr, ⊎_elim, ℕ, zero, suc, ◌+◌, ◌<◌, ◌≤◌, max, ltb, leb, eqb, Bool, true, false, cond, not, ◌&&◌, ◌||◌, Option, Some, None, List, [], ◌∷◌, length, drop, refl, sym, ◌∙◌, ap, subst, arith}
-use Rattle.std.proofs.lemmas.Bool.{and_parts, and_from, or_cases, or_left, or_right, or_parts, or_from, and_left, and_right, cases_Bool, both_ways, cond-true, cond-false, not-false, not-true, lt-ltb, le-ltb, eqb-true, eqb-false, eq-eqb, ne_eqb, false≢true}
+use Rattle.std.proofs.Common.{◌≡◌, ◌⊎◌, inl, inr, ⊎_elim, ℕ, zero, suc, ◌<◌, ◌≤◌, max, ltb, leb, eqb, Bool, true, false, cond, not, ◌&&◌, ◌||◌, Option, Some, None, List, [], ◌∷◌, length, drop, refl, sym, ◌∙◌, ap, subst, arith}
+use Rattle.std.proofs.lemmas.Bool.{and_from, or_left, or_parts, or_from, and_left, and_right, cases_Bool, cond-true, cond-false, not-false, le-ltb, eqb-true, eqb-false, eq-eqb, ne_eqb, false≢true}
 use Rattle.std.specs.Prelude.{MatchOption}
 use Rattle.rand_chacha.specs.ChaCha.{ChaCha, next_word}
-use Rattle.pp_terms.specs.Traffic as traffic
 use Rattle.pp_terms.specs.Traffic.{Record, Received, same_address}
 use Rattle.pp_terms.specs.Descriptor.{Descriptor, chunks_of}
 use Rattle.pp_terms.specs.Options.{Options}
-use Rattle.pp_terms.specs.Messages.{Message, Handshake, Data, Ack, Have, Integrity, Pex4, PexReq, Request, Cancel, Choke, Unchoke, Pex6, WireKind, Messages, datagram}
-use Rattle.pp_traffic.specs.Past.{now, read, comes_from, is_number, some_since, is_at}
+use Rattle.pp_terms.specs.Messages.{Message, Handshake, Data, Ack, Have, Integrity, Pex4, PexReq, Request, Cancel, Choke, Unchoke, Pex6, WireKind, datagram}
+use Rattle.pp_traffic.specs.Past.{now, read, is_number, some_since, is_at}
 use Rattle.pp_traffic.specs.Life.{Life, greets, comes_on, shakes_on, closes_on, is_closed, fits, begins_fitting}
-use Rattle.pp_traffic.specs.Story.{Line, Heard, Said, Taken, hear, heard_in, told, story}
+use Rattle.pp_traffic.specs.Story.{Line, Taken, hear, heard_in, story}
 use Rattle.pp_traffic.specs.Life.{answers}
 use Rattle.pp_traffic.proofs.OneMore.{story_opening}
 use Rattle.pp_traffic.proofs.Plains.{none_from_end}

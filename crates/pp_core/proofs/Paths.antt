@@ -1,28 +1,28 @@
 -- The hashes of a chunk's path are in the book, and complete it.
-use Rattle.std.proofs.Common.{◌≡◌, ◌⊎◌, inl, inr, ⊎_elim, ℕ, zero, suc, ◌+◌, ◌-◌, ◌*◌, ◌/◌, ◌%◌, ◌^◌, ◌<◌, ◌≤◌, eqb, leb, Bool, true, false, cond, ◌&&◌, ◌||◌, Option, Some, None, List, [], ◌∷◌, ◌++◌, map, length, take, get_or, refl, sym, ◌∙◌, ap, subst, arith, add-one, pow-suc}
+use Rattle.std.proofs.Common.{◌≡◌, ⊎_elim, ℕ, zero, suc, ◌+◌, ◌-◌, ◌*◌, ◌/◌, ◌%◌, ◌^◌, ◌<◌, ◌≤◌, eqb, Bool, true, false, cond, ◌&&◌, ◌||◌, Option, Some, None, List, [], ◌∷◌, ◌++◌, map, length, take, get_or, refl, sym, ◌∙◌, ap, subst, arith, pow-suc}
 use Rattle.std.specs.Prelude.{is_some, unwrap_or, slice_index_or}
 use Rattle.std.specs.List.{AllByRecursion, list_any, list_all}
-use Rattle.std.proofs.lemmas.Bool.{and_parts, and_from, or_cases, or_left, or_right, cases_Bool, cases_eq, cases_lt, both_ways, eq-eqb, eqb-true, eqb-false, ne_eqb, cond-true, cond-false, le-leb, leb-true, false≢true}
+use Rattle.std.proofs.lemmas.Bool.{and_parts, and_from, or_cases, or_left, or_right, cases_Bool, cases_lt, both_ways, eq-eqb, eqb-true, eqb-false, cond-true, cond-false, le-leb, leb-true, false≢true}
 use Rattle.pp_terms.specs.Bins.{first_leaf, last_leaf, parent_of, sibling_of}
 use Rattle.pp_terms.specs.Book.{LookUp, IsJoined, IsRooted}
 use Rattle.pp_terms.specs.Descriptor.{Descriptor, IsDescriptor, chunks_of, height_of}
 use Rattle.pp_terms.specs.Image.{has_peaks}
-use Rattle.pp_terms.specs.Messages.{Span, Message, Integrity, Data}
-use Rattle.pp_terms.specs.Tree.{Node, height, peaks, peaks_below, above, is_full, IsHeight}
+use Rattle.pp_terms.specs.Messages.{Span, Message, Integrity}
+use Rattle.pp_terms.specs.Tree.{Node, height, peaks, peaks_below, above, is_full}
 use Rattle.pp_terms.proofs.Heights.{height_is}
 use Rattle.pp_tree.specs.declared.node.Node as declared
 use Rattle.pp_tree.specs.Node.{node_of}
 use Rattle.pp_tree.proofs.Halving.{above_is}
 use Rattle.pp_tree.proofs.Sizes.{chunk_size_range, chunk_count_range}
 use Rattle.pp_tree.proofs.Rootedness.{which_child}
-use Rattle.pp_traffic.specs.Hashes.{same_node, is_peak, leaf_at, is_told, completes, is_span_of, brings_node, brings, Carries}
+use Rattle.pp_traffic.specs.Hashes.{same_node, is_peak, leaf_at, is_told, completes, is_span_of, brings, Carries}
 use Rattle.pp_traffic.specs.Laws.{uncles_from, plan}
 use Rattle.pp_traffic.specs.Story.{Line}
 use Rattle.pp_traffic.proofs.Paths.{plans_complete, paths_grow}
 use Rattle.pp_plan.specs.Told.{ToldNodes, knows, is_marked}
 use Rattle.pp_plan.proofs.PeakTests.{goes_on, no_last, above_up, height_bound, peak_from}
 use Rattle.pp_core.specs.Serving.{HasPaths}
-use Rattle.pp_core.specs.Writing.{span_under, hash_of, path_nodes, IsGiven, delivery}
+use Rattle.pp_core.specs.Writing.{span_under, hash_of, path_nodes, IsGiven}
 use Rattle.pp_core.proofs.Fronts.{some_power}
 use Rattle.std.proofs.lemmas.List.{append_assoc}
 

@@ -1,5 +1,5 @@
 -- A turn of a peer that stands for its traffic leaves nothing that it owes.
-use Rattle.std.proofs.Common.{◌≡◌, ◌⊎◌, inl, inr, ⊎_elim, ℕ, zero, suc, ◌+◌, ◌<◌, ◌≤◌, ltb, leb, eqb, Bool, true, false, cond, not, ◌&&◌, ◌||◌, Option, Some, None, List, [], ◌∷◌, ◌++◌, length, take, drop, refl, sym, ◌∙◌, ap, subst, arith}
+use Rattle.std.proofs.Common.{◌≡◌, ◌⊎◌, inl, inr, ⊎_elim, ℕ, ◌<◌, ltb, leb, eqb, Bool, true, false, cond, not, ◌&&◌, ◌||◌, Option, Some, None, List, [], ◌∷◌, ◌++◌, length, take, drop, refl, sym, ◌∙◌, ap, subst, arith}
 use Rattle.std.proofs.lemmas.Bool.{and_parts, and_from, or_cases, or_left, or_right, or_parts, or_from, cases_Bool, cond-true, cond-false, not-true, eqb-true, ne_eqb, false≢true}
 use Rattle.std.specs.Prelude.{MatchOption, MatchBool}
 use Rattle.std.specs.List.{AllByRecursion, list_any}
@@ -9,12 +9,12 @@ use Rattle.pp_terms.specs.Book.{LookUp}
 use Rattle.pp_terms.specs.Traffic as traffic
 use Rattle.pp_terms.specs.Traffic.{Record, Received, Sent, same_address}
 use Rattle.pp_terms.specs.Descriptor.{Descriptor, chunks_of}
-use Rattle.pp_terms.specs.Messages.{Message, Handshake, Data, Ack, Have, Integrity, Pex4, PexReq, Request, Cancel, Choke, Unchoke, Pex6, WireKind, Messages, Datagram, datagram}
-use Rattle.pp_traffic.specs.Past.{read, goes_to, comes_from, is_number, is_event, some_since, is_at}
+use Rattle.pp_terms.specs.Messages.{Message, Handshake, Data, Ack, Have, Integrity, Pex4, PexReq, Request, Cancel, Choke, Unchoke, Pex6, WireKind, datagram}
+use Rattle.pp_traffic.specs.Past.{read, goes_to, is_number, is_event, some_since, is_at}
 use Rattle.pp_traffic.specs.Life.{Life, greets, answers, begins, begins_as, begins_fitting, fits}
 use Rattle.pp_traffic.specs.Story.{story}
 use Rattle.pp_traffic.specs.Asking.{asked, is_heard}
-use Rattle.pp_traffic.specs.Flight.{in_flight, fewer_than_two}
+use Rattle.pp_traffic.specs.Flight.{fewer_than_two}
 use Rattle.pp_traffic.specs.Plain.{is_handshake, first_since, IsPlainDial, IsPlainAnswer, IsPlainNow}
 use Rattle.pp_traffic.specs.Prompt.{knocks, first_source, knocks_in, knocks_once, lets_in, LetsInFirst, ServesAsked}
 use Rattle.pp_outside.specs.Outside.{address_of, record_of}
@@ -23,7 +23,7 @@ use Rattle.pp_outside.specs.declared.link.Address.{Address}
 use Rattle.pp_outside.specs.declared.link.Event.{Event}
 use Rattle.pp_outside.specs.declared.link.Event.TheVariants.{Datagram as Came, Quiet}
 use Rattle.pp_core.specs.Hearing.{is_closing, after_message, counted, hear_all}
-use Rattle.pp_core.specs.Taking.{Taken, leaves, is_refused, is_stranger, number_from, opened_by, greet_fitting, take_greeting, take_numbered, take_for, take_datagram}
+use Rattle.pp_core.specs.Taking.{Taken, leaves, is_refused, number_from, opened_by, greet_fitting, take_greeting, take_numbered, take_for, take_datagram}
 use Rattle.pp_core.specs.Events.{reached, after_event}
 use Rattle.pp_core.specs.Sending.{owes_reply, may_deliver}
 use Rattle.pp_core.specs.Sends.{replies_on, OwesNone, LeavesNone}

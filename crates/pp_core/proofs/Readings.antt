@@ -1,5 +1,5 @@
 -- A datagram read message by message.
-use Rattle.std.proofs.Common.{◌≡◌, ℕ, zero, suc, ◌+◌, ◌-◌, ◌<◌, ◌≤◌, Bool, true, false, cond, Option, Some, None, List, [], ◌∷◌, ◌++◌, length, take, drop, refl, sym, ◌∙◌, ap, subst, arith, zero-add}
+use Rattle.std.proofs.Common.{◌≡◌, ℕ, zero, suc, ◌+◌, ◌<◌, ◌≤◌, Bool, true, false, cond, Some, None, List, [], ◌∷◌, length, take, drop, refl, sym, ◌∙◌, ap, arith, zero-add}
 use Rattle.std.proofs.lemmas.List.{length-take, length-drop}
 use Rattle.std.proofs.lemmas.Bool.{cond-true, cond-false}
 use Rattle.pp_terms.specs.Descriptor.{Method, Descriptor, chunks_of}
@@ -12,7 +12,6 @@ use Rattle.pp_core.specs.Hearing.{is_outside, is_closing, after_message, is_full
 use Rattle.pp_core.specs.Progress.{hear_at}
 use Rattle.pp_core.specs.declared.counts.Counts.{Counts}
 use Rattle.pp_core.specs.declared.channel.Channel.{Channel}
-use Rattle.pp_core.specs.declared.hearing.Heard.{Heard}
 
 record Size (at : ℕ) (s : Step) (m : Message) (next : ℕ) : Type 0 where
   size : ℕ

@@ -1,25 +1,24 @@
 -- What was sent, put together.
-use Rattle.std.proofs.Common.{◌≡◌, ◌⊎◌, inl, inr, ⊎_elim, ℕ, zero, suc, ◌+◌, ◌-◌, ◌^◌, ◌<◌, ◌≤◌, min, ltb, Bool, true, false, ◌&&◌, Option, Some, None, List, [], ◌∷◌, ◌++◌, length, refl, sym, ◌∙◌, ap, subst, arith, append_assoc}
+use Rattle.std.proofs.Common.{◌≡◌, ◌⊎◌, inl, inr, ⊎_elim, ℕ, ◌<◌, ◌≤◌, Bool, true, false, ◌&&◌, Option, Some, None, List, [], ◌∷◌, ◌++◌, refl, sym, ◌∙◌, ap, subst, arith, append_assoc}
 use Rattle.std.specs.Prelude.{MatchOption, MatchBool, slice_index_or}
 use Rattle.std.specs.List.{AllByRecursion, list_any}
-use Rattle.std.proofs.lemmas.Bool.{and_parts, and_from, and_left, and_right, ltb-true, eq-eqb, or_left, or_right}
+use Rattle.std.proofs.lemmas.Bool.{and_from, eq-eqb, or_left, or_right}
 use Rattle.pp_terms.specs.Book.{LookUp}
-use Rattle.pp_terms.specs.Count.{HasRisen}
-use Rattle.pp_terms.specs.Traffic.{LinkState, Record, Sent, GainsRecords, same_address}
+use Rattle.pp_terms.specs.Traffic.{LinkState, Record, Sent, GainsRecords}
 use Rattle.pp_terms.specs.Descriptor.{Descriptor}
 use Rattle.pp_terms.specs.Disk.{DiskState, History, IsKnown, moment_of}
 use Rattle.pp_terms.specs.Messages.{Message, Datagram, datagram}
 use Rattle.pp_terms.proofs.Knowing.{known_on}
-use Rattle.pp_traffic.specs.Past.{read, goes_to, is_number, is_event}
+use Rattle.pp_traffic.specs.Past.{goes_to, is_number, is_event}
 use Rattle.pp_traffic.specs.Life.{begins_as}
 use Rattle.pp_outside.specs.Outside.{address_of}
 use Rattle.pp_terms.specs.Range.{has}
 use Rattle.pp_requests.specs.Lists.{chunk_count}
 use Rattle.pp_scan.specs.Holding.{is_there}
-use Rattle.pp_core.specs.Serving.{ReadsAlone, IsLacking, Served, lacks, unread, damaged, delivers, ServesLeast}
+use Rattle.pp_core.specs.Serving.{ReadsAlone, Served, lacks, unread, damaged, delivers}
 use Rattle.pp_core.specs.Writing.{IsDatagram, reply, delivery}
-use Rattle.pp_core.specs.Sending.{is_sent, is_unsent, is_unheld, is_unread, is_damaged, is_replied, is_met, is_delivered, SendsOne, SendsNone, leaves_on, owes_reply, may_deliver, Replies, Delivers}
-use Rattle.pp_core.specs.Sends.{HasShape, IsOurs, replies_on, OwesNone, SameCore, Sends, RisesWith, LeavesNone, IsDamagedThere, Causes, on, HasReplied, ServesNext, Point, ServesEach, HasServed, asked_on, asked_count}
+use Rattle.pp_core.specs.Sending.{is_sent, is_unsent, is_unheld, is_unread, is_damaged, is_replied, is_met, is_delivered, leaves_on, owes_reply, Replies}
+use Rattle.pp_core.specs.Sends.{IsOurs, replies_on, OwesNone, SameCore, Sends, RisesWith, IsDamagedThere, Causes, on, HasReplied, ServesNext, Point, ServesEach, asked_on, asked_count}
 use Rattle.pp_core.specs.Standing.{State, IsKept, StandsFor}
 use Rattle.pp_core.specs.declared.counts.Counts.{Counts}
 use Rattle.pp_core.specs.declared.channel.Channel.{Channel}

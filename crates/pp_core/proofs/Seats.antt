@@ -1,21 +1,17 @@
 -- The one channel of a peer, and one record more.
-use Rattle.std.proofs.Common.{◌≡◌, ◌⊎◌, inl, inr, ⊎_elim, ℕ, zero, suc, ◌+◌, ◌<◌, ◌≤◌, max, ltb, leb, eqb, Bool, true, false, cond, not, ◌&&◌, ◌||◌, Option, Some, None, List, [], ◌∷◌, ◌++◌, length, take, drop, refl, sym, ◌∙◌, ap, subst, arith}
-use Rattle.std.proofs.lemmas.Bool.{and_parts, and_from, or_cases, or_left, or_right, or_parts, or_from, and_left, and_right, cases_Bool, both_ways, cond-true, cond-false, not-true, not-false, not_from_true, not_from_false, le-leb, lt-leb, le-ltb, lt-ltb, eqb-true, eqb-false, eq-eqb, ne_eqb, false_from_ne_true}
-use Rattle.std.specs.Cmp.Lexicographic.{pointwise, same_text, other_text}
-use Rattle.std.specs.Prelude.{MatchOption, nat_eq}
+use Rattle.std.proofs.Common.{◌≡◌, ⊎_elim, ℕ, ◌<◌, leb, eqb, Bool, true, false, cond, ◌&&◌, ◌||◌, List, [], ◌∷◌, length, refl, sym, ◌∙◌, ap, subst, arith}
+use Rattle.std.proofs.lemmas.Bool.{and_parts, and_from, or_cases, or_left, or_right, both_ways, le-leb, eqb-true, eq-eqb}
+use Rattle.std.specs.Cmp.Lexicographic.{pointwise, same_text}
+use Rattle.std.specs.Prelude.{nat_eq}
 use Rattle.pp_terms.specs.Traffic.{Address, V4, V6, Record, Received, Quiet, Sent, same_address}
 use Rattle.pp_terms.specs.Descriptor.{Descriptor, chunks_of}
-use Rattle.pp_terms.specs.Messages.{Message, Handshake, Messages}
-use Rattle.pp_traffic.specs.Past.{now, read, comes_from, goes_to, is_event, is_number, some_since, is_at, EachRecord}
-use Rattle.pp_traffic.specs.Life.{Life, IsLife, greets, answers, comes_on, shakes_on, closes_on, is_closed, fits, begins_fitting}
-use Rattle.pp_traffic.specs.Story.{Line, Heard, Said, Taken, hear, heard_in, told, story}
-use Rattle.pp_traffic.specs.Asking.{choked, asked, is_heard}
-use Rattle.pp_traffic.specs.Flight.{in_flight}
-use Rattle.pp_traffic.specs.Plain.{IsPlainNow}
-use Rattle.pp_traffic.proofs.OneMore.{at_within, closed_no, story_step, story_opening}
-use Rattle.pp_traffic.proofs.Plains.{at_later, NoneDialled, plain_before}
+use Rattle.pp_traffic.specs.Past.{now, read, goes_to, is_number, some_since, is_at, EachRecord}
+use Rattle.pp_traffic.specs.Life.{Life, IsLife, greets, answers, comes_on, closes_on}
+use Rattle.pp_traffic.specs.Story.{Line, Taken, story}
+use Rattle.pp_traffic.proofs.OneMore.{at_within, closed_no}
+use Rattle.pp_traffic.proofs.Plains.{at_later, NoneDialled}
 use Rattle.pp_outside.specs.Outside.{address_of}
-use Rattle.pp_core.specs.Standing.{Follows, SeatStands, HasSeat, NonePlain, DialsNone}
+use Rattle.pp_core.specs.Standing.{Follows, SeatStands, DialsNone}
 use Rattle.pp_core.specs.declared.channel.Channel.{Channel}
 
 -- ---- addresses

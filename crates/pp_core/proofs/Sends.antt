@@ -1,34 +1,32 @@
 -- A peer that stands for its traffic stands for it with one datagram more that it sent.
-use Rattle.std.proofs.Common.{◌≡◌, ◌⊎◌, inl, inr, ⊎_elim, ℕ, zero, suc, ◌+◌, ◌-◌, ◌^◌, ◌<◌, ◌≤◌, min, ltb, leb, eqb, Bool, true, false, cond, not, ◌&&◌, ◌||◌, Option, Some, None, List, [], ◌∷◌, ◌++◌, map, length, refl, sym, ◌∙◌, ap, subst, arith}
-use Rattle.std.proofs.lemmas.Bool.{and_parts, and_from, and_right, or_cases, or_left, or_right, not-true, not_from_false, cases_Bool, both_ways, cond-true, cond-false, lt-ltb, ltb-true, leb-true, eqb-true, eqb-false, eq-eqb, ne_eqb, false≢true}
+use Rattle.std.proofs.Common.{◌≡◌, ⊎_elim, ℕ, zero, suc, ◌+◌, ◌-◌, ◌^◌, ◌<◌, ◌≤◌, min, eqb, Bool, true, false, cond, not, ◌&&◌, ◌||◌, Option, Some, List, [], ◌∷◌, ◌++◌, map, length, refl, sym, ◌∙◌, ap, subst, arith}
+use Rattle.std.proofs.lemmas.Bool.{and_parts, and_from, and_right, or_cases, not-true, not_from_false, cond-true, cond-false, lt-ltb, eqb-true, eqb-false, eq-eqb, ne_eqb, false≢true}
 use Rattle.std.proofs.lemmas.List.{append_assoc}
 use Rattle.std.specs.Prelude.{MatchOption, slice_index_or}
-use Rattle.std.specs.List.{AllByRecursion, list_all, list_any}
 use Rattle.pp_terms.specs.Traffic as traffic
 use Rattle.pp_terms.specs.Traffic.{Record, Sent, same_address}
 use Rattle.pp_terms.specs.Tree.{Node}
 use Rattle.pp_terms.specs.Range.{has}
 use Rattle.pp_terms.specs.Descriptor.{Descriptor, Method, IsDescriptor, chunks_of}
 use Rattle.pp_terms.specs.Book.{LookUp}
-use Rattle.pp_terms.specs.Messages.{Span, Message, Handshake, Data, Have, Integrity, Datagram, datagram}
-use Rattle.pp_traffic.specs.Past.{now, read, goes_to, is_number, some_since, is_at, EachRecord}
-use Rattle.pp_traffic.specs.Life.{Life, IsLife, answers, comes_on, closes_on, begins_as}
-use Rattle.pp_traffic.specs.Story.{Line, Heard, Said, Taken, say, said_in, told, story, behind}
-use Rattle.pp_traffic.specs.Asking.{covers, choked, asked, is_heard}
+use Rattle.pp_terms.specs.Messages.{Span, Message, Handshake, Data, Have, Datagram, datagram}
+use Rattle.pp_traffic.specs.Past.{now, goes_to, is_number}
+use Rattle.pp_traffic.specs.Life.{Life, answers, begins_as}
+use Rattle.pp_traffic.specs.Story.{Line, Said, say, said_in, story, behind}
+use Rattle.pp_traffic.specs.Asking.{covers, choked, asked}
 use Rattle.pp_traffic.specs.Flight.{in_flight, fewer_than_two}
-use Rattle.pp_traffic.specs.Serving.{AnswersOn, AnswersPeer, ServesChunk, ServesFrom, Serves, ServesAll}
-use Rattle.pp_traffic.specs.Keeping.{announces, EachAnnounced}
+use Rattle.pp_traffic.specs.Serving.{ServesChunk, ServesFrom, Serves}
+use Rattle.pp_traffic.specs.Keeping.{announces}
 use Rattle.pp_traffic.specs.Plain.{IsPlainNow}
 use Rattle.pp_traffic.proofs.OneMore.{story_step}
-use Rattle.pp_traffic.proofs.Plains.{NoneDialled, IsReplyTo, plain_before_sent, one_opening}
+use Rattle.pp_traffic.proofs.Plains.{NoneDialled, plain_before_sent, one_opening}
 use Rattle.pp_outside.specs.Outside.{address_of}
-use Rattle.pp_requests.specs.Lists.{without}
 use Rattle.pp_core.specs.Announcing.{AreNext, AreNews}
 use Rattle.pp_core.specs.Counting.{rise}
 use Rattle.pp_core.specs.Serving.{HasPaths, IsChunk}
 use Rattle.pp_core.specs.Writing.{IsDatagram, own_options, reply, hash_of, path_nodes, delivery}
 use Rattle.pp_core.specs.Sending.{is_sent, is_unsent, is_unheld, is_unread, is_damaged, is_replied, is_met, is_delivered}
-use Rattle.pp_core.specs.Standing.{State, IsWhole, IsKept, Follows, SeatStands, HasSeat, NonePlain, DialsNone, came, came_short, went, capped, IsTied, StandsFor}
+use Rattle.pp_core.specs.Standing.{State, IsWhole, IsKept, Follows, SeatStands, HasSeat, NonePlain, DialsNone, IsTied, StandsFor}
 use Rattle.pp_core.specs.declared.counts.Counts.{Counts}
 use Rattle.pp_core.specs.declared.channel.Channel.{Channel}
 use Rattle.pp_core.proofs.Askings.{without_runs, without_from, without_to}

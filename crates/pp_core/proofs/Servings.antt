@@ -1,6 +1,6 @@
 -- A chunk that was read, or not.
-use Rattle.std.proofs.Common.{◌≡◌, ◌⊎◌, inl, inr, ℕ, ◌<◌, ◌≤◌, ltb, Bool, true, false, ◌&&◌, Option, Some, None, List, length, take, refl, sym, ◌∙◌, ap, subst, arith}
-use Rattle.std.specs.Prelude.{Result, Ok, Err, MatchOption, slice_index_or}
+use Rattle.std.proofs.Common.{◌≡◌, ℕ, ◌<◌, ◌≤◌, ltb, true, ◌&&◌, Option, Some, None, List, length, take, refl, sym, ◌∙◌, ap, subst, arith}
+use Rattle.std.specs.Prelude.{Result, Err, MatchOption}
 use Rattle.std.proofs.lemmas.Bool.{and_parts, false_from_ne_true, ltb-true}
 use Rattle.std.proofs.lemmas.List.{length-take, length-take-le}
 use Rattle.sha2.specs.Sha256.{sha256}
@@ -9,12 +9,12 @@ use Rattle.pp_terms.specs.Content.{chunk_length}
 use Rattle.pp_terms.specs.Descriptor.{Descriptor}
 use Rattle.pp_terms.specs.Disk.{DiskState, IsKnown}
 use Rattle.pp_terms.specs.Range.{Span}
-use Rattle.pp_requests.specs.Lists.{without, chunk_count}
+use Rattle.pp_requests.specs.Lists.{chunk_count}
 use Rattle.pp_scan.specs.Holding.{is_there}
 use Rattle.pp_store.specs.ReadChunk.{IsRightChunk}
 use Rattle.pp_store.specs.declared.reading.ReadFault.{ReadFault}
 use Rattle.pp_store.specs.declared.reading.ReadFault.TheVariants.{Damaged}
-use Rattle.pp_core.specs.Sending.{may_deliver, is_asked, is_met}
+use Rattle.pp_core.specs.Sending.{may_deliver, is_asked}
 use Rattle.pp_core.specs.Serving.{ReadsAlone, IsChunk, IsLacking}
 use Rattle.pp_core.specs.declared.channel.Channel.{Channel}
 

@@ -1,6 +1,6 @@
 -- A peer that stands for its traffic stands for it with one event more.
-use Rattle.std.proofs.Common.{◌≡◌, ◌⊎◌, inl, inr, ⊎_elim, ℕ, zero, suc, ◌+◌, ◌-◌, ◌^◌, ◌<◌, ◌≤◌, min, max, ltb, leb, Bool, true, false, cond, not, ◌&&◌, ◌||◌, Option, Some, None, List, [], ◌∷◌, length, take, refl, sym, ◌∙◌, ap, subst, arith}
-use Rattle.std.proofs.lemmas.Bool.{cases_Bool, both_ways, cond-true, cond-false, or_left, and_parts, and_from, le-leb, false≢true}
+use Rattle.std.proofs.Common.{◌≡◌, ⊎_elim, ℕ, ◌+◌, ◌<◌, max, ltb, leb, Bool, true, false, ◌&&◌, Option, Some, None, List, [], ◌∷◌, length, take, refl, sym, ◌∙◌, ap, subst, arith}
+use Rattle.std.proofs.lemmas.Bool.{cases_Bool, both_ways, cond-true, cond-false, or_left, and_from, le-leb, false≢true}
 use Rattle.std.proofs.Math.Seq.{take-length}
 use Rattle.std.specs.Prelude.{MatchOption, MatchBool, slice_index_or}
 use Rattle.rand_chacha.specs.ChaCha.{ChaCha}
@@ -18,7 +18,7 @@ use Rattle.pp_scan.specs.Scan.{IsScanned}
 use Rattle.pp_core.specs.Opening.{new_state}
 use Rattle.pp_core.specs.Serving.{HasPaths}
 use Rattle.pp_core.proofs.Announcements.{within_set}
-use Rattle.pp_traffic.specs.Past.{now, is_event, some_since, EachRecord}
+use Rattle.pp_traffic.specs.Past.{is_event, some_since}
 use Rattle.pp_traffic.specs.Life.{Life, closes_on}
 use Rattle.pp_traffic.specs.Plain.{IsPlainDial, IsPlainAnswer, IsPlainNow}
 use Rattle.pp_traffic.proofs.Plains.{NoneDialled, plain_before}
@@ -30,12 +30,12 @@ use Rattle.pp_outside.specs.declared.link.Event.TheVariants.{Datagram, Quiet}
 use Rattle.pp_core.specs.Counting.{rise}
 use Rattle.pp_core.specs.Events.{turned, reached, after_event, after_refusal}
 use Rattle.pp_core.specs.Taking.{take_datagram}
-use Rattle.pp_core.specs.Standing.{State, IsWhole, IsKept, SeatStands, HasSeat, NonePlain, DialsNone, came, came_short, went, capped, IsTied, StandsFor}
+use Rattle.pp_core.specs.Standing.{State, IsWhole, IsKept, SeatStands, HasSeat, NonePlain, came, came_short, capped, IsTied, StandsFor}
 use Rattle.pp_core.specs.declared.counts.Counts.{Counts}
 use Rattle.pp_core.specs.declared.channel.Channel.{Channel}
 use Rattle.pp_core.proofs.Following.{Since}
 use Rattle.pp_core.proofs.Absorbs.{LeavesSeat, leaves_seat, seat_quiet}
-use Rattle.pp_core.proofs.Openings.{HasNewSeat, OpensSeat, opens_seat}
+use Rattle.pp_core.proofs.Openings.{HasNewSeat, opens_seat}
 use Rattle.pp_core.proofs.Losses.{TakesLoss, takes_loss}
 use Rattle.pp_core.proofs.Seats.{none_dialled, follow_weaker, seat_began}
 

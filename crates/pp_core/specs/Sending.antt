@@ -1,8 +1,8 @@
 -- What is sent on the channel, and what is left of it.
-use Rattle.std.specs.Prelude.{◌≡◌, ◌⊎◌, ℕ, ◌+◌, ◌<◌, ◌≤◌, nat_lt, Bool, true, false, not, ◌&&◌, Option, Some, None, List, [], ◌∷◌, length}
+use Rattle.std.specs.Prelude.{◌≡◌, ◌⊎◌, ℕ, ◌≤◌, nat_lt, Bool, true, false, not, ◌&&◌, Some, List, [], ◌∷◌, length}
 use Rattle.pp_terms.specs.Count.{HasRisen}
 use Rattle.pp_terms.specs.Descriptor.{Descriptor}
-use Rattle.pp_terms.specs.Traffic.{LinkState, Record, Sent, GainsRecords}
+use Rattle.pp_terms.specs.Traffic.{LinkState, Sent, GainsRecords}
 use Rattle.pp_terms.specs.Book.{LookUp}
 use Rattle.pp_terms.specs.Messages.{Span, Message}
 use Rattle.pp_terms.specs.Range as range

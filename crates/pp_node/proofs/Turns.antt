@@ -22,7 +22,7 @@ use Rattle.pp_tree.specs.Book.{BookState, entry}
 use Rattle.pp_scan.specs.Holding.{is_there}
 use Rattle.pp_core.specs.Events.{after_event}
 use Rattle.pp_core.specs.Sends.{IsOurs, replies_on, OwesNone, Sends}
-use Rattle.pp_core.specs.Serving.{HasPaths, ReadsAlone}
+use Rattle.pp_core.specs.Serving.{HasPaths}
 use Rattle.pp_core.specs.Standing.{State, IsWhole, capped, StandsFor}
 use Rattle.pp_core.proofs.Counted.{CountsTurn, event_counted, event_refusals, refusal_counted, sent_turns, sent_refusals, sent_full, sent_whole}
 use Rattle.pp_core.proofs.Prompts.{lets_event, serves_turn}

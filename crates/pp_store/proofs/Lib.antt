@@ -5,6 +5,7 @@ pub mod Carrying
 pub mod Tails
 pub mod Layering
 pub mod Nexts
+pub mod Quads
 pub mod Sealing
 pub mod Steps
 pub mod Ends

@@ -79,6 +79,14 @@ full_whole chunk size = ⊎_elim (λ e. at 256 e refl) (λ r. ⊎_elim (λ e. at
     at : (n : ℕ) → chunk ≡ n → 65536 % n ≡ 0 → 65536 % chunk ≡ 0
     at n e is = ap (λ (m : ℕ). 65536 % m) e ∙ is
 
+-- a chunk is cut into whole blocks of SHA-256
+pub blocks_whole : (chunk : ℕ) → IsChunkSize chunk → chunk % 64 ≡ 0
+blocks_whole chunk size = ⊎_elim (λ e. at 256 e refl) (λ r. ⊎_elim (λ e. at 512 e refl) (λ r. ⊎_elim (λ e. at 1024 e refl) (λ r. ⊎_elim (λ e. at 2048 e refl)
+    (λ r. ⊎_elim (λ e. at 4096 e refl) (λ e. at 8192 e refl) r) r) r) r) (size_of_chunk_size chunk size)
+  where
+    at : (n : ℕ) → chunk ≡ n → n % 64 ≡ 0 → chunk % 64 ≡ 0
+    at n e is = ap (λ (m : ℕ). m % 64) e ∙ is
+
 -- the chunks of whole ones and of some bytes more
 pub counted_more : (chunk count size : ℕ) → 0 < chunk → count + chunk_count size chunk ≡ chunk_count (count * chunk + size) chunk
 counted_more chunk count size some =

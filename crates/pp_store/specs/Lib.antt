@@ -1,6 +1,7 @@
 pub mod Keep
 pub mod Behind
 pub mod Imported
+pub mod Leaves
 pub mod Growing
 pub mod Seal
 pub mod Import

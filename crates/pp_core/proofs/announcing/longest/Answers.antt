@@ -1,6 +1,6 @@
 use Rattle.std.proofs.Common.{refl, ap, inl, inr, ⊎_elim}
 use Rattle.pp_tree.specs.Method.{method_of}
-use Rattle.pp_core.proofs.Announcements.{longest_bin, longest_range}
+use Rattle.pp_core.proofs.Announcements.{longest_bin}
 use Rattle.pp_core.proofs.announcing.longest.Goals as goal
 
 pub returns-in-Bin32 : goal.returns-in-Bin32

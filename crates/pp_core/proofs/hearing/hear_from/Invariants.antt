@@ -1,4 +1,4 @@
-use Rattle.std.proofs.Common.{◌≡◌, ◌<◌, ◌≤◌, length, ◌-◌}
+use Rattle.std.proofs.Common.{◌≡◌, ◌≤◌, length, ◌-◌}
 use Rattle.pp_core.specs.Progress.{hear_at}
 use Rattle.pp_core.proofs.hearing.hear_from.Given as goal
 

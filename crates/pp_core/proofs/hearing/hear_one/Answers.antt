@@ -1,4 +1,4 @@
-use Rattle.std.proofs.Common.{◌<◌, sym, ◌∙◌, arith}
+use Rattle.std.proofs.Common.{sym, ◌∙◌, arith}
 use Rattle.pp_core.proofs.Readings.{hears_on, hears_last, hears_none, hears_fault}
 use Rattle.pp_core.proofs.hearing.hear_one.Goals as goal
 

@@ -1,4 +1,4 @@
-use Rattle.std.proofs.Common.{inr, refl, arith}
+use Rattle.std.proofs.Common.{inr, refl}
 use Rattle.pp_core.proofs.sending.deliver.Goals as goal
 
 pub returns-in-Err : goal.returns-in-Err

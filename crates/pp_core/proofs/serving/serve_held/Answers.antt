@@ -1,4 +1,4 @@
-use Rattle.std.proofs.Common.{◌≡◌, ◌∙◌, ap, subst, sym, refl, take, drop, length, arith, Err, List, ℕ}
+use Rattle.std.proofs.Common.{◌∙◌, ap, subst, sym, refl, take, drop, length, arith, Err, List, ℕ}
 use Rattle.pp_tree.specs.Book.{entry}
 use Rattle.pp_tree.proofs.Sizes.{chunk_size_range}
 use Rattle.std.proofs.lemmas.List.{take_at}

@@ -1,7 +1,4 @@
-use Rattle.std.proofs.Common.{◌≡◌, sym, ◌∙◌, ap, arith, drop, refl}
-use Rattle.pp_terms.specs.Messages.{messages_at, Read, moved, next_message}
-use Rattle.pp_wire.specs.Views.{message_of}
-use Rattle.pp_wire.specs.declared.message.Message.{Message}
+use Rattle.std.proofs.Common.{sym, ◌∙◌, arith, refl}
 use Rattle.pp_core.proofs.Greetings.{greets_by, no_greeting, greets_cut, greets_end}
 use Rattle.pp_core.proofs.taking.take_greeting.Goals as goal
 

@@ -1,4 +1,3 @@
-use Rattle.std.proofs.Common.{subst}
 use Rattle.pp_core.proofs.writing.put_data.Goals as goal
 
 pub returns : goal.returns

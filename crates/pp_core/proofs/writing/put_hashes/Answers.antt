@@ -1,4 +1,4 @@
-use Rattle.std.proofs.Common.{◌≡◌, ◌∙◌, Some, List, ◌++◌, map, subst, sym, ap, refl, arith}
+use Rattle.std.proofs.Common.{◌∙◌, List, ◌++◌, map, subst, sym, arith}
 use Rattle.pp_terms.specs.Messages.{Message}
 use Rattle.pp_tree.specs.Book.{entry}
 use Rattle.std.proofs.lemmas.List.{take_all}

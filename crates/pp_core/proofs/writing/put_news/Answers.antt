@@ -1,4 +1,3 @@
-use Rattle.std.proofs.Common.{arith}
 use Rattle.pp_wire.specs.Views.{span_of}
 use Rattle.pp_core.proofs.Announcements.{announces_none, announces_more, announces_all, announces_end}
 use Rattle.pp_core.proofs.writing.put_news.Goals as goal

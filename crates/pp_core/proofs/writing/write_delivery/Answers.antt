@@ -1,6 +1,6 @@
-use Rattle.std.proofs.Common.{◌≡◌, ◌∙◌, List, ◌++◌, ◌∷◌, [], map, ap, subst, sym}
+use Rattle.std.proofs.Common.{List, ◌++◌, ◌∷◌, [], map, subst, sym}
 use Rattle.std.specs.List.{AllByRecursion}
-use Rattle.pp_terms.specs.Messages.{Message, Data}
+use Rattle.pp_terms.specs.Messages.{Data}
 use Rattle.pp_terms.specs.Tree.{Node}
 use Rattle.pp_tree.specs.Book.{entry}
 use Rattle.pp_core.specs.Writing.{IsWritten, IsGiven, hash_of}

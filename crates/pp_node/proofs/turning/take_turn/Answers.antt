@@ -1,4 +1,4 @@
-use Rattle.std.proofs.Common.{subst, sym}
+use Rattle.std.proofs.Common.{subst}
 use Rattle.pp_tree.specs.Book.{BookState, entry}
 use Rattle.pp_node.specs.Turning.{Flushes}
 use Rattle.pp_node.proofs.Turns.{turn_of, paths_waited}

@@ -1,7 +1,5 @@
-use Rattle.std.proofs.Common.{List, Bool, subst, sym}
 use Rattle.pp_terms.specs.Disk.{moment_of}
 use Rattle.pp_tree.specs.Book.{entry}
-use Rattle.pp_core.specs.Serving.{HasPaths}
 use Rattle.pp_core.proofs.Turning.{paths_found, there_found, stands_begun}
 use Rattle.pp_core.proofs.peer.Peer.open.Goals as goal
 

@@ -1,10 +1,10 @@
 use Rattle.std.proofs.Common.{Option, ◌∙◌, ap, subst, sym}
 use Rattle.pp_terms.specs.Disk.{moment_of}
-use Rattle.pp_core.specs.Sends.{on, Sends, Causes}
+use Rattle.pp_core.specs.Sends.{on, Sends}
 use Rattle.pp_core.specs.Standing.{State}
 use Rattle.pp_core.specs.Peers.{state_of}
 use Rattle.pp_core.specs.declared.channel.Channel.{Channel}
-use Rattle.pp_core.proofs.Relations.{sends_same, sends_reply, causes_reply}
+use Rattle.pp_core.proofs.Relations.{sends_same, sends_reply}
 use Rattle.pp_core.proofs.peer.Peer.reply.Goals as goal
 
 pub returns-in_default-clause-sends : goal.returns-in_default-clause-sends

@@ -1,4 +1,3 @@
-use Rattle.std.proofs.Common.{refl}
 use Rattle.pp_tree.specs.Book.{entry}
 use Rattle.pp_core.proofs.Relations.{served_none, served_more}
 use Rattle.pp_core.proofs.peer.Peer.serve.Goals as goal

@@ -1,4 +1,3 @@
-use Rattle.std.proofs.Common.{◌≡◌}
 use Rattle.pp_tree.specs.Book.{entry}
 use Rattle.pp_core.specs.Sends.{asked_count}
 use Rattle.pp_core.proofs.Relations.{HasServedSome}

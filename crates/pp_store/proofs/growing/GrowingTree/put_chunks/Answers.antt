@@ -5,11 +5,14 @@ use Rattle.pp_tree.proofs.Sizes.{chunk_size_range}
 use Rattle.pp_tree.proofs.Layers.{default_in, chunk_cut}
 use Rattle.pp_store.specs.Growing.{chunks_in}
 use Rattle.pp_store.proofs.Writings.{keeps_more, does_later}
-use Rattle.pp_store.proofs.Nexts.{next_low, few_leaves, next_chunk, next_counted, counted_below, counted_all}
+use Rattle.pp_store.proofs.Nexts.{blocks_whole, next_low, few_leaves, next_chunk, next_counted, counted_below, counted_all}
 use Rattle.pp_store.proofs.growing.GrowingTree.put_chunks.Goals as goal
 
 pub leaf_digests-requires-clause-small : goal.leaf_digests-requires-clause-small
 leaf_digests-requires-clause-small g c = let range = chunk_size_range c.args.chunk c.requires.size in omega arith
+
+pub leaf_digests-requires-clause-blocks : goal.leaf_digests-requires-clause-blocks
+leaf_digests-requires-clause-blocks g c = blocks_whole c.args.chunk c.requires.size
 
 pub leaf_digests-requires-clause-few : goal.leaf_digests-requires-clause-few
 leaf_digests-requires-clause-few g c = let range = chunk_size_range c.args.chunk c.requires.size in omega arith

@@ -1,0 +1,5 @@
+mod ChMaj
+mod Rotations
+mod LaneWords
+mod LaneBlocks
+mod LaneDigests
