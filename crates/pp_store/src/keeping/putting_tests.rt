@@ -196,17 +196,10 @@ fn other_bytes_are_refused(rt: HostRuntime) -> Result<(), Fail> {
     let mut store = Store::open(alloc, &swarm.descriptor, &mut disk, &mut book)?;
     let mut bytes = bytes_of(1024, 0);
     let none = Claims::new(alloc)?;
-    let put = put_bytes(
-        &swarm,
-        0,
-        &bytes[..1023],
-        &none,
-        &mut store,
-        &mut book,
-        &mut disk,
-    )?;
-    let found = 1023;
-    assert_eq!(rt; put, Some(Put::Length { found, want: 1024 }));
+    // The last chunk has 856 bytes.
+    let put = put_bytes(&swarm, 6, &bytes, &none, &mut store, &mut book, &mut disk)?;
+    let found = 1024;
+    assert_eq!(rt; put, Some(Put::Length { found, want: 856 }));
     let put = put_bytes(&swarm, 0, &bytes, &none, &mut store, &mut book, &mut disk)?;
     let node = Node {
         layer: 2,
