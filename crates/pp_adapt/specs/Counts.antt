@@ -1,6 +1,6 @@
 -- Counts of refused calls, and the meaning of a source and a sink that tell nothing else.
 use Rattle.std.specs.Prelude.{ℕ, ◌+◌, ◌-◌, ◌^◌, min, None}
-use Rattle.pp_terms.specs.Stream.{SourceState, SinkState}
+use Rattle.pp_terms.specs.command.Stream.{SourceState, SinkState}
 
 -- a count after one refused call more: it stands still at the greatest number of 64 bits
 abbrev pub raised : ℕ → ℕ

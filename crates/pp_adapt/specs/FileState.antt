@@ -1,7 +1,7 @@
 -- A disk over a file: what is known of it, and its meaning.
 use Rattle.std.specs.Prelude.{ℕ, Bool, false, not, ◌&&◌, [], IsTrue}
 use Rattle.std.proofs.Common.{lit≤, refl}
-use Rattle.pp_terms.specs.Disk.{DiskState, IsImage, fresh}
+use Rattle.pp_terms.specs.disk.Disk.{DiskState, IsImage, fresh}
 use Rattle.pp_adapt.specs.Counts.{raised}
 
 -- Whether a store is attached, whether a sync was refused since it was, and how often a call was refused: all

@@ -3,7 +3,7 @@ use Rattle.std.specs.Prelude.{ℕ, Option, Some, None}
 use Rattle.std.specs.declared.net.ip_addr.IpAddr.{IpAddr}
 use Rattle.std.specs.declared.net.ip_addr.IpAddr.TheVariants as ip
 use Rattle.std.specs.Net.Addr.{ipv4_octets, ipv6_octets}
-use Rattle.pp_terms.specs.Traffic.{LinkState}
+use Rattle.pp_terms.specs.format.Traffic.{LinkState}
 use Rattle.pp_outside.specs.declared.link.Address.{Address}
 use Rattle.pp_outside.specs.declared.link.Address.TheVariants.{V4, V6}
 use Rattle.pp_outside.specs.declared.link.Event.{Event}
@@ -26,9 +26,9 @@ unbound = record { listen = None; moment = 0; faults = 0; nexts = 0 }
 abbrev pub with_refused_call : UdpState → UdpState
 with_refused_call s = record s { faults = raised s.faults }
 
--- the meaning of a link that doesn't tell its traffic
+-- the meaning of a link that tells neither its traffic nor its addresses
 abbrev pub silent_link : UdpState → LinkState
-silent_link s = record { traffic = None; faults = s.faults; nexts = s.nexts }
+silent_link s = record { traffic = None; faults = s.faults; nexts = s.nexts; bound = None }
 
 -- an IP address and a port, in a link's words
 abbrev pub named : IpAddr → ℕ → Address

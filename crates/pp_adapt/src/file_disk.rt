@@ -1,6 +1,6 @@
 // A disk over a file.
 ghost use Rattle.std.specs.Prelude.{◌≡◌, ◌+◌, ◌^◌, ◌≤◌, ◌<◌, true, false, length, is_some, IsTrue, IsSome, OnOk, OnErr};
-ghost use Rattle.pp_terms.specs.Disk.{DoesAttach, DoesLen, DoesRead, DoesWrite, DoesSync};
+ghost use Rattle.pp_terms.specs.disk.Disk.{DoesAttach, DoesLen, DoesRead, DoesWrite, DoesSync};
 ghost use Rattle.pp_adapt.specs.FileState.{FileState, IsLive, unattached, with_refusal, with_refused_reading, silent_disk, silent_is_image};
 ghost use Rattle.pp_adapt.specs.Folder.{folder_of};
 
@@ -219,7 +219,7 @@ impl<R: Files<File = File>> Disk for FileDisk<R> {
     /// anything but a file, an empty file behind a symbolic link, and a file that is locked are refused; then no store
     /// is attached.
     fn attach(&mut self, name: &str) -> Result<(), DiskFault>
-        ensures does { DoesAttach (silent_disk self.old) result (silent_disk self.new) }
+        ensures does { DoesAttach (silent_disk self.old) name.now result (silent_disk self.new) }
         ensures ok { OnOk result (self.new ≡ record self.old { is_attached = true; is_lost = false }) }
         ensures err { OnErr result (self.new ≡ with_refusal (record self.old { is_attached = false; is_lost = false })) }
     {

@@ -3,7 +3,7 @@ ghost use Rattle.std.specs.Prelude.{◌≡◌, IfOk, OnOk, OnErr};
 ghost use Rattle.std.specs.Io.{ReadsAtMost};
 ghost use Rattle.std.specs.Io.KnownBytes.{ReadConsumes};
 ghost use Rattle.std.specs.Io.Buffered.{reader_remaining};
-ghost use Rattle.pp_terms.specs.Stream.{SourceState, DoesTake};
+ghost use Rattle.pp_terms.specs.command.Stream.{SourceState, DoesTake};
 ghost use Rattle.pp_adapt.specs.Counts.{raised, silent_source};
 
 use pp_outside::{Source, SourceFault};

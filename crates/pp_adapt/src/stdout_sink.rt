@@ -2,7 +2,7 @@
 ghost use Rattle.std.specs.Prelude.{◌≡◌, ◌<◌, length, IfOk, OnOk, OnErr};
 ghost use Rattle.std.specs.Io.{WritesAtMost};
 ghost use Rattle.std.specs.Io.KnownBytes.{WriteAppends};
-ghost use Rattle.pp_terms.specs.Stream.{SinkState, DoesGive};
+ghost use Rattle.pp_terms.specs.command.Stream.{SinkState, DoesGive};
 ghost use Rattle.pp_adapt.specs.Counts.{raised, silent_sink};
 
 use pp_outside::{Sink, SinkFault};

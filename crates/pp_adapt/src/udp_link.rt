@@ -2,7 +2,7 @@
 ghost use Rattle.std.specs.Prelude.{◌≡◌, ◌^◌, ◌≤◌, ◌<◌, ◌↔◌, length, Some, None, IsTrue, IsSome, IfOk, IfSome, OnOk, OnErr};
 ghost use Rattle.std.specs.Option.{option_map};
 ghost use Rattle.std.specs.Net.Socket.{socket_ip, socket_port};
-ghost use Rattle.pp_terms.specs.Disk.{moment_of};
+ghost use Rattle.pp_terms.specs.disk.Disk.{moment_of};
 ghost use Rattle.pp_outside.specs.Outside.{FitsIn, DoesBind, DoesNext, DoesSend};
 ghost use Rattle.pp_adapt.specs.Counts.{raised};
 ghost use Rattle.pp_adapt.specs.UdpState.{UdpState, unbound, with_refused_call, silent_link, named, IsSameFamily, Reaches, moment_of_event};
@@ -235,7 +235,7 @@ impl<R: Net + Clock> Link for UdpLink<R> {
 
     /// The socket that it had before is closed first, as it may hold the same address. Port 0 is any free one.
     fn bind(&mut self, listen: &Address) -> Result<(), LinkFault>
-        ensures does { DoesBind (silent_link self.old) result (silent_link self.new) }
+        ensures does { DoesBind (silent_link self.old) listen.now result (silent_link self.new) }
         ensures ok { OnOk result (self.new ≡ record self.old { listen = Some listen.now }) }
         ensures err { OnErr result (self.new ≡ with_refused_call (record self.old { listen = None })) }
     {

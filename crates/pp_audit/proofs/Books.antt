@@ -4,14 +4,14 @@ use Rattle.std.specs.List.{AllByRecursion}
 use Rattle.std.proofs.lemmas.Bool.{and_parts, and_from, eqb-true, eq-eqb}
 use Rattle.std.proofs.lemmas.Nat.{pow_pos}
 use Rattle.std.proofs.Math.Nat.{mul-le-mul_right}
-use Rattle.pp_terms.specs.Tree.{Node}
-use Rattle.pp_terms.specs.Bins.{first_leaf, last_leaf}
-use Rattle.pp_terms.specs.Book.{LookUp, IsRooted}
-use Rattle.pp_terms.specs.Descriptor.{Descriptor, height_of}
-use Rattle.pp_terms.specs.Messages.{Span, Message}
+use Rattle.pp_terms.specs.tree.Tree.{Node}
+use Rattle.pp_terms.specs.tree.Bins.{first_leaf, last_leaf}
+use Rattle.pp_terms.specs.tree.Book.{LookUp, IsRooted}
+use Rattle.pp_terms.specs.format.Descriptor.{Descriptor, height_of}
+use Rattle.pp_terms.specs.format.Messages.{Message}
+use Rattle.pp_terms.specs.tree.Range.{Span, leaves_of}
 use Rattle.pp_terms.proofs.Binning.{one_bin, leaves}
-use Rattle.pp_terms.specs.Range as ranges
-use Rattle.pp_terms.specs.Range.{leaves_of}
+use Rattle.pp_terms.specs.tree.Range as ranges
 use Rattle.pp_traffic.specs.Hashes.{is_span_of}
 use Rattle.pp_tree.specs.Book.{in_cells, cell_of}
 use Rattle.pp_tree.proofs.BinNumbers.{cell_in}

@@ -1,9 +1,9 @@
 -- A path, node by node.
 use Rattle.std.proofs.Common.{◌≡◌, ℕ, suc, Bool, true, false, cond, not, ◌&&◌, ◌||◌, Option, Some, None, refl, sym, ◌∙◌, ap}
 use Rattle.std.specs.List.{list_all}
-use Rattle.pp_terms.specs.Tree.{Node, peaks}
-use Rattle.pp_terms.specs.Bins.{parent_of, sibling_of}
-use Rattle.pp_traffic.specs.Hashes.{is_peak, completes_from}
+use Rattle.pp_terms.specs.tree.Tree.{Node, peaks, is_peak}
+use Rattle.pp_terms.specs.tree.Bins.{parent_of, sibling_of}
+use Rattle.pp_traffic.specs.Hashes.{completes_from}
 use Rattle.pp_audit.specs.Paths.{climb_of, settled}
 
 climbs : (t peak all s more : Bool) → (t || (peak && all) || (not peak && s && more)) ≡ settled (cond t (Some true) (cond peak (Some all) (cond s None (Some false)))) more

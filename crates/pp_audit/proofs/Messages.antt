@@ -2,28 +2,15 @@
 use Rattle.std.proofs.Common.{◌≡◌, ⊎_elim, ℕ, ◌+◌, ◌<◌, ◌≤◌, min, Some, None, List, [], ◌∷◌, length, take, drop, refl, sym, ◌∙◌, ap, arith}
 use Rattle.std.proofs.lemmas.List.{length-take, length-drop, drop-drop, drop_all}
 use Rattle.std.proofs.lemmas.Bool.{le-ltb, lt-ltb, cases_lt}
-use Rattle.pp_terms.specs.Descriptor.{Descriptor}
-use Rattle.pp_terms.specs.Options.{IsBytes}
-use Rattle.pp_terms.specs.Messages.{Message, WireKind, Step, Read, End, Cut, next_message, moved, Messages, messages_at, messages_from, datagram}
-use Rattle.pp_terms.proofs.MessageLaws.{IsBytes-drop, read_is_spelt, spelt_some}
+use Rattle.pp_terms.specs.format.Descriptor.{Descriptor}
+use Rattle.pp_terms.specs.format.Options.{IsBytes}
+use Rattle.pp_terms.specs.format.Messages.{Message, WireKind, Step, Read, End, Cut, next_message, moved, Messages, messages_at, messages_from, datagram}
+use Rattle.pp_terms.proofs.MessageLaws.{read_is_spelt, spelt_some}
 use Rattle.pp_terms.proofs.DatagramLaws.{one_by_one}
+use Rattle.pp_terms.proofs.MovedSteps.{moved_end, size_of}
+use Rattle.pp_terms.proofs.Spellings.{IsBytes-drop}
 use Rattle.std.specs.Int.{w32, from_be_bytes}
 use Rattle.pp_audit.specs.Parts.{all, rest, StandsAt}
-
-record Size (at : ℕ) (s : Step) (m : Message) (next : ℕ) : Type 0 where
-  size : ℕ
-  is : s ≡ Read m size
-  ends : next ≡ at + size
-
-size_of : (at : ℕ) (s : Step) (m : Message) (next : ℕ) → moved at s ≡ Read m next → Size at s m next
-size_of at (Read n size) m next e = record { size = size; is = cc; ends = cc }
-size_of at End m next e = absurd cc
-size_of at (Cut place kind) m next e = absurd cc
-
-moved_end : (at : ℕ) (s : Step) → moved at s ≡ End → s ≡ End
-moved_end at (Read n size) e = absurd cc
-moved_end at End e = refl
-moved_end at (Cut place kind) e = absurd cc
 
 record Fault (at : ℕ) (s : Step) (kind : WireKind) : Type 0 where
   place : ℕ
@@ -66,10 +53,6 @@ none_at_fault d bytes at place kind some fits e =
     ap (λ (x : Messages). x.read) ((one_by_one d.method d.chunk at (drop at bytes) some (IsBytes-drop at bytes fits)).2 f.place kind f.is)
 
 -- ---- whole datagrams
-
-pub channel_none : (d : Descriptor) (bytes : List ℕ) → length bytes < 4 → (datagram d.method d.chunk bytes).channel ≡ None
-unfolding datagram
-channel_none d bytes lt = rw (lt-ltb (length bytes) 4 lt) refl
 
 pub channel_some : (d : Descriptor) (bytes : List ℕ) (number : ℕ) → 4 ≤ length bytes → number ≡ from_be_bytes w32 (take 4 bytes)
     → (datagram d.method d.chunk bytes).channel ≡ Some number

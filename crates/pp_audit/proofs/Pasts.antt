@@ -2,7 +2,7 @@
 use Rattle.std.proofs.Common.{◌≡◌, ℕ, ◌+◌, ◌<◌, ◌≤◌, leb, Bool, ◌&&◌, ◌||◌, List, [], ◌∷◌, length, get_or, take, map, reverse, refl, sym, ◌∙◌, ap, arith, add-one}
 use Rattle.std.proofs.Math.Seq.{take-suc}
 use Rattle.std.proofs.lemmas.List.{reverse-append, map-append, length-reverse, length-map, length-take, take_all}
-use Rattle.pp_terms.specs.Traffic.{Record}
+use Rattle.pp_terms.specs.format.Traffic.{Record}
 use Rattle.pp_traffic.specs.Past.{some_since}
 use Rattle.pp_audit.specs.declared.entry.Entry.{Entry}
 use Rattle.pp_audit.specs.Entries.{record_of, past}

@@ -1,7 +1,7 @@
 -- Peaks lie in the 21 lowest layers.
 use Rattle.std.proofs.Common.{◌≡◌, ℕ, zero, suc, ◌-◌, ◌<◌, ◌%◌, eqb, Bool, true, false, cond, List, [], ◌∷◌, length, get_or, map, sym, subst, arith}
 use Rattle.std.specs.List.{AllByRecursion}
-use Rattle.pp_terms.specs.Tree.{Node, above, peaks_below, peaks}
+use Rattle.pp_terms.specs.tree.Tree.{Node, above, peaks_below, peaks}
 use Rattle.pp_tree.specs.declared.node.Node as code
 use Rattle.pp_tree.specs.Node.{node_of}
 

@@ -1,24 +1,13 @@
 -- Tests of the peaks, without looking into them.
 use Rattle.std.proofs.Common.{◌≡◌, ℕ, Bool, ◌&&◌, ◌||◌, List, [], ◌∷◌, map, refl, ◌∙◌, ap}
 use Rattle.std.specs.List.{list_any, list_all}
-use Rattle.pp_terms.specs.Tree.{Node, peaks}
-use Rattle.pp_traffic.specs.Hashes.{same_node, is_peak}
+use Rattle.pp_terms.specs.tree.Tree.{Node, peaks, same_node, is_peak}
 use Rattle.pp_tree.specs.declared.node.Node as code
 use Rattle.pp_tree.specs.Node.{node_of}
-
-any_map : (p : Node → Bool) (xs : List code.Node) → list_any (λ (x : code.Node). p (node_of x)) xs ≡ list_any p (map node_of xs)
-any_map p [] = refl
-any_map p (x ∷ xs) = ap (λ (b : Bool). p (node_of x) || b) (any_map p xs)
 
 all_map : (p : Node → Bool) (xs : List code.Node) → list_all (λ (x : code.Node). p (node_of x)) xs ≡ list_all p (map node_of xs)
 all_map p [] = refl
 all_map p (x ∷ xs) = ap (λ (b : Bool). p (node_of x) && b) (all_map p xs)
-
-pub is_peak-among : (chunks : ℕ) (n : Node) (xs ys : List code.Node) (b : Bool) → ys ≡ xs → map node_of xs ≡ peaks chunks
-    → b ≡ list_any (λ (x : code.Node). same_node n (node_of x)) ys → b ≡ is_peak chunks n
-is_peak-among chunks n xs ys b same are is =
-    is ∙ ap (λ (zs : List code.Node). list_any (λ (x : code.Node). same_node n (node_of x)) zs) same
-    ∙ any_map (same_node n) xs ∙ ap (λ (ns : List Node). list_any (same_node n) ns) are
 
 pub each_peak : (chunks : ℕ) (p : Node → Bool) (xs ys : List code.Node) (b : Bool) → ys ≡ xs → map node_of xs ≡ peaks chunks
     → b ≡ list_all (λ (x : code.Node). p (node_of x)) ys → b ≡ list_all p (peaks chunks)

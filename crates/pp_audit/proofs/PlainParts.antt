@@ -2,8 +2,8 @@
 use Rattle.std.proofs.Common.{◌≡◌, ltb, Bool, true, false, cond, not, ◌&&◌, List, subst, sym}
 use Rattle.std.proofs.lemmas.Bool.{and_parts, and_from, not-true, not_from_false, ltb-true, lt-ltb}
 use Rattle.std.specs.Prelude.{MatchBool}
-use Rattle.pp_terms.specs.Traffic.{Record}
-use Rattle.pp_terms.specs.Descriptor.{Descriptor}
+use Rattle.pp_terms.specs.format.Traffic.{Record}
+use Rattle.pp_terms.specs.format.Descriptor.{Descriptor}
 use Rattle.pp_traffic.specs.Past.{comes_from, goes_to, some_since, some_until, is_at}
 use Rattle.pp_traffic.specs.Life.{Life, greets, answers, closes_on}
 use Rattle.pp_traffic.specs.Plain.{concerns, greets_once, asks_anew, first_since, none_until_first, is_timely, IsPlainAnswer, IsPlainDial}

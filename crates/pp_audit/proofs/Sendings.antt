@@ -1,10 +1,10 @@
 -- What is sent, message by message and record by record.
 use Rattle.std.proofs.Common.{◌≡◌, ◌↔◌, ℕ, suc, ◌+◌, ◌-◌, ◌<◌, ◌≤◌, Bool, true, false, Option, List, [], ◌∷◌, ◌++◌, length, get_or, take, refl, sym, ◌∙◌, ap, subst, arith, append_assoc}
 use Rattle.std.specs.List.{AllByRecursion}
-use Rattle.pp_terms.specs.Traffic.{Address, Record}
-use Rattle.pp_terms.specs.Descriptor.{Descriptor}
-use Rattle.pp_terms.specs.Book.{LookUp, IsBacked}
-use Rattle.pp_terms.specs.Messages.{Message}
+use Rattle.pp_terms.specs.format.Traffic.{Address, Record}
+use Rattle.pp_terms.specs.format.Descriptor.{Descriptor}
+use Rattle.pp_terms.specs.tree.Book.{LookUp, IsBacked}
+use Rattle.pp_terms.specs.format.Messages.{Message}
 use Rattle.pp_traffic.specs.Past.{EachRecord}
 use Rattle.pp_traffic.specs.Serving.{Window, AnswersPeer, ServesChunk, ServesFrom}
 use Rattle.pp_traffic.specs.Hashes.{Carries}

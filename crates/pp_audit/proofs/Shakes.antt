@@ -2,8 +2,8 @@
 use Rattle.std.proofs.Common.{◌≡◌, ℕ, eqb, Bool, false, cond, ◌&&◌, ◌||◌, None, List, [], ◌∷◌, refl}
 use Rattle.std.specs.Prelude.{is_some}
 use Rattle.std.specs.Option.{option_map_or}
-use Rattle.pp_terms.specs.Descriptor.{Descriptor}
-use Rattle.pp_terms.specs.Messages.{Message, Handshake, Data, Ack, Have, Integrity, Pex4, PexReq, Request, Cancel, Choke, Unchoke, Pex6}
+use Rattle.pp_terms.specs.format.Descriptor.{Descriptor}
+use Rattle.pp_terms.specs.format.Messages.{Message, Handshake, Data, Ack, Have, Integrity, Pex4, PexReq, Request, Cancel, Choke, Unchoke, Pex6}
 use Rattle.pp_traffic.specs.Life.{fits, begins, begins_as, begins_fitting, closes}
 use Rattle.pp_traffic.specs.Story.{behind}
 use Rattle.pp_wire.specs.Views.{message_of}

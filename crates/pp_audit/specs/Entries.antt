@@ -1,7 +1,7 @@
 -- A recorded list of what a link carried, and channels in it, as the plain data that they mean.
 use Rattle.std.specs.Prelude.{List, map, reverse}
-use Rattle.pp_terms.specs.Traffic as traffic
-use Rattle.pp_terms.specs.Traffic.{Record}
+use Rattle.pp_terms.specs.format.Traffic as traffic
+use Rattle.pp_terms.specs.format.Traffic.{Record}
 use Rattle.pp_traffic.specs.Life as lives
 use Rattle.pp_outside.specs.Outside.{address_of}
 use Rattle.pp_audit.specs.declared.entry.Entry.{Entry}

@@ -1,8 +1,8 @@
 -- The messages of a datagram, from a place of it on, and what its handshakes say.
 use Rattle.std.specs.Prelude.{◌≡◌, ℕ, ◌<◌, ◌≤◌, ◌==◌, Bool, false, Option, Some, None, List, [], ◌∷◌, length, drop}
-use Rattle.pp_terms.specs.Descriptor.{Descriptor}
-use Rattle.pp_terms.specs.Options.{Options}
-use Rattle.pp_terms.specs.Messages.{Message, Handshake, messages_at, datagram}
+use Rattle.pp_terms.specs.format.Descriptor.{Descriptor}
+use Rattle.pp_terms.specs.format.Options.{Options}
+use Rattle.pp_terms.specs.format.Messages.{Message, Handshake, messages_at, datagram}
 
 -- all of them, and those from a place on
 abbrev pub all : Descriptor → List ℕ → List Message

@@ -1,10 +1,10 @@
 -- What a peer knows when a chunk comes behind some messages.
 use Rattle.std.specs.Prelude.{ℕ, Bool, true, false, ◌||◌, if◌then◌else◌, Option, Some, None, List, take}
 use Rattle.std.specs.List.{list_all}
-use Rattle.pp_terms.specs.Traffic.{Record}
-use Rattle.pp_terms.specs.Tree.{Node, peaks}
-use Rattle.pp_terms.specs.Bins.{sibling_of}
-use Rattle.pp_terms.specs.Descriptor.{Descriptor, chunks_of}
+use Rattle.pp_terms.specs.format.Traffic.{Record}
+use Rattle.pp_terms.specs.tree.Tree.{Node, peaks, is_peak}
+use Rattle.pp_terms.specs.tree.Bins.{sibling_of}
+use Rattle.pp_terms.specs.format.Descriptor.{Descriptor, chunks_of}
 use Rattle.pp_traffic.specs.Life.{Life}
 use Rattle.pp_traffic.specs.Story.{story}
 use Rattle.pp_traffic.specs.Hashes as terms
@@ -25,7 +25,7 @@ known d life past bytes count n = brought d bytes count n || told d life past n
 abbrev pub climb_of : ℕ → (Node → Bool) → (Node → Bool) → Node → Option Bool
 climb_of chunks brought told n =
     if told n then Some true else
-    (if terms.is_peak chunks n then Some (list_all (λ p. brought p || told p) (peaks chunks)) else
+    (if is_peak chunks n then Some (list_all (λ p. brought p || told p) (peaks chunks)) else
     (if brought (sibling_of n) || told (sibling_of n) then None else Some false))
 
 abbrev pub settled : Option Bool → Bool → Bool

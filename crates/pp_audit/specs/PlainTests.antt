@@ -1,7 +1,7 @@
 -- Plain channels, as a test.
 use Rattle.std.specs.Prelude.{◌≡◌, ◌↔◌, nat_lt, Bool, true, not, ◌&&◌, if◌then◌else◌, List}
-use Rattle.pp_terms.specs.Traffic.{Record}
-use Rattle.pp_terms.specs.Descriptor.{Descriptor}
+use Rattle.pp_terms.specs.format.Traffic.{Record}
+use Rattle.pp_terms.specs.format.Descriptor.{Descriptor}
 use Rattle.pp_traffic.specs.Past.{comes_from, goes_to, some_since, some_until, is_at}
 use Rattle.pp_traffic.specs.Life.{Life, greets, answers, closes_on}
 use Rattle.pp_traffic.specs.Plain.{concerns, greets_once, asks_anew, first_since, none_until_first, is_timely, IsPlainNow}

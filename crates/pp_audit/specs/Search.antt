@@ -2,9 +2,9 @@
 -- every place of an opening, and both kinds of opening.
 use Rattle.std.specs.Prelude.{◌≡◌, ◌↔◌, ℕ, zero, suc, Bool, true, false, not, ◌&&◌, ◌||◌, Some, List, [], ◌∷◌, length}
 use Rattle.std.specs.Option.{option_map_or}
-use Rattle.pp_terms.specs.Traffic.{Address, Record}
-use Rattle.pp_terms.specs.Descriptor.{Descriptor, chunks_of}
-use Rattle.pp_terms.specs.Messages.{Message}
+use Rattle.pp_terms.specs.format.Traffic.{Address, Record}
+use Rattle.pp_terms.specs.format.Descriptor.{Descriptor, chunks_of}
+use Rattle.pp_terms.specs.format.Messages.{Message}
 use Rattle.pp_traffic.specs.Past.{read, goes_to}
 use Rattle.pp_traffic.specs.Life.{Life}
 use Rattle.pp_traffic.specs.Story.{story}

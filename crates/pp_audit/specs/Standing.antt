@@ -1,21 +1,22 @@
 -- One question on a channel's story, with whether a choke stands, told from one line to the next.
 use Rattle.std.specs.Prelude.{ℕ, ◌==◌, nat_le, Bool, false, ◌||◌, if◌then◌else◌, List, [], ◌∷◌, length}
-use Rattle.pp_terms.specs.Traffic.{Record, Received, Quiet, Sent}
-use Rattle.pp_terms.specs.Descriptor.{Descriptor, chunks_of}
-use Rattle.pp_terms.specs.Messages.{Message, Ack}
+use Rattle.pp_terms.specs.format.Traffic.{Record, Received, Quiet, Sent}
+use Rattle.pp_terms.specs.format.Descriptor.{Descriptor, chunks_of}
+use Rattle.pp_terms.specs.format.Messages.{Message, Ack}
 use Rattle.pp_traffic.specs.Past.{now}
 use Rattle.pp_traffic.specs.Life.{Life}
 use Rattle.pp_traffic.specs.Story.{Line, Heard, Said, Taken, heard_in, said_in, told, story}
-use Rattle.pp_traffic.specs.Asking.{covers, choked_by, choked, asked_by, asked_after, asked}
+use Rattle.pp_traffic.specs.Asking.{choked_by, choked, asked_by, asked_after, asked}
+use Rattle.pp_terms.specs.tree.Range.{within}
 use Rattle.pp_traffic.specs.Hashes.{told_by, is_told}
 use Rattle.pp_tree.specs.Node.{node_of}
 use Rattle.pp_audit.specs.declared.standing.Question.{Question}
 use Rattle.pp_audit.specs.declared.standing.Question.TheVariants as q
 use Rattle.pp_audit.specs.declared.standing.Standing.{Standing}
 
--- an ACK covers the chunk
+-- an ACK names the chunk
 abbrev pub lands : ℕ → Message → Bool
-lands i (Ack span delay) = covers span i
+lands i (Ack span delay) = within span i
 lands i _ = false
 
 -- one came

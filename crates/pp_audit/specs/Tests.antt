@@ -1,7 +1,7 @@
 -- Tests on records, as they are asked of a channel; and what they decide of it.
 use Rattle.std.specs.Prelude.{◌≡◌, ◌↔◌, nat_lt, Bool, true, not, ◌&&◌, ◌||◌, List}
-use Rattle.pp_terms.specs.Traffic.{Record}
-use Rattle.pp_terms.specs.Descriptor.{Descriptor}
+use Rattle.pp_terms.specs.format.Traffic.{Record}
+use Rattle.pp_terms.specs.format.Descriptor.{Descriptor}
 use Rattle.pp_traffic.specs.Past as terms
 use Rattle.pp_traffic.specs.Life as lives
 use Rattle.pp_traffic.specs.Plain as plain

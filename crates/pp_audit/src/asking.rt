@@ -1,7 +1,7 @@
 //! What stands on a channel: requests, chokes, what the peer has told.
 
 ghost use Rattle.std.specs.Prelude.{◌≡◌};
-ghost use Rattle.pp_terms.specs.Descriptor.{chunks_of};
+ghost use Rattle.pp_terms.specs.format.Descriptor.{chunks_of};
 ghost use Rattle.pp_traffic.specs.Asking as asking;
 ghost use Rattle.pp_traffic.specs.Hashes as hashes;
 ghost use Rattle.pp_traffic.specs.Story.{story};

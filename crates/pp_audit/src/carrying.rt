@@ -2,9 +2,9 @@
 
 ghost use Rattle.std.specs.Prelude.{◌≡◌, ◌↔◌, ◌^◌, ◌≤◌, ◌<◌, IsTrue, MatchOption, Some, take, true, length};
 ghost use Rattle.std.specs.List.{AllByRecursion};
-ghost use Rattle.pp_terms.specs.Tree as trees;
-ghost use Rattle.pp_terms.specs.Range.{leaves_of};
-ghost use Rattle.pp_terms.specs.Book.{IsRooted, IsBacked};
+ghost use Rattle.pp_terms.specs.tree.Tree as trees;
+ghost use Rattle.pp_terms.specs.tree.Range.{leaves_of};
+ghost use Rattle.pp_terms.specs.tree.Book.{IsRooted, IsBacked};
 ghost use Rattle.pp_traffic.specs.Hashes as terms;
 ghost use Rattle.pp_tree.specs.Book.{entry};
 ghost use Rattle.pp_tree.specs.Node.{node_of};

@@ -1,7 +1,7 @@
 //! The entries of a recorded list, and channels in it.
 
 ghost use Rattle.std.specs.Prelude.{◌≡◌};
-ghost use Rattle.pp_terms.specs.Traffic as traffic;
+ghost use Rattle.pp_terms.specs.format.Traffic as traffic;
 ghost use Rattle.pp_traffic.specs.Past as terms;
 ghost use Rattle.pp_outside.specs.Outside.{address_of};
 ghost use Rattle.pp_audit.specs.Entries.{record_of};

@@ -1,7 +1,7 @@
 //! Chunks on their way, and whether there is room for one more.
 
 ghost use Rattle.std.specs.Prelude.{◌≡◌, ◌<◌, ◌≤◌, ◌+◌, ◌-◌, ◌^◌, not, min, length};
-ghost use Rattle.pp_traffic.specs.Flight as flights;
+ghost use Rattle.pp_traffic.specs.Serving.{window_of};
 ghost use Rattle.pp_traffic.specs.Past as traffic;
 ghost use Rattle.pp_traffic.specs.Story.{story};
 ghost use Rattle.pp_wire.specs.Views.{message_of};
@@ -95,7 +95,7 @@ fn count_in<'m>(
 /// Whether fewer than two chunks are on their way on the channel: sent, and not acknowledged since (RFC 7574, sections
 /// 3.3 and 8.16).
 pub fn fewer_than_two<'m>(descriptor: &Descriptor, life: Life, entries: &'m [Entry<'m>]) -> bool
-    ensures { result ≡ flights.fewer_than_two (story descriptor.now (life_of life) (past entries.now)) }
+    ensures { result ≡ window_of descriptor.now (story descriptor.now (life_of life) (past entries.now)) }
 {
     let mut count = 0usize;
     let mut place = entries.len();

@@ -1,66 +1,12 @@
-//! Nodes of a content's tree, and which of them a peer tells that it knows.
+//! Which nodes of a content's tree a peer tells that it knows.
 
 ghost use Rattle.std.specs.Prelude.{◌≡◌, ◌^◌, ◌<◌, ◌≤◌};
-ghost use Rattle.std.specs.List.{list_any};
-ghost use Rattle.pp_terms.specs.Bins as bins;
 ghost use Rattle.pp_traffic.specs.Hashes as terms;
 ghost use Rattle.pp_tree.specs.Node.{node_of};
 ghost use Rattle.pp_wire.specs.Views.{span_of};
 
-use pp_tree::{Node, height, peaks};
+use pp_tree::{Node, height, is_peak, parent_of};
 use pp_wire::Span;
-
-pub(crate) fn leaf_at(chunk: u32) -> Node
-    ensures { node_of result ≡ terms.leaf_at chunk }
-{
-    Node {
-        layer: 0,
-        offset: chunk,
-    }
-}
-
-/// The node above it.
-pub(crate) fn parent_of(node: Node) -> Node
-    requires { node.layer < 32 }
-    ensures { node_of result ≡ bins.parent_of (node_of node) }
-{
-    Node {
-        layer: node.layer + 1,
-        offset: node.offset / 2,
-    }
-}
-
-/// The other child of its parent.
-pub(crate) fn sibling_of(node: Node) -> Node
-    ensures { node_of result ≡ bins.sibling_of (node_of node) }
-{
-    let offset = if node.offset % 2 == 0 {
-        node.offset + 1
-    } else {
-        node.offset - 1
-    };
-    Node { offset, ..node }
-}
-
-fn is_same(node: Node, other: Node) -> bool
-    ensures { result ≡ terms.same_node (node_of node) (node_of other) }
-{
-    node.layer == other.layer && node.offset == other.offset
-}
-
-// Whether the node is among those.
-fn is_among(node: Node, nodes: &[Node]) -> bool
-    ensures { result ≡ list_any (λ other. terms.same_node (node_of node) (node_of other)) nodes.now }
-{
-    nodes.iter().any(|other| is_same(node, *other))
-}
-
-/// Whether it is a peak of the tree over so many chunks.
-pub(crate) fn is_peak(chunks: u32, node: Node) -> bool
-    ensures { result ≡ terms.is_peak chunks (node_of node) }
-{
-    is_among(node, &peaks(chunks))
-}
 
 // Whether a chunk of the content that the span names lies under the node.
 fn meets(chunks: u32, span: Span, node: Node) -> bool
@@ -81,6 +27,6 @@ pub(crate) fn tells(chunks: u32, span: Span, node: Node) -> bool
 {
     span.first < u64::from(chunks)
         && span.first <= span.last
-        && (is_peak(chunks, node)
+        && (is_peak(node, chunks)
             || (node.layer < height(chunks) && meets(chunks, span, parent_of(node))))
 }

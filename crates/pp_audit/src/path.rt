@@ -2,8 +2,8 @@
 
 ghost use Rattle.std.specs.Prelude.{◌≡◌, ◌<◌, ◌≤◌, ◌^◌, take, All};
 ghost use Rattle.std.specs.List.{list_any, list_all};
-ghost use Rattle.pp_terms.specs.Tree as trees;
-ghost use Rattle.pp_terms.specs.Descriptor.{chunks_of};
+ghost use Rattle.pp_terms.specs.tree.Tree as trees;
+ghost use Rattle.pp_terms.specs.format.Descriptor.{chunks_of};
 ghost use Rattle.pp_traffic.specs.Hashes as terms;
 ghost use Rattle.pp_tree.specs.Node.{node_of};
 ghost use Rattle.pp_wire.specs.Views.{span_of, message_of};
@@ -13,10 +13,9 @@ ghost use Rattle.pp_audit.specs.Paths.{brought, told, known, climb_of};
 
 use crate::asking::is_told;
 use crate::entry::{Entry, Life};
-use crate::nodes::{is_peak, leaf_at, parent_of, sibling_of};
 use crate::reading::{first_place, message_at};
 use pp_options::Options;
-use pp_tree::{Descriptor, Node, peaks};
+use pp_tree::{Descriptor, Node, is_peak, leaf_at, parent_of, peaks, sibling_of};
 use pp_wire::{Message, Span};
 
 // Whether the span is all leaves under the node.
@@ -128,7 +127,7 @@ fn climb<'m>(
     if is_told(descriptor, life, entries, node) {
         return Some(true);
     }
-    if is_peak(descriptor.chunks(), node) {
+    if is_peak(node, descriptor.chunks()) {
         return Some(has_peaks(descriptor, life, entries, bytes, count));
     }
     if is_known(descriptor, life, entries, bytes, count, sibling_of(node)) {

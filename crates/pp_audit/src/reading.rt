@@ -3,8 +3,8 @@
 ghost use Rattle.std.specs.Prelude.{◌≡◌, ℕ, ◌≤◌, [], length, take, option_map, MatchOption};
 ghost use Rattle.std.specs.List.{list_any};
 ghost use Rattle.std.specs.Int.{w32, from_be_bytes};
-ghost use Rattle.pp_terms.specs.Messages as terms;
-ghost use Rattle.pp_terms.specs.Descriptor as descriptors;
+ghost use Rattle.pp_terms.specs.format.Messages as terms;
+ghost use Rattle.pp_terms.specs.format.Descriptor as descriptors;
 ghost use Rattle.pp_traffic.specs.Story as stories;
 ghost use Rattle.pp_traffic.specs.Life as lives;
 ghost use Rattle.pp_traffic.specs.Plain.{is_handshake};
@@ -25,7 +25,7 @@ fn number_of(bytes: &[u8]) -> u32
 }
 
 /// The channel number of a datagram, where it has four bytes.
-#[tactic(auto, using(crate::proofs::Messages::channel_none, crate::proofs::Messages::channel_some))]
+#[tactic(auto, using(pp_terms::proofs::MovedSteps::channel_none, crate::proofs::Messages::channel_some))]
 pub(crate) fn channel_of(bytes: &[u8]) -> Option<u32>
     ensures { (d : descriptors.Descriptor) → (terms.datagram d.method d.chunk bytes.now).channel ≡ result }
 {

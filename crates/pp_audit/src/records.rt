@@ -1,8 +1,8 @@
 //! What one entry is to a channel.
 
 ghost use Rattle.std.specs.Prelude.{◌≡◌, ◌≤◌, length, drop};
-ghost use Rattle.pp_terms.specs.Descriptor as descriptors;
-ghost use Rattle.pp_terms.specs.Messages as messages;
+ghost use Rattle.pp_terms.specs.format.Descriptor as descriptors;
+ghost use Rattle.pp_terms.specs.format.Messages as messages;
 ghost use Rattle.pp_traffic.specs.Past as terms;
 ghost use Rattle.pp_traffic.specs.Life as lives;
 ghost use Rattle.pp_traffic.specs.Plain as plain;

@@ -1,8 +1,7 @@
 //! The search for a channel on which a chunk answers the peer.
 
 ghost use Rattle.std.specs.Prelude.{◌≡◌, ◌↔◌, ◌||◌, IsTrue, Some, take, length, true, false};
-ghost use Rattle.pp_traffic.specs.Flight as flights;
-ghost use Rattle.pp_traffic.specs.Serving.{AnswersPeer};
+ghost use Rattle.pp_traffic.specs.Serving.{AnswersPeer, window_of};
 ghost use Rattle.pp_outside.specs.Outside.{address_of};
 ghost use Rattle.pp_audit.specs.Entries.{past, life_of, record_of};
 ghost use Rattle.pp_audit.specs.Parts.{all};
@@ -26,7 +25,7 @@ fn answers_on<'m>(
     count: usize,
     chunk: u32,
 ) -> bool
-    ensures { result ≡ terms.answers_on descriptor.now flights.fewer_than_two (past entries.now) chunk
+    ensures { result ≡ terms.answers_on descriptor.now (window_of descriptor.now) (past entries.now) chunk
         (take count (all descriptor.now bytes.now)) (life_of life) }
 {
     is_life(descriptor, life, entries)
@@ -46,9 +45,9 @@ fn opens_at<'m>(
     count: usize,
     chunk: u32,
 ) -> bool
-    ensures { result ≡ (terms.answers_on descriptor.now flights.fewer_than_two (past entries.now) chunk (take count (all descriptor.now bytes.now))
+    ensures { result ≡ (terms.answers_on descriptor.now (window_of descriptor.now) (past entries.now) chunk (take count (all descriptor.now bytes.now))
         (terms.life_at (address_of life.address) life.remote life.local false life.opening)
-        || terms.answers_on descriptor.now flights.fewer_than_two (past entries.now) chunk (take count (all descriptor.now bytes.now))
+        || terms.answers_on descriptor.now (window_of descriptor.now) (past entries.now) chunk (take count (all descriptor.now bytes.now))
         (terms.life_at (address_of life.address) life.remote life.local true life.opening)) }
 {
     let answered = Life {
@@ -72,7 +71,7 @@ fn some_opening<'m>(
     count: usize,
     chunk: u32,
 ) -> bool
-    ensures { result ≡ terms.some_opening (terms.answers_on descriptor.now flights.fewer_than_two (past entries.now) chunk (take count (all descriptor.now bytes.now)))
+    ensures { result ≡ terms.some_opening (terms.answers_on descriptor.now (window_of descriptor.now) (past entries.now) chunk (take count (all descriptor.now bytes.now)))
         (address_of life.address) life.remote (length entries.now) life.local }
 {
     let mut found = false;
@@ -93,7 +92,7 @@ fn is_source<'m>(
     chunk: u32,
     entry: &'m Entry<'m>,
 ) -> bool
-    ensures { result ≡ terms.is_source (terms.some_opening (terms.answers_on descriptor.now flights.fewer_than_two (past entries.now) chunk
+    ensures { result ≡ terms.is_source (terms.some_opening (terms.answers_on descriptor.now (window_of descriptor.now) (past entries.now) chunk
         (take count (all descriptor.now bytes.now))) (address_of life.address) life.remote (length entries.now))
         descriptor.now (address_of life.address) (record_of entry.now) }
 {
@@ -118,7 +117,7 @@ fn some_life<'m>(
     count: usize,
     chunk: u32,
 ) -> bool
-    ensures { result ≡ terms.some_life (terms.answers_on descriptor.now flights.fewer_than_two (past entries.now) chunk
+    ensures { result ≡ terms.some_life (terms.answers_on descriptor.now (window_of descriptor.now) (past entries.now) chunk
         (take count (all descriptor.now bytes.now))) descriptor.now (address_of life.address) life.remote (past entries.now) }
 {
     let mut found = false;
@@ -139,7 +138,7 @@ pub fn answers_peer<'m>(
     count: usize,
     chunk: u32,
 ) -> bool
-    ensures { IsTrue result ↔ AnswersPeer descriptor.now flights.fewer_than_two (past entries.now) (address_of to) (Some remote) chunk
+    ensures { IsTrue result ↔ AnswersPeer descriptor.now (window_of descriptor.now) (past entries.now) (address_of to) (Some remote) chunk
         (take count (all descriptor.now bytes.now)) }
 {
     let life = Life {

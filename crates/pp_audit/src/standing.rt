@@ -1,7 +1,8 @@
 //! Questions on what was said on a channel.
 
 ghost use Rattle.std.specs.Prelude.{◌≡◌, ◌^◌, ◌<◌, ◌≤◌, ◌==◌, [], length};
-ghost use Rattle.pp_terms.specs.Descriptor.{chunks_of};
+ghost use Rattle.pp_terms.specs.tree.Range as ranges;
+ghost use Rattle.pp_terms.specs.format.Descriptor.{chunks_of};
 ghost use Rattle.pp_traffic.specs.Past as traffic;
 ghost use Rattle.pp_traffic.specs.Asking as asking;
 ghost use Rattle.pp_traffic.specs.Hashes as hashes;
@@ -42,8 +43,8 @@ const NONE: Standing = Standing {
 };
 
 // Whether the chunk lies in the span.
-fn covers(span: Span, chunk: u64) -> bool
-    ensures { result ≡ asking.covers (span_of span) chunk }
+fn within(span: Span, chunk: u64) -> bool
+    ensures { result ≡ ranges.within (span_of span) chunk }
 {
     span.first <= chunk && chunk <= span.last
 }
@@ -53,8 +54,8 @@ fn asked_by<'m>(chunk: u64, choked: bool, message: &'m Message<'m>, asked: bool)
     ensures { result ≡ asking.asked_by chunk choked (message_of message.now) asked }
 {
     match *message {
-        Message::Request { span } => (covers(span, chunk) && !choked) || asked,
-        Message::Cancel { span } => !covers(span, chunk) && asked,
+        Message::Request { span } => (within(span, chunk) && !choked) || asked,
+        Message::Cancel { span } => !within(span, chunk) && asked,
         _ => asked,
     }
 }
@@ -87,7 +88,7 @@ fn lands<'m>(chunk: u64, message: &'m Message<'m>) -> bool
     ensures { result ≡ terms.lands chunk (message_of message.now) }
 {
     match *message {
-        Message::Ack { span, .. } => covers(span, chunk),
+        Message::Ack { span, .. } => within(span, chunk),
         _ => false,
     }
 }

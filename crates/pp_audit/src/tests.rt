@@ -1,6 +1,6 @@
 ghost use Rattle.std.specs.Prelude.{◌≡◌, ◌<◌, IfOk, vec_len};
-ghost use Rattle.pp_terms.specs.Descriptor as descriptors;
-ghost use Rattle.pp_terms.specs.Book.{IsRooted};
+ghost use Rattle.pp_terms.specs.format.Descriptor as descriptors;
+ghost use Rattle.pp_terms.specs.tree.Book.{IsRooted};
 ghost use Rattle.pp_tree.specs.Book.{entry};
 
 use super::*;

@@ -1,7 +1,7 @@
 //! Whether a channel was heard in time.
 
 ghost use Rattle.std.specs.Prelude.{◌≡◌, ◌||◌, ◌&&◌, ◌==◌, nat_lt, not, if◌then◌else◌, Some, List, ◌∷◌};
-ghost use Rattle.pp_terms.specs.Traffic.{Record};
+ghost use Rattle.pp_terms.specs.format.Traffic.{Record};
 ghost use Rattle.pp_traffic.specs.Past as terms;
 ghost use Rattle.pp_traffic.specs.Life as lives;
 ghost use Rattle.pp_traffic.specs.Plain as plain;

@@ -1,8 +1,8 @@
 -- The best of several chunks.
-use Rattle.std.proofs.Common.{◌≡◌, ◌≢◌, ◌==◌, ◌⊎◌, inl, inr, ⊎_elim, ℕ, ◌+◌, ◌<◌, ◌≤◌, Bool, true, false, ◌&&◌, List, [], length, Option, None, Some, refl, sym, ◌∙◌, ap, subst, arith, slice_index_or}
+use Rattle.std.proofs.Common.{◌≡◌, ◌≢◌, ◌==◌, ◌⊎◌, inl, inr, ⊎_elim, ℕ, ◌+◌, ◌<◌, ◌≤◌, Bool, true, false, ◌&&◌, List, [], length, Option, None, Some, sym, ◌∙◌, ap, subst, arith, slice_index_or}
 use Rattle.std.specs.Prelude.{MatchOption}
-use Rattle.std.proofs.lemmas.Bool.{cases_lt, eqb-true, eq-eqb}
-use Rattle.std.proofs.lemmas.List.{get_or_past}
+use Rattle.std.proofs.lemmas.Bool.{cases_lt, eqb-true, eq-eqb, and_parts, false_from_ne_true}
+use Rattle.pp_terms.proofs.Facts.{member_below}
 use Rattle.pp_tree.specs.Sets.{is_in_all}
 use Rattle.pp_avail.specs.declared.ranker.Rank.{Rank}
 use Rattle.pp_avail.specs.declared.choice.Choice.{Choice}
@@ -44,10 +44,6 @@ better kind o seat wanted Before Now (Some b) choice result is best first covers
       (covers j candidate now);
 }
 
-not_candidate : (b : Bool) → (b ≡ true → ⊥) → b ≡ false
-not_candidate true never = absurd (never refl)
-not_candidate false never = refl
-
 -- the walk over the chunks, one by one
 pub none_below : (kind : Rank) (o : Offers) (seat : ℕ) (wanted : List Bool) → IsBest kind o seat wanted (λ j. j < 0) None
 none_below kind o seat wanted j candidate below = omega (arith, below)
@@ -75,7 +71,7 @@ picked kind o seat wanted Counts rank i is all = (
 pub none_picked : (kind : Rank) (o : Offers) (seat : ℕ) (wanted : List Bool) (Counts : ℕ → Type 0)
     → IsBest kind o seat wanted Counts None → ((j : ℕ) → is_candidate o seat wanted j ≡ true → Counts j)
     → IsPick kind o seat wanted None
-none_picked kind o seat wanted Counts none all j = not_candidate (is_candidate o seat wanted j) (λ candidate. none j candidate (all j candidate))
+none_picked kind o seat wanted Counts none all j = false_from_ne_true (is_candidate o seat wanted j) (λ candidate. none j candidate (all j candidate))
 
 -- a candidate lies in the content
 pub candidates_inside : (o : Offers) (seat : ℕ) (wanted : List Bool) → ((s i : ℕ) → o.chunks ≤ i → has o s i ≡ false)
@@ -86,16 +82,8 @@ candidates_inside o seat wanted past j candidate = ⊎_elim (λ lt. lt) (λ ge. 
     apart true b both none = cc
     apart false b both none = cc
 
-both_true : (a b : Bool) → (a && b) ≡ true → (a ≡ true) × (b ≡ true)
-both_true true b both = (refl, both)
-both_true false b both = cc
-
 and_true : (a b : Bool) → a ≡ true → b ≡ true → (a && b) ≡ true
 and_true a b one two = cc (ap (λ (x : Bool). x && b) one)
-
--- what is set lies in the list
-pub set_inside : (xs : List Bool) (j : ℕ) → slice_index_or xs j false ≡ true → j < length xs
-set_inside xs j set = ⊎_elim (λ lt. lt) (λ ge. let past : slice_index_or xs j false ≡ false = get_or_past xs j false ge in absurd (cc (set, past))) (cases_lt j (length xs))
 
 -- a candidate of so many copies is in all three sets
 in_all : (o : Offers) (seat : ℕ) (wanted set level : List Bool) (count j : ℕ)
@@ -103,8 +91,8 @@ in_all : (o : Offers) (seat : ℕ) (wanted set level : List Bool) (count j : ℕ
     → ((k : ℕ) → k < o.chunks → slice_index_or level k false ≡ (copies o k == count))
     → is_candidate o seat wanted j ≡ true → copies o j ≡ count → is_in_all wanted set level j ≡ true
 in_all o seat wanted set level count j size is counted candidate equal =
-    let parts = both_true (slice_index_or wanted j false) (has o seat j) candidate in
-    let inside : j < o.chunks = omega (arith, set_inside wanted j parts.0, size) in
+    let parts = and_parts (slice_index_or wanted j false) (has o seat j) candidate in
+    let inside : j < o.chunks = omega (arith, member_below wanted j parts.0, size) in
     and_true (slice_index_or wanted j false) (slice_index_or set j false && slice_index_or level j false) parts.0
     (and_true (slice_index_or set j false) (slice_index_or level j false)
     (ap (λ (xs : List Bool). slice_index_or xs j false) is ∙ parts.1) (counted j inside ∙ eq-eqb (copies o j) count equal))
@@ -122,8 +110,8 @@ first_of_level o seat wanted set level count None size is counted none = λ j ca
     let all = in_all o seat wanted set level count j size is counted candidate equal in
     let out = none j in cc (all, out)
 first_of_level o seat wanted set level count (Some i) size is counted found =
-    let parts = both_true (slice_index_or wanted i false) (slice_index_or set i false && slice_index_or level i false) found.1 in
-    let rest = both_true (slice_index_or set i false) (slice_index_or level i false) parts.1 in
+    let parts = and_parts (slice_index_or wanted i false) (slice_index_or set i false && slice_index_or level i false) found.1 in
+    let rest = and_parts (slice_index_or set i false) (slice_index_or level i false) parts.1 in
     let inside : i < o.chunks = omega (arith, found.0, size) in (
       inside,
       and_true (slice_index_or wanted i false) (has o seat i) parts.0 (ap (λ (xs : List Bool). slice_index_or xs i false) (sym is) ∙ rest.0),
@@ -138,4 +126,4 @@ pub candidates_counted : (o : Offers) (seat : ℕ) (wanted : List Bool) (end : �
     → ((s i : ℕ) → has o s i ≡ true → (0 < copies o i) × (copies o i ≤ 64)) → 64 ≤ end
     → (j : ℕ) → is_candidate o seat wanted j ≡ true → (0 < copies o j) × (copies o j ≤ end)
 candidates_counted o seat wanted end counted all j candidate =
-    let is = counted seat j ((both_true (slice_index_or wanted j false) (has o seat j) candidate).1) in (is.0, omega (arith, is.1, all))
+    let is = counted seat j ((and_parts (slice_index_or wanted j false) (has o seat j) candidate).1) in (is.0, omega (arith, is.1, all))

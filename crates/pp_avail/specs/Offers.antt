@@ -1,7 +1,7 @@
 -- Which chunks the seats offer.
 use Rattle.std.specs.Prelude.{◌≡◌, ℕ, ◌==◌, nat_le, Bool, false, not, ◌&&◌, ◌||◌, List, [], ◌∷◌, count_by, slice_index_or}
 use Rattle.std.specs.List.{range_with_len}
-use Rattle.pp_terms.specs.Range.{Span}
+use Rattle.pp_terms.specs.tree.Range.{Span}
 
 -- of a content of so many chunks, for each seat whether it offers each chunk
 pub record Offers : Type 0 where

@@ -1,10 +1,11 @@
 -- What bins of both widths share.
 use Rattle.std.proofs.Common.{◌≡◌, ℕ, ◌+◌, ◌-◌, ◌*◌, ◌/◌, ◌%◌, ◌^◌, ◌≤◌, ◌<◌, ◌≢◌, sym, ap, ◌∙◌, arith}
-use Rattle.std.proofs.lemmas.Nat.{pow_pos}
-use Rattle.std.proofs.Math.Nat.{mul-le-mul_left, mod-eq_of_lt, div-eq_of_lt, lt-div-mul-add}
-use Rattle.pp_terms.specs.Tree.{Node}
-use Rattle.pp_terms.specs.Bins.{bin_number, IsBin, first_leaf, last_leaf}
-use Rattle.pp_terms.proofs.Binning.{bin_number-add-one, fits, fits_only, leaves}
+use Rattle.std.proofs.lemmas.Nat.{pow_pos, pow-add}
+use Rattle.std.proofs.Math.Nat.{mul-le-mul_left, mul-le-mul_right, mod-eq_of_lt, div-eq_of_lt, lt-div-mul-add}
+use Rattle.pp_terms.specs.tree.Tree.{Node}
+use Rattle.pp_terms.specs.tree.Bins.{bin_number, IsBin, first_leaf, last_leaf}
+use Rattle.pp_bins.specs.Answers.{IsOfWidth}
+use Rattle.pp_terms.proofs.Binning.{bin_number-add-one, layer_low, fits, fits_only, leaves}
 
 -- ---- the number
 
@@ -29,6 +30,20 @@ one_shifted w n is = small (1 * 2 ^ n.layer) (2 ^ w) (omega (arith, leaves n, po
 
 pub last_from_first : (n : Node) → first_leaf n + (2 ^ n.layer - 1) ≡ last_leaf n
 last_from_first n = omega (arith, pow_pos n.layer)
+
+-- the leaves of a width are half as many as its numbers
+last_within : (w : ℕ) (n : Node) → IsBin w n → last_leaf n < 2 ^ (w - 1)
+last_within w n is =
+    let low = layer_low w n is in
+    let some = fits_only w n is in
+    let le : (n.offset + 1) * 2 ^ n.layer ≤ 2 ^ (w - 1 - n.layer) * 2 ^ n.layer = mul-le-mul_right (2 ^ n.layer) (omega (arith, some)) in
+    let e : 2 ^ (w - 1) ≡ 2 ^ (w - 1 - n.layer) * 2 ^ n.layer =
+    let sum : w - 1 ≡ (w - 1 - n.layer) + n.layer = omega (arith, low) in
+    ap (λ (k : ℕ). 2 ^ k) sum ∙ pow-add 2 (w - 1 - n.layer) n.layer in
+    omega (arith, le, e, pow_pos n.layer)
+
+pub of_width : (w : ℕ) (n : Node) → IsBin w n → IsOfWidth w n
+of_width w n is = record { number = is; layer = layer_low w n is; leaves = last_within w n is }
 
 -- ---- a layer and an offset
 

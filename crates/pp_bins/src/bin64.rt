@@ -1,9 +1,9 @@
 //! Bins whose numbers have 64 bits.
 
-ghost use Rattle.std.specs.Prelude.{◌≡◌, ◌-◌, ◌^◌, ◌<◌, MatchOption};
-ghost use Rattle.pp_terms.specs.Tree.{Node};
-ghost use Rattle.pp_terms.specs.Bins.{bin_number, first_leaf, last_leaf, parent_of, sibling_of};
-ghost use Rattle.pp_bins.specs.Answers.{Gives, node};
+ghost use Rattle.std.specs.Prelude.{◌≡◌, ◌-◌, ◌^◌, ◌<◌, MatchOption, IfSome};
+ghost use Rattle.pp_terms.specs.tree.Tree.{Node};
+ghost use Rattle.pp_terms.specs.tree.Bins.{bin_number, first_leaf, last_leaf, parent_of, sibling_of};
+ghost use Rattle.pp_bins.specs.Answers.{Gives, IsOfWidth, node};
 
 use std::marker::Model;
 
@@ -15,8 +15,8 @@ pub struct Bin64 {
 }
 
 impl Model for Bin64 {
-    ghost use Rattle.pp_terms.specs.Tree.{Node};
-    ghost use Rattle.pp_terms.specs.Bins.{IsBin};
+    ghost use Rattle.pp_terms.specs.tree.Tree.{Node};
+    ghost use Rattle.pp_terms.specs.tree.Bins.{IsBin};
 
     ghost Value = { Node };
 
@@ -30,7 +30,8 @@ impl Model for Bin64 {
 impl Bin64 {
     /// The bin of a number; None exactly for the greatest number.
     pub fn read(number: u64) -> Option<Bin64>
-        ensures { MatchOption result (number ≡ 2 ^ 64 - 1) (λ b. bin_number b ≡ number) }
+        ensures number { MatchOption result (number ≡ 2 ^ 64 - 1) (λ b. bin_number b ≡ number) }
+        ensures width { IfSome result (λ b. IsOfWidth 64 b) }
     {
         if number == u64::MAX {
             return None;

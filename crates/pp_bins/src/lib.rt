@@ -2,7 +2,7 @@
 //! memory.
 #![tactic(auto)]
 
-ghost use Rattle.pp_terms.specs.Bins.{BinsAreNumbers, BinExamples};
+ghost use Rattle.pp_terms.specs.tree.Bins.{BinsAreNumbers, BinExamples};
 
 mod bin32;
 mod bin64;

@@ -1,7 +1,7 @@
 -- Which messages a peer takes (RFC 7574, section 7.10).
 use Rattle.std.specs.Prelude.{ℕ, ◌/◌, ◌%◌, ◌-◌, ◌==◌, Bool, true, Option, Some, None, List, slice_index}
 use Rattle.std.specs.Int.{bit_at}
-use Rattle.pp_terms.specs.Options.{Options}
+use Rattle.pp_terms.specs.format.Options.{Options}
 
 -- The bit of a type is set: they are counted from the left of the first byte, and those past the last byte are not set.
 abbrev pub is_set : List ℕ → ℕ → Bool

@@ -1,5 +1,5 @@
 -- A difference of options, as plain data.
-use Rattle.pp_terms.specs.Mismatch as plain
+use Rattle.pp_terms.specs.format.Mismatch as plain
 use Rattle.pp_channels.specs.declared.agreeing.Mismatch.{Mismatch}
 use Rattle.pp_channels.specs.declared.agreeing.Mismatch.TheVariants.{Version, Minimum, Swarm, Integrity, Hash, Addressing, Chunk}
 

@@ -1,7 +1,7 @@
 //! Whether a handshake's options are those of a swarm.
 
 ghost use Rattle.std.specs.Prelude.{◌≡◌, ◌↔◌, MatchResult, None, Some, option_copied};
-ghost use Rattle.pp_terms.specs.Mismatch.{mismatch_of, is_swarm};
+ghost use Rattle.pp_terms.specs.format.Mismatch.{mismatch_of, is_swarm};
 ghost use Rattle.pp_options.specs.Views.{options_of};
 ghost use Rattle.pp_channels.specs.Views.{mismatch_from};
 
@@ -31,7 +31,7 @@ pub enum Mismatch {
 /// Compares a handshake's options with a swarm's and answers the first that differs, in the order of `Mismatch`. An absent
 /// option is taken as version 1, least version 1, integrity method 1, hash function 2, addressing method 2 and chunk size
 /// 1024; a reply may leave out the swarm's identifier.
-#[tactic(auto, unfolding(pp_terms::specs::Mismatch::mismatch_of))]
+#[tactic(auto, unfolding(pp_terms::specs::format::Mismatch::mismatch_of))]
 pub fn check(options: &Options, descriptor: &Descriptor, reply: bool) -> Result<(), Mismatch>
     ensures exact { MatchResult result
         (λ _. mismatch_of descriptor.now reply (options_of options.now) ≡ None)

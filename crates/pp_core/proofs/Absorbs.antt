@@ -1,16 +1,16 @@
 -- A peer stands for one event more.
-use Rattle.std.proofs.Common.{◌≡◌, ◌⊎◌, inl, inr, ⊎_elim, ℕ, ◌<◌, max, eqb, Bool, true, false, cond, not, ◌&&◌, ◌||◌, Option, Some, None, List, [], ◌∷◌, length, refl, sym, ◌∙◌, ap, subst, arith}
+use Rattle.std.proofs.Common.{◌≡◌, ◌⊎◌, inl, inr, ⊎_elim, ℕ, ◌<◌, ◌≤◌, max, eqb, Bool, true, false, cond, not, ◌&&◌, ◌||◌, Option, Some, None, List, [], ◌∷◌, length, refl, sym, ◌∙◌, ap, subst, arith}
 use Rattle.std.proofs.lemmas.Bool.{and_parts, and_from, and_left, and_right, cases_Bool, both_ways, cond-true, cond-false, eqb-true, eqb-false, eq-eqb, ne_eqb, false_from_ne_true}
 use Rattle.std.specs.Prelude.{MatchOption}
 use Rattle.rand_chacha.specs.ChaCha.{ChaCha}
-use Rattle.pp_terms.specs.Traffic as traffic
-use Rattle.pp_terms.specs.Traffic.{Record, Received, Sent, same_address}
-use Rattle.pp_terms.specs.Descriptor.{Descriptor, chunks_of}
-use Rattle.pp_terms.specs.Range as range
-use Rattle.pp_terms.specs.Range.{IsRunsFrom, has}
-use Rattle.pp_terms.specs.Messages.{Message, Handshake, Data, Ack, Have, Integrity, Pex4, PexReq, Request, Cancel, Choke, Unchoke, Pex6, WireKind, Messages, datagram}
+use Rattle.pp_terms.specs.format.Traffic as traffic
+use Rattle.pp_terms.specs.format.Traffic.{Record, Received, Sent, same_address}
+use Rattle.pp_terms.specs.format.Descriptor.{Descriptor, chunks_of}
+use Rattle.pp_terms.specs.tree.Range.{Span, IsRunsFrom, has}
+use Rattle.pp_terms.specs.format.Messages.{Message, Handshake, Data, Ack, Have, Integrity, Pex4, PexReq, Request, Cancel, Choke, Unchoke, Pex6, WireKind, Messages, datagram}
 use Rattle.pp_traffic.specs.Past.{now, read, is_number}
 use Rattle.pp_traffic.specs.Life.{Life, comes_on, closes_on, closes, fits}
+use Rattle.pp_traffic.specs.Asking.{asks_in}
 use Rattle.pp_traffic.specs.Story.{Line, Taken, hear, story}
 use Rattle.pp_traffic.proofs.OneMore.{story_step}
 use Rattle.pp_outside.specs.Outside.{address_of}
@@ -22,7 +22,7 @@ use Rattle.pp_core.specs.Standing.{Follows, SeatStands}
 use Rattle.pp_core.specs.declared.counts.Counts.{Counts}
 use Rattle.pp_core.specs.declared.channel.Channel.{Channel}
 use Rattle.pp_core.specs.declared.hearing.Heard as heard
-use Rattle.pp_core.proofs.Following.{Since, follow_all, closed_by, open_by}
+use Rattle.pp_core.proofs.Following.{Later, follow_all, closed_by, open_by}
 use Rattle.pp_core.proofs.Seats.{seat_began, GoesOn, seat_on, follow_taken}
 
 -- ---- a record that isn't on the seat's channel
@@ -55,10 +55,11 @@ due_again c = record { address = refl; local = refl; remote = refl; proven = ref
 
 follow_put : (chunks : ℕ) (whole after : ℕ → Type 0) (c new : Channel) (s : List Line) → ((i : ℕ) → after i → whole i) → StaysPut c new → Follows chunks whole c s → Follows chunks after new s
 follow_put chunks whole after c new s less p f = record {
-  runs = subst (λ (xs : List range.Span). IsRunsFrom 0 xs) (sym p.asked) f.runs;
-  within = λ i e. f.within i (ap (λ (xs : List range.Span). has xs i) (sym p.asked) ∙ e);
-  asked_for = λ i e. f.asked_for i (ap (λ (xs : List range.Span). has xs i) (sym p.asked) ∙ e);
-  kept = λ i w e. ap (λ (xs : List range.Span). has xs i) p.asked ∙ f.kept i (less i w) e;
+  runs = subst (λ (xs : List Span). IsRunsFrom 0 xs) (sym p.asked) f.runs;
+  within = λ i e. f.within i (ap (λ (xs : List Span). has xs i) (sym p.asked) ∙ e);
+  asked_for = λ i e. f.asked_for i (ap (λ (xs : List Span). has xs i) (sym p.asked) ∙ e);
+  few = subst (λ (xs : List Span). length xs ≤ asks_in s) (sym p.asked) f.few;
+  kept = λ i w n e. ap (λ (xs : List Span). has xs i) p.asked ∙ f.kept i (less i w) n e;
   unchoked = f.unchoked;
   flies = p.flying ∙ f.flies;
 }
@@ -106,13 +107,13 @@ story_on d life at sender bytes past lt e =
 
 seat_heard : (d : Descriptor) (whole after : ℕ → Type 0) (c new : Channel) (k : Counts) (life : Life) (at : ℕ) (sender : traffic.Address) (bytes : List ℕ) (past : List Record)
     → SeatStands d whole c life past → comes_on d life (Received at sender bytes) ≡ true
-    → Since (chunks_of d) whole after (hear_all (chunks_of d) (datagram d.method d.chunk bytes).messages.fault (datagram d.method d.chunk bytes).messages.read (Proven c) k).counts
+    → Later (chunks_of d) whole after
     → (hear_all (chunks_of d) (datagram d.method d.chunk bytes).messages.fault (datagram d.method d.chunk bytes).messages.read (Proven c) k).channel ≡ Some new
     → SeatStands d after new life (Received at sender bytes ∷ past)
 seat_heard d whole after c new k life at sender bytes past s comes since left =
     let it = (datagram d.method d.chunk bytes).messages in
     let f = s.follows in
-    let started : Follows (chunks_of d) whole (Proven c) (story d life past) = record { runs = f.runs; within = f.within; asked_for = f.asked_for; kept = f.kept; unchoked = f.unchoked; flies = f.flies } in
+    let started : Follows (chunks_of d) whole (Proven c) (story d life past) = record { runs = f.runs; within = f.within; asked_for = f.asked_for; few = f.few; kept = f.kept; unchoked = f.unchoked; flies = f.flies } in
     let then = follow_all (chunks_of d) whole after it.fault it.read (Proven c) new k (max at (now past)) (story d life past) since started left in
     let on : GoesOn d c new life (Received at sender bytes) = record {
       address = then.same.address;
@@ -162,7 +163,7 @@ LeavesSeat d whole life r past left = MatchOption left (closes_on d life r ≡ t
 
 -- where nothing was given up
 abbrev pub Leaves : Descriptor → (ℕ → Type 0) → (ℕ → Type 0) → Life → Record → List Record → heard.Heard → Type 0
-Leaves d whole after life r past h = Since (chunks_of d) whole after h.counts → LeavesSeat d after life r past h.channel
+Leaves d whole after life r past h = Later (chunks_of d) whole after → LeavesSeat d after life r past h.channel
 
 greets_put : (chunks : ℕ) (sender : Address) (source : ℕ) (rest : Messages) (c : Channel) (k : Counts) (numbers : ChaCha) (P : Option Channel → Type 0)
     → ((new : Channel) → StaysPut c new → P (Some new)) → P (greet_fitting chunks sender source rest (Some c) k numbers).heard.channel

@@ -2,9 +2,12 @@
 use Rattle.std.proofs.Common.{◌≡◌, ◌⊎◌, inl, inr, ⊎_elim, ℕ, zero, suc, ◌+◌, ◌-◌, ◌*◌, ◌/◌, ◌%◌, ◌^◌, ◌<◌, ◌≤◌, leb, Bool, true, false, Option, Some, None, List, [], ◌∷◌, ◌++◌, map, length, refl, sym, ◌∙◌, ap, subst, arith}
 use Rattle.std.specs.Prelude.{MatchOption, slice_index_or, unwrap_or}
 use Rattle.std.proofs.lemmas.Bool.{cases_lt, and_parts, and_from, le-leb, leb-true, false≢true}
-use Rattle.std.proofs.lemmas.List.{append_assoc, map-append}
-use Rattle.pp_terms.specs.Descriptor.{Descriptor, Method, Bin32, Range32, Bin64, Range64}
-use Rattle.pp_terms.specs.Messages.{Span, Message, Have, IsNamed, IsBinSpan}
+use Rattle.std.proofs.lemmas.List.{append_assoc, map-append, get_or_past}
+use Rattle.std.proofs.Math.Pow.{pow_mono}
+use Rattle.pp_terms.specs.format.Descriptor.{Descriptor, Method, Bin32, Range32, Bin64, Range64}
+use Rattle.pp_terms.specs.format.Messages.{Message, Have, IsNamed, IsBinSpan}
+use Rattle.pp_terms.specs.tree.Range.{Span}
+use Rattle.pp_terms.proofs.Facts.{member_below}
 use Rattle.pp_tree.proofs.BinNumbers.{shifted}
 use Rattle.pp_ranges.specs.Covering.{IsMultiple}
 use Rattle.pp_ranges.proofs.Dyadic.{quotient_of, even_multiple, odd_highest, last_highest}
@@ -19,12 +22,6 @@ bin_power first end s b is lt =
     let more : (b.offset + 1) * 2 ^ b.layer ≡ b.offset * 2 ^ b.layer + 2 ^ b.layer = omega arith in
     omega (arith, b.begins, b.ends)
 
-power_grows : (a b : ℕ) → a ≤ b → 2 ^ a ≤ 2 ^ b
-power_grows zero zero le = omega arith
-power_grows zero (suc b) le = let h = power_grows zero b (omega arith) in omega arith
-power_grows (suc a) zero le = absurd (omega arith)
-power_grows (suc a) (suc b) le = let h = power_grows a b (omega arith) in omega arith
-
 widest_most : (first end layer : ℕ) (other : Span) → IsWidest first end layer → IsBinSpan other → other.first ≡ first → other.last < end → other.last < first + 2 ^ layer
 widest_most first end layer other w b is lt =
     let fits = bin_power first end other b is lt in
@@ -32,7 +29,7 @@ widest_most first end layer other w b is lt =
     let ends : other.last + 1 ≡ first + 2 ^ b.layer = omega (arith, b.begins, b.ends) in
     ⊎_elim
     (λ higher. absurd (w.highest b.layer b.offset higher (sym is ∙ b.begins) fits))
-    (λ low. let grows = power_grows b.layer layer low in omega arith)
+    (λ low. let grows : 2 ^ b.layer ≤ 2 ^ layer = pow_mono low in omega arith)
     (cases_lt layer b.layer)
 
 widest_span : (first end layer : ℕ) → 0 < 2 ^ layer → IsWidest first end layer → IsBinSpan (record { first = first; last = first + (2 ^ layer - 1) })
@@ -126,25 +123,16 @@ either_default [] i a b lt = absurd (omega arith)
 either_default (x ∷ xs) zero a b lt = refl
 either_default (x ∷ xs) (suc i) a b lt = either_default xs i a b (omega arith)
 
-past_set : (set : List Bool) (i : ℕ) (b : Bool) → length set ≤ i → slice_index_or set i b ≡ b
-past_set [] zero b le = refl
-past_set [] (suc i) b le = refl
-past_set (x ∷ xs) zero b le = absurd (omega arith)
-past_set (x ∷ xs) (suc i) b le = past_set xs i b (omega arith)
-
-pub within_set : (set : List Bool) (i : ℕ) → slice_index_or set i false ≡ true → i < length set
-within_set set i e = ⊎_elim (λ lt. lt) (λ le. absurd (false≢true (sym (past_set set i false le) ∙ e))) (cases_lt i (length set))
-
 pub row_is : (set : List Bool) (chunks first end : ℕ) (o : Option ℕ) → length set ≡ chunks → slice_index_or set first false ≡ true → end ≡ unwrap_or o chunks
     → MatchOption o ((k : ℕ) → first ≤ k → k < length set → slice_index_or set k false ≡ true)
     (λ i. (first ≤ i) × (i < length set) × (slice_index_or set i true ≡ false) × ((k : ℕ) → first ≤ k → k < i → slice_index_or set k false ≡ true))
     → IsRow set first end
 row_is set chunks first end None size here is all =
-    let lt = within_set set first here in record {
+    let lt = member_below set first here in record {
       some = omega (arith, size, is);
       within = omega (arith, size, is);
       held = λ i le less. all i le (omega (arith, size, is));
-      ends = past_set set end false (omega (arith, size, is));
+      ends = get_or_past set end false (omega (arith, size, is));
     }
 row_is set chunks first end (Some i) size here is all =
     let absent : slice_index_or set i false ≡ false = either_default set i false true all.1 ∙ all.2 in

@@ -1,14 +1,14 @@
 -- A channel follows the story of its life, message by message.
-use Rattle.std.proofs.Common.{◌≡◌, ⊎_elim, ℕ, ◌+◌, ◌-◌, ◌^◌, ◌<◌, min, eqb, Bool, true, false, not, ◌&&◌, ◌||◌, Option, Some, None, List, [], ◌∷◌, filter, refl, sym, ◌∙◌, ap, subst, arith}
-use Rattle.std.proofs.lemmas.Bool.{and_parts, and_from, or_cases, or_left, or_right, not-true, not_from_false, cases_Bool, both_ways, cond-true, cond-false, false_from_ne_true}
-use Rattle.pp_terms.specs.Messages.{Span, Message, Handshake, Data, Ack, Have, Integrity, Pex4, PexReq, Request, Cancel, Choke, Unchoke, Pex6, WireKind}
-use Rattle.pp_terms.specs.Range as range
-use Rattle.pp_terms.specs.Range.{within, has}
+use Rattle.std.proofs.Common.{◌≡◌, ⊎_elim, ℕ, ◌+◌, ◌<◌, ◌≤◌, eqb, Bool, true, false, not, ◌&&◌, ◌||◌, Option, Some, None, List, [], ◌∷◌, filter, length, refl, sym, ◌∙◌, ap, subst, arith}
+use Rattle.std.proofs.lemmas.Bool.{and_parts, and_from, or_cases, or_left, or_right, not-true, not_from_false, le-ltb, cases_Bool, both_ways, cond-true, cond-false, false_from_ne_true}
+use Rattle.pp_terms.specs.format.Messages.{Message, Handshake, Data, Ack, Have, Integrity, Pex4, PexReq, Request, Cancel, Choke, Unchoke, Pex6, WireKind}
+use Rattle.pp_terms.specs.tree.Range.{Span, within, has}
 use Rattle.pp_traffic.specs.Story.{Line, Heard, hear}
-use Rattle.pp_traffic.specs.Asking.{covers, choked, asked}
+use Rattle.pp_traffic.specs.Asking.{choked, asked, asks_in, most_asks}
 use Rattle.pp_traffic.specs.Life.{closes}
 use Rattle.pp_traffic.specs.Flight.{in_flight}
 use Rattle.pp_ranges.specs.Edits.{inserted, removed}
+use Rattle.pp_ranges.proofs.Lengths.{inserted_length, removed_few}
 use Rattle.pp_requests.specs.Lists.{are_too_many}
 use Rattle.pp_core.specs.Counting.{rise}
 use Rattle.pp_core.specs.Hearing.{is_closing, inside, asks_for, lets_go, overflows, after_message, is_full, counted, hear_all}
@@ -20,116 +20,123 @@ use Rattle.pp_core.proofs.Askings.{Inside, none, some, inside?, is_asked, is_let
 
 -- ---- one message
 
--- Afterwards nothing was given up where nothing was before, and the list had room.
-abbrev pub Later : ℕ → (ℕ → Type 0) → (ℕ → Type 0) → Message → Channel → Type 0
-Later chunks whole after m c = (i : ℕ) → after i → whole i × (i < chunks) × (is_full chunks m c.asked ≡ false)
+-- What is whole afterwards was so before, and is a chunk of the content.
+abbrev pub Later : ℕ → (ℕ → Type 0) → (ℕ → Type 0) → Type 0
+Later chunks whole after = (i : ℕ) → after i → whole i × (i < chunks)
 
 pub weaker : (chunks : ℕ) (whole after : ℕ → Type 0) (c : Channel) (s : List Line) → ((i : ℕ) → after i → whole i) → Follows chunks whole c s → Follows chunks after c s
-weaker chunks whole after c s less f = record { runs = f.runs; within = f.within; asked_for = f.asked_for; kept = λ i w e. f.kept i (less i w) e; unchoked = f.unchoked; flies = f.flies }
+weaker chunks whole after c s less f = record { runs = f.runs; within = f.within; asked_for = f.asked_for; few = f.few; kept = λ i w n e. f.kept i (less i w) n e; unchoked = f.unchoked; flies = f.flies }
 
 -- what does nothing to either
-idle : (chunks : ℕ) (whole after : ℕ → Type 0) (c : Channel) (now : ℕ) (m : Message) (story : List Line) → ((i : ℕ) → after i → whole i) → Follows chunks whole c story
-    → ((i : ℕ) → asked i (Heard now m ∷ story) ≡ asked i story) → in_flight (Heard now m ∷ story) ≡ in_flight story → Follows chunks after c (Heard now m ∷ story)
-idle chunks whole after c now m story less f same_asked same_flight = record {
+idle : (chunks : ℕ) (whole after : ℕ → Type 0) (c : Channel) (now : ℕ) (m : Message) (story : List Line) → Later chunks whole after → Follows chunks whole c story
+    → ((i : ℕ) → asked i (Heard now m ∷ story) ≡ asked i story) → asks_in (Heard now m ∷ story) ≡ asks_in story → in_flight (Heard now m ∷ story) ≡ in_flight story → Follows chunks after c (Heard now m ∷ story)
+idle chunks whole after c now m story later f same_asked same_asks same_flight = record {
   runs = f.runs;
   within = f.within;
   asked_for = λ i e. same_asked i ∙ f.asked_for i e;
-  kept = λ i w e. f.kept i (less i w) (sym (same_asked i) ∙ e);
+  few = subst (λ (n : ℕ). length c.asked ≤ n) (sym same_asks) f.few;
+  kept = λ i w n e. f.kept i (later i w).0 (subst (λ (x : ℕ). x ≤ most_asks) same_asks n) (sym (same_asked i) ∙ e);
   unchoked = f.unchoked;
   flies = f.flies ∙ sym same_flight;
 }
 
-full_part : (chunks : ℕ) (span : Span) (part : range.Span) (edit : range.Span → List range.Span) → inside chunks span ≡ Some part → overflows (inside chunks span) edit ≡ false → are_too_many (edit part) ≡ false
-full_part chunks span part edit is e = subst (λ (o : Option range.Span). overflows o edit ≡ false) is e
+-- while few requests and cancellations came, the list has room for one more
+room_for : (list new : List Span) (asks : ℕ) → length new ≤ length list + 1 → length list ≤ asks → asks + 1 ≤ most_asks → are_too_many new ≡ false
+room_for list new asks one few room = le-ltb 64 (length new) (omega arith)
 
-follow_request : (chunks : ℕ) (whole after : ℕ → Type 0) (c : Channel) (now : ℕ) (span : Span) (story : List Line) → Later chunks whole after (Request span) c → Follows chunks whole c story
+follow_request : (chunks : ℕ) (whole after : ℕ → Type 0) (c : Channel) (now : ℕ) (span : Span) (story : List Line) → Later chunks whole after → Follows chunks whole c story
     → Follows chunks after (after_message chunks (Request span) c) (Heard now (Request span) ∷ story)
 follow_request chunks whole after c now span story later f = by (inside? chunks span)
   where
     by : Inside chunks span → Follows chunks after (after_message chunks (Request span) c) (Heard now (Request span) ∷ story)
-    by (none is out) = subst (λ (o : Option range.Span). Follows chunks after (record c { asked = asks_for o c.asked }) (Heard now (Request span) ∷ story)) (sym is) (record {
+    by (none is out) = subst (λ (o : Option Span). Follows chunks after (record c { asked = asks_for o c.asked }) (Heard now (Request span) ∷ story)) (sym is) (record {
       runs = f.runs;
       within = f.within;
-      asked_for = λ i e. or_right (covers span i && not (choked story)) (asked i story) (f.asked_for i e);
-      kept = λ i w e. ⊎_elim
-          (λ here. absurd (out i (later i w).1 (and_parts (covers span i) (not (choked story)) here).0))
-          (λ before. f.kept i (later i w).0 before)
-          (or_cases (covers span i && not (choked story)) (asked i story) e);
+      asked_for = λ i e. or_right (within span i && not (choked story)) (asked i story) (f.asked_for i e);
+      few = let low = f.few in omega arith;
+      kept = λ i w n e. ⊎_elim
+          (λ here. absurd (out i (later i w).1 (and_parts (within span i) (not (choked story)) here).0))
+          (λ before. f.kept i (later i w).0 (omega arith) before)
+          (or_cases (within span i && not (choked story)) (asked i story) e);
       unchoked = f.unchoked;
       flies = f.flies;
     })
     by (some part is p) =
         let l = is_asked part c.asked p.order f.runs in
-        subst (λ (o : Option range.Span). Follows chunks after (record c { asked = asks_for o c.asked }) (Heard now (Request span) ∷ story)) (sym is) (record {
+        subst (λ (o : Option Span). Follows chunks after (record c { asked = asks_for o c.asked }) (Heard now (Request span) ∷ story)) (sym is) (record {
           runs = l.runs;
           within = λ i e. ⊎_elim (λ here. (p.less i here).0) (λ before. f.within i before) (l.from i e);
           asked_for = λ i e. ⊎_elim
-              (λ here. or_left (covers span i && not (choked story)) (asked i story) (and_from (covers span i) (not (choked story)) (p.less i here).1 (not_from_false (choked story) f.unchoked)))
-              (λ before. or_right (covers span i && not (choked story)) (asked i story) (f.asked_for i before))
+              (λ here. or_left (within span i && not (choked story)) (asked i story) (and_from (within span i) (not (choked story)) (p.less i here).1 (not_from_false (choked story) f.unchoked)))
+              (λ before. or_right (within span i && not (choked story)) (asked i story) (f.asked_for i before))
               (l.from i e);
-          kept = λ i w e. ⊎_elim
-              (λ here. l.to (full_part chunks span part (λ x. inserted (Some x) c.asked) is (later i w).2) i
-              (or_left (within part i) (has c.asked i) (p.all i (later i w).1 (and_parts (covers span i) (not (choked story)) here).0)))
-              (λ before. l.stays i (f.kept i (later i w).0 before))
-              (or_cases (covers span i && not (choked story)) (asked i story) e);
+          few = let low = f.few in let one = l.few in omega arith;
+          kept = λ i w n e. ⊎_elim
+              (λ here. l.to (room_for c.asked (inserted (Some part) c.asked) (asks_in story) (inserted_length part c.asked) f.few n) i
+              (or_left (within part i) (has c.asked i) (p.all i (later i w).1 (and_parts (within span i) (not (choked story)) here).0)))
+              (λ before. l.stays i (f.kept i (later i w).0 (omega arith) before))
+              (or_cases (within span i && not (choked story)) (asked i story) e);
           unchoked = f.unchoked;
           flies = f.flies;
         })
 
-follow_cancel : (chunks : ℕ) (whole after : ℕ → Type 0) (c : Channel) (now : ℕ) (span : Span) (story : List Line) → Later chunks whole after (Cancel span) c → Follows chunks whole c story
+follow_cancel : (chunks : ℕ) (whole after : ℕ → Type 0) (c : Channel) (now : ℕ) (span : Span) (story : List Line) → Later chunks whole after → Follows chunks whole c story
     → Follows chunks after (after_message chunks (Cancel span) c) (Heard now (Cancel span) ∷ story)
 follow_cancel chunks whole after c now span story later f = by (inside? chunks span)
   where
     by : Inside chunks span → Follows chunks after (after_message chunks (Cancel span) c) (Heard now (Cancel span) ∷ story)
-    by (none is out) = subst (λ (o : Option range.Span). Follows chunks after (record c { asked = lets_go o c.asked }) (Heard now (Cancel span) ∷ story)) (sym is) (record {
+    by (none is out) = subst (λ (o : Option Span). Follows chunks after (record c { asked = lets_go o c.asked }) (Heard now (Cancel span) ∷ story)) (sym is) (record {
       runs = f.runs;
       within = f.within;
-      asked_for = λ i e. and_from (not (covers span i)) (asked i story) (not_from_false (covers span i) (false_from_ne_true (covers span i) (out i (f.within i e)))) (f.asked_for i e);
-      kept = λ i w e. f.kept i (later i w).0 (and_parts (not (covers span i)) (asked i story) e).1;
+      asked_for = λ i e. and_from (not (within span i)) (asked i story) (not_from_false (within span i) (false_from_ne_true (within span i) (out i (f.within i e)))) (f.asked_for i e);
+      few = let low = f.few in omega arith;
+      kept = λ i w n e. f.kept i (later i w).0 (omega arith) (and_parts (not (within span i)) (asked i story) e).1;
       unchoked = f.unchoked;
       flies = f.flies;
     })
     by (some part is p) =
         let l = is_let_go part c.asked p.order f.runs in
-        subst (λ (o : Option range.Span). Follows chunks after (record c { asked = lets_go o c.asked }) (Heard now (Cancel span) ∷ story)) (sym is) (record {
+        subst (λ (o : Option Span). Follows chunks after (record c { asked = lets_go o c.asked }) (Heard now (Cancel span) ∷ story)) (sym is) (record {
           runs = l.runs;
           within = λ i e. f.within i (l.from i e).1;
-          asked_for = λ i e. and_from (not (covers span i)) (asked i story)
-              (not_from_false (covers span i) (false_from_ne_true (covers span i) (λ in_span. both_ways (within part i) (l.from i e).0 (p.all i (f.within i (l.from i e).1) in_span))))
+          asked_for = λ i e. and_from (not (within span i)) (asked i story)
+              (not_from_false (within span i) (false_from_ne_true (within span i) (λ in_span. both_ways (within part i) (l.from i e).0 (p.all i (f.within i (l.from i e).1) in_span))))
               (f.asked_for i (l.from i e).1);
-          kept = λ i w e. let parts = and_parts (not (covers span i)) (asked i story) e in
-              l.to (full_part chunks span part (λ x. removed x c.asked) is (later i w).2) i
-              (false_from_ne_true (within part i) (λ in_part. both_ways (covers span i) (not-true (covers span i) parts.0) (p.less i in_part).1))
-              (f.kept i (later i w).0 parts.1);
+          few = let low = f.few in let one = l.few in omega arith;
+          kept = λ i w n e. let parts = and_parts (not (within span i)) (asked i story) e in
+              l.to (room_for c.asked (removed part c.asked) (asks_in story) (removed_few part c.asked 0 p.order f.runs) f.few n) i
+              (false_from_ne_true (within part i) (λ in_part. both_ways (within span i) (not-true (within span i) parts.0) (p.less i in_part).1))
+              (f.kept i (later i w).0 (omega arith) parts.1);
           unchoked = f.unchoked;
           flies = f.flies;
         })
 
-follow_ack : (chunks : ℕ) (whole after : ℕ → Type 0) (c : Channel) (now : ℕ) (span : Span) (delay : ℕ) (story : List Line) → ((i : ℕ) → after i → whole i) → Follows chunks whole c story
+follow_ack : (chunks : ℕ) (whole after : ℕ → Type 0) (c : Channel) (now : ℕ) (span : Span) (delay : ℕ) (story : List Line) → Later chunks whole after → Follows chunks whole c story
     → Follows chunks after (after_message chunks (Ack span delay) c) (Heard now (Ack span delay) ∷ story)
-follow_ack chunks whole after c now span delay story less f = record {
+follow_ack chunks whole after c now span delay story later f = record {
   runs = f.runs;
   within = f.within;
   asked_for = f.asked_for;
-  kept = λ i w e. f.kept i (less i w) e;
+  few = f.few;
+  kept = λ i w n e. f.kept i (later i w).0 n e;
   unchoked = f.unchoked;
-  flies = ap (λ (xs : List ℕ). filter (λ i. not (covers span i)) xs) f.flies;
+  flies = ap (λ (xs : List ℕ). filter (λ i. not (within span i)) xs) f.flies;
 }
 
-pub follow_heard : (chunks : ℕ) (whole after : ℕ → Type 0) (c : Channel) (now : ℕ) (m : Message) (story : List Line) → Later chunks whole after m c → Follows chunks whole c story
+pub follow_heard : (chunks : ℕ) (whole after : ℕ → Type 0) (c : Channel) (now : ℕ) (m : Message) (story : List Line) → Later chunks whole after → Follows chunks whole c story
     → Follows chunks after (after_message chunks m c) (Heard now m ∷ story)
-follow_heard chunks whole after c now (Handshake source options) story later f = idle chunks whole after c now (Handshake source options) story (λ i w. (later i w).0) f (λ i. refl) refl
-follow_heard chunks whole after c now (Data chunk sent_at bytes) story later f = idle chunks whole after c now (Data chunk sent_at bytes) story (λ i w. (later i w).0) f (λ i. refl) refl
-follow_heard chunks whole after c now (Ack span delay) story later f = follow_ack chunks whole after c now span delay story (λ i w. (later i w).0) f
-follow_heard chunks whole after c now (Have span) story later f = idle chunks whole after c now (Have span) story (λ i w. (later i w).0) f (λ i. refl) refl
-follow_heard chunks whole after c now (Integrity span digest) story later f = idle chunks whole after c now (Integrity span digest) story (λ i w. (later i w).0) f (λ i. refl) refl
-follow_heard chunks whole after c now (Pex4 address port) story later f = idle chunks whole after c now (Pex4 address port) story (λ i w. (later i w).0) f (λ i. refl) refl
-follow_heard chunks whole after c now PexReq story later f = idle chunks whole after c now PexReq story (λ i w. (later i w).0) f (λ i. refl) refl
+follow_heard chunks whole after c now (Handshake source options) story later f = idle chunks whole after c now (Handshake source options) story later f (λ i. refl) refl refl
+follow_heard chunks whole after c now (Data chunk sent_at bytes) story later f = idle chunks whole after c now (Data chunk sent_at bytes) story later f (λ i. refl) refl refl
+follow_heard chunks whole after c now (Ack span delay) story later f = follow_ack chunks whole after c now span delay story later f
+follow_heard chunks whole after c now (Have span) story later f = idle chunks whole after c now (Have span) story later f (λ i. refl) refl refl
+follow_heard chunks whole after c now (Integrity span digest) story later f = idle chunks whole after c now (Integrity span digest) story later f (λ i. refl) refl refl
+follow_heard chunks whole after c now (Pex4 address port) story later f = idle chunks whole after c now (Pex4 address port) story later f (λ i. refl) refl refl
+follow_heard chunks whole after c now PexReq story later f = idle chunks whole after c now PexReq story later f (λ i. refl) refl refl
 follow_heard chunks whole after c now (Request span) story later f = follow_request chunks whole after c now span story later f
 follow_heard chunks whole after c now (Cancel span) story later f = follow_cancel chunks whole after c now span story later f
-follow_heard chunks whole after c now Choke story later f = idle chunks whole after c now Choke story (λ i w. (later i w).0) f (λ i. refl) refl
-follow_heard chunks whole after c now Unchoke story later f = idle chunks whole after c now Unchoke story (λ i w. (later i w).0) f (λ i. refl) refl
-follow_heard chunks whole after c now (Pex6 address port) story later f = idle chunks whole after c now (Pex6 address port) story (λ i w. (later i w).0) f (λ i. refl) refl
+follow_heard chunks whole after c now Choke story later f = idle chunks whole after c now Choke story later f (λ i. refl) refl refl
+follow_heard chunks whole after c now Unchoke story later f = idle chunks whole after c now Unchoke story later f (λ i. refl) refl refl
+follow_heard chunks whole after c now (Pex6 address port) story later f = idle chunks whole after c now (Pex6 address port) story later f (λ i. refl) refl refl
 
 -- The channel is to the same peer, and its handshake is where it was.
 pub record SameSeat (c new : Channel) : Type 0 where
@@ -162,43 +169,19 @@ pub record LeftOn (chunks : ℕ) (whole : ℕ → Type 0) (c new : Channel) (sto
   pub same : SameSeat c new
   pub follows : Follows chunks whole new story
 
--- no list had overflowed before
-rise_some : (n : ℕ) → rise n ≡ 0 → ⊥
-rise_some n e = let is : min (n + 1) (2 ^ 64 - 1) ≡ 0 = e in omega arith
-
-counted_none : (chunks : ℕ) (m : Message) (c : Channel) (k : Counts) → (counted chunks m c k).full ≡ 0 → (k.full ≡ 0) × (is_full chunks m c.asked ≡ false)
-counted_none chunks m c k e = ⊎_elim
-    (λ full. absurd (rise_some k.full (sym (cond-true (is_full chunks m c.asked) (rise k.full) k.full full) ∙ e)))
-    (λ room. (sym (cond-false (is_full chunks m c.asked) (rise k.full) k.full room) ∙ e, room))
-    (cases_Bool (is_full chunks m c.asked))
-
-pub heard_none : (chunks : ℕ) (fault : Option (ℕ × WireKind)) (ms : List Message) (c : Channel) (k : Counts) → (hear_all chunks fault ms c k).counts.full ≡ 0 → k.full ≡ 0
-heard_none chunks None [] c k e = e
-heard_none chunks (Some fault) [] c k e = e
-heard_none chunks fault (m ∷ ms) c k e = ⊎_elim
-    (λ closing. sym (ap (λ (h : heard.Heard). h.counts.full) (cond-true (is_closing m) (record { channel = None; counts = k }) (hear_all chunks fault ms (after_message chunks m c) (counted chunks m c k)) closing)) ∙ e)
-    (λ stays. (counted_none chunks m c k (heard_none chunks fault ms (after_message chunks m c) (counted chunks m c k)
-    (sym (ap (λ (h : heard.Heard). h.counts.full) (cond-false (is_closing m) (record { channel = None; counts = k }) (hear_all chunks fault ms (after_message chunks m c) (counted chunks m c k)) stays)) ∙ e))).0)
-    (cases_Bool (is_closing m))
-
--- Afterwards nothing was given up where nothing was before, and no list overflowed.
-abbrev pub Since : ℕ → (ℕ → Type 0) → (ℕ → Type 0) → Counts → Type 0
-Since chunks whole after k = (i : ℕ) → after i → whole i × (i < chunks) × (k.full ≡ 0)
-
 pub follow_all : (chunks : ℕ) (whole after : ℕ → Type 0) (fault : Option (ℕ × WireKind)) (ms : List Message) (c new : Channel) (k : Counts) (now : ℕ) (story : List Line)
-    → Since chunks whole after (hear_all chunks fault ms c k).counts → Follows chunks whole c story
+    → Later chunks whole after → Follows chunks whole c story
     → (hear_all chunks fault ms c k).channel ≡ Some new → LeftOn chunks after c new (hear now ms story)
-follow_all chunks whole after None [] c new k now story since f e =
-    let is : c ≡ new = cc in record { same = subst (λ (x : Channel). SameSeat c x) is (same_seat c); follows = subst (λ (x : Channel). Follows chunks after x story) is (weaker chunks whole after c story (λ i w. (since i w).0) f) }
-follow_all chunks whole after (Some fault) [] c new k now story since f e =
-    let is : c ≡ new = cc in record { same = subst (λ (x : Channel). SameSeat c x) is (same_seat c); follows = subst (λ (x : Channel). Follows chunks after x story) is (weaker chunks whole after c story (λ i w. (since i w).0) f) }
-follow_all chunks whole after fault (m ∷ ms) c new k now story since f e = ⊎_elim
+follow_all chunks whole after None [] c new k now story later f e =
+    let is : c ≡ new = cc in record { same = subst (λ (x : Channel). SameSeat c x) is (same_seat c); follows = subst (λ (x : Channel). Follows chunks after x story) is (weaker chunks whole after c story (λ i w. (later i w).0) f) }
+follow_all chunks whole after (Some fault) [] c new k now story later f e =
+    let is : c ≡ new = cc in record { same = subst (λ (x : Channel). SameSeat c x) is (same_seat c); follows = subst (λ (x : Channel). Follows chunks after x story) is (weaker chunks whole after c story (λ i w. (later i w).0) f) }
+follow_all chunks whole after fault (m ∷ ms) c new k now story later f e = ⊎_elim
     (λ closing. absurd (let none : None ≡ Some new = sym (ap (λ (h : heard.Heard). h.channel) (cond-true (is_closing m) (record { channel = None; counts = k }) (hear_all chunks fault ms (after_message chunks m c) (counted chunks m c k)) closing)) ∙ e in cc))
     (λ stays.
     let on = cond-false (is_closing m) (record { channel = None; counts = k }) (hear_all chunks fault ms (after_message chunks m c) (counted chunks m c k)) stays in
-    let later : Since chunks whole after (hear_all chunks fault ms (after_message chunks m c) (counted chunks m c k)).counts = subst (λ (h : heard.Heard). Since chunks whole after h.counts) on since in
-    let rest = follow_all chunks after after fault ms (after_message chunks m c) new (counted chunks m c k) now (Heard now m ∷ story) (λ i w. (w, (later i w).1, (later i w).2))
-    (follow_heard chunks whole after c now m story (λ i w. ((later i w).0, (later i w).1, (counted_none chunks m c k (heard_none chunks fault ms (after_message chunks m c) (counted chunks m c k) (later i w).2)).1)) f)
+    let rest = follow_all chunks after after fault ms (after_message chunks m c) new (counted chunks m c k) now (Heard now m ∷ story) (λ i w. (w, (later i w).1))
+    (follow_heard chunks whole after c now m story later f)
     (sym (ap (λ (h : heard.Heard). h.channel) on) ∙ e) in
     record { same = same_after chunks m c new rest.same; follows = rest.follows })
     (cases_Bool (is_closing m))
@@ -275,11 +258,9 @@ pub record SameLoss (k new : Counts) : Type 0 where
   pub sent : new.sent ≡ k.sent
   pub turns : new.turns ≡ k.turns
   pub receive_faults : new.receive_faults ≡ k.receive_faults
-  -- and no list overflowed before where none did since
-  pub full : new.full ≡ 0 → k.full ≡ 0
 
 pub same_loss : (k : Counts) → SameLoss k k
-same_loss k = record { unheld = refl; damaged = refl; read_faults = refl; send_faults = refl; datagrams = refl; short = refl; sent = refl; turns = refl; receive_faults = refl; full = λ e. e }
+same_loss k = record { unheld = refl; damaged = refl; read_faults = refl; send_faults = refl; datagrams = refl; short = refl; sent = refl; turns = refl; receive_faults = refl }
 
 pub loss_on : (k mid new : Counts) → SameLoss k mid → SameLoss mid new → SameLoss k new
 loss_on k mid new a b = record {
@@ -292,15 +273,14 @@ loss_on k mid new a b = record {
   sent = b.sent ∙ a.sent;
   turns = b.turns ∙ a.turns;
   receive_faults = b.receive_faults ∙ a.receive_faults;
-  full = λ e. a.full (b.full e);
 }
 
 counted_loss : (chunks : ℕ) (m : Message) (c : Channel) (k : Counts) → SameLoss k (counted chunks m c k)
-counted_loss chunks m c k = record { unheld = refl; damaged = refl; read_faults = refl; send_faults = refl; datagrams = refl; short = refl; sent = refl; turns = refl; receive_faults = refl; full = λ e. (counted_none chunks m c k e).0 }
+counted_loss chunks m c k = record { unheld = refl; damaged = refl; read_faults = refl; send_faults = refl; datagrams = refl; short = refl; sent = refl; turns = refl; receive_faults = refl }
 
 pub loss_all : (chunks : ℕ) (fault : Option (ℕ × WireKind)) (ms : List Message) (c : Channel) (k : Counts) → SameLoss k (hear_all chunks fault ms c k).counts
 loss_all chunks None [] c k = same_loss k
-loss_all chunks (Some fault) [] c k = record { unheld = refl; damaged = refl; read_faults = refl; send_faults = refl; datagrams = refl; short = refl; sent = refl; turns = refl; receive_faults = refl; full = λ e. e }
+loss_all chunks (Some fault) [] c k = record { unheld = refl; damaged = refl; read_faults = refl; send_faults = refl; datagrams = refl; short = refl; sent = refl; turns = refl; receive_faults = refl }
 loss_all chunks fault (m ∷ ms) c k = ⊎_elim
     (λ closing. subst (λ (h : heard.Heard). SameLoss k h.counts) (sym (cond-true (is_closing m) (record { channel = None; counts = k }) (hear_all chunks fault ms (after_message chunks m c) (counted chunks m c k)) closing)) (same_loss k))
     (λ stays. subst (λ (h : heard.Heard). SameLoss k h.counts) (sym (cond-false (is_closing m) (record { channel = None; counts = k }) (hear_all chunks fault ms (after_message chunks m c) (counted chunks m c k)) stays))

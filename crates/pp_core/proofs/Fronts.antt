@@ -6,11 +6,12 @@ use Rattle.std.proofs.lemmas.Bool.{le-ltb}
 use Rattle.std.proofs.lemmas.List.{length-take, length-append, take_at, drop_all}
 use Rattle.std.proofs.Math.Seq.{take-length}
 use Rattle.pp_terms.specs.Place.{placed}
-use Rattle.pp_terms.specs.Tree.{Node}
-use Rattle.pp_terms.specs.Content.{IsChunkSize}
-use Rattle.pp_terms.specs.Descriptor.{Descriptor, IsDescriptor, Method, Bin32, Range32, Bin64, Range64}
-use Rattle.pp_terms.specs.Options.{IsBytes, spelling_of}
-use Rattle.pp_terms.specs.Messages.{Message, Handshake, Data, Ack, Have, Integrity, Pex4, PexReq, Request, Cancel, Choke, Unchoke, Pex6, Span, only, spell, spell_span, bin_number_of, IsNamed, IsBinSpan, IsSpelt, IsFull, AtMostFull, Datagram, datagram, with_last, messages_from}
+use Rattle.pp_terms.specs.tree.Tree.{Node}
+use Rattle.pp_terms.specs.tree.Content.{IsChunkSize}
+use Rattle.pp_terms.specs.format.Descriptor.{Descriptor, IsDescriptor, Method, Bin32, Range32, Bin64, Range64}
+use Rattle.pp_terms.specs.format.Options.{IsBytes, spelling_of}
+use Rattle.pp_terms.specs.format.Messages.{Message, Handshake, Data, Ack, Have, Integrity, Pex4, PexReq, Request, Cancel, Choke, Unchoke, Pex6, only, spell, spell_span, bin_number_of, IsNamed, IsBinSpan, IsSpelt, IsFull, AtMostFull, Datagram, datagram, with_last, messages_from}
+use Rattle.pp_terms.specs.tree.Range.{Span}
 use Rattle.pp_terms.proofs.DatagramLaws.{grows_by_one}
 use Rattle.pp_terms.proofs.MessageLaws.{wide32, wide64, IsBytes-take}
 use Rattle.pp_tree.proofs.Sizes.{chunk_size_range}

@@ -3,11 +3,12 @@ use Rattle.std.proofs.Common.{◌≡◌, ℕ, ◌+◌, ◌<◌, ◌≤◌, true,
 use Rattle.std.proofs.lemmas.Bool.{cond-false, not-true, le-ltb, lt-ltb, ne_eqb, eq-eqb}
 use Rattle.std.specs.Int.{w32, from_be_bytes}
 use Rattle.rand_chacha.specs.ChaCha.{ChaCha}
-use Rattle.pp_terms.specs.Descriptor.{Descriptor, chunks_of}
-use Rattle.pp_terms.specs.Options.{Options, IsBytes}
-use Rattle.pp_terms.specs.Messages.{Message, WireKind, Read, End, Cut, next_message, moved, Messages, messages_at, datagram}
-use Rattle.pp_terms.proofs.MessageLaws.{IsBytes-drop}
+use Rattle.pp_terms.specs.format.Descriptor.{Descriptor, chunks_of}
+use Rattle.pp_terms.specs.format.Options.{Options, IsBytes}
+use Rattle.pp_terms.specs.format.Messages.{Message, WireKind, Read, End, Cut, next_message, moved, Messages, messages_at, datagram}
 use Rattle.pp_terms.proofs.DatagramLaws.{one_by_one}
+use Rattle.pp_terms.proofs.MovedSteps.{moved_end}
+use Rattle.pp_terms.proofs.Spellings.{IsBytes-drop}
 use Rattle.pp_wire.specs.Views.{message_of}
 use Rattle.pp_wire.specs.declared.message.Message as code
 use Rattle.pp_wire.specs.declared.message.Message.TheVariants as variants
@@ -18,7 +19,7 @@ use Rattle.pp_core.specs.Taking.{Taken, leaves, is_short, is_stranger, is_refuse
 use Rattle.pp_core.specs.declared.counts.Counts.{Counts}
 use Rattle.pp_core.specs.declared.channel.Channel.{Channel}
 use Rattle.pp_core.specs.declared.hearing.Heard.{Heard}
-use Rattle.pp_core.proofs.Readings.{is_read, cut_at, moved_end}
+use Rattle.pp_core.proofs.Readings.{is_read, cut_at}
 
 -- with a first message
 pub greets_by : (d : Descriptor) (sender : Address) (bytes : List ℕ) (next : ℕ) (m : Message) (channel : Option Channel) (k : Counts) (numbers : ChaCha)

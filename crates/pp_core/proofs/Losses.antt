@@ -3,8 +3,9 @@ use Rattle.std.proofs.Common.{◌≡◌, ⊎_elim, ℕ, ◌<◌, ◌≤◌, ltb,
 use Rattle.std.proofs.lemmas.Bool.{cond-true, cond-false, lt-ltb, le-ltb, cases_lt}
 use Rattle.std.specs.Int.{w32, from_be_bytes}
 use Rattle.rand_chacha.specs.ChaCha.{ChaCha, next_word}
-use Rattle.pp_terms.specs.Descriptor.{Descriptor, chunks_of}
-use Rattle.pp_terms.specs.Messages.{Message, Handshake, Data, Ack, Have, Integrity, Pex4, PexReq, Request, Cancel, Choke, Unchoke, Pex6, WireKind, Messages, datagram}
+use Rattle.pp_terms.specs.format.Descriptor.{Descriptor, chunks_of}
+use Rattle.pp_terms.specs.format.Messages.{Message, Handshake, Data, Ack, Have, Integrity, Pex4, PexReq, Request, Cancel, Choke, Unchoke, Pex6, WireKind, Messages, datagram}
+use Rattle.pp_terms.proofs.MovedSteps.{channel_none}
 use Rattle.pp_traffic.specs.Life.{fits}
 use Rattle.pp_outside.specs.declared.link.Address.{Address}
 use Rattle.pp_core.specs.Counting.{rise}
@@ -15,16 +16,16 @@ use Rattle.pp_core.specs.declared.hearing.Heard.{Heard}
 use Rattle.pp_core.proofs.Following.{SameLoss, same_loss, loss_on, loss_all}
 
 stranger_loss : (k : Counts) → SameLoss k (is_stranger k)
-stranger_loss k = record { unheld = refl; damaged = refl; read_faults = refl; send_faults = refl; datagrams = refl; short = refl; sent = refl; turns = refl; receive_faults = refl; full = λ e. e }
+stranger_loss k = record { unheld = refl; damaged = refl; read_faults = refl; send_faults = refl; datagrams = refl; short = refl; sent = refl; turns = refl; receive_faults = refl }
 
 refused_loss : (k : Counts) → SameLoss k (is_refused k)
-refused_loss k = record { unheld = refl; damaged = refl; read_faults = refl; send_faults = refl; datagrams = refl; short = refl; sent = refl; turns = refl; receive_faults = refl; full = λ e. e }
+refused_loss k = record { unheld = refl; damaged = refl; read_faults = refl; send_faults = refl; datagrams = refl; short = refl; sent = refl; turns = refl; receive_faults = refl }
 
 unseated_loss : (k : Counts) → SameLoss k (is_unseated k)
-unseated_loss k = record { unheld = refl; damaged = refl; read_faults = refl; send_faults = refl; datagrams = refl; short = refl; sent = refl; turns = refl; receive_faults = refl; full = λ e. e }
+unseated_loss k = record { unheld = refl; damaged = refl; read_faults = refl; send_faults = refl; datagrams = refl; short = refl; sent = refl; turns = refl; receive_faults = refl }
 
 alive_loss : (k : Counts) → SameLoss k (is_kept_alive k)
-alive_loss k = record { unheld = refl; damaged = refl; read_faults = refl; send_faults = refl; datagrams = refl; short = refl; sent = refl; turns = refl; receive_faults = refl; full = λ e. e }
+alive_loss k = record { unheld = refl; damaged = refl; read_faults = refl; send_faults = refl; datagrams = refl; short = refl; sent = refl; turns = refl; receive_faults = refl }
 
 -- a choice between two
 either_loss : (k : Counts) (b : Bool) (x y : Counts) → SameLoss k x → SameLoss k y → SameLoss k (cond b x y)
@@ -87,7 +88,6 @@ pub record TakesLoss (size : ℕ) (k new : Counts) : Type 0 where
   pub short : new.short ≡ cond (ltb size 4) (rise k.short) k.short
   pub turns : new.turns ≡ k.turns
   pub receive_faults : new.receive_faults ≡ k.receive_faults
-  pub full : new.full ≡ 0 → k.full ≡ 0
 
 long_loss : (size : ℕ) (k new : Counts) → 4 ≤ size → SameLoss k new → TakesLoss size k new
 long_loss size k new le s = record {
@@ -99,7 +99,6 @@ long_loss size k new le s = record {
   sent = s.sent;
   turns = s.turns;
   receive_faults = s.receive_faults;
-  full = s.full;
   short = s.short ∙ sym (cond-false (ltb size 4) (rise k.short) k.short (le-ltb size 4 le));
 }
 
@@ -113,13 +112,8 @@ short_loss size k lt = record {
   sent = refl;
   turns = refl;
   receive_faults = refl;
-  full = λ e. e;
   short = sym (cond-true (ltb size 4) (rise k.short) k.short (lt-ltb size 4 lt));
 }
-
-short_channel : (d : Descriptor) (bytes : List ℕ) → length bytes < 4 → (datagram d.method d.chunk bytes).channel ≡ None
-unfolding datagram
-short_channel d bytes lt = rw (lt-ltb (length bytes) 4 lt) refl
 
 long_channel : (d : Descriptor) (bytes : List ℕ) → 4 ≤ length bytes → (datagram d.method d.chunk bytes).channel ≡ Some (from_be_bytes w32 (take 4 bytes))
 unfolding datagram
@@ -137,7 +131,7 @@ pub takes_loss : (d : Descriptor) (sender : Address) (bytes : List ℕ) (channel
 takes_loss d sender bytes channel k numbers =
     let messages = (datagram d.method d.chunk bytes).messages in
     ⊎_elim
-    (λ lt. subst (λ (o : Option ℕ). TakesLoss (length bytes) k (take_for d sender bytes messages o channel k numbers).heard.counts) (sym (short_channel d bytes lt)) (short_loss (length bytes) k lt))
+    (λ lt. subst (λ (o : Option ℕ). TakesLoss (length bytes) k (take_for d sender bytes messages o channel k numbers).heard.counts) (sym (channel_none d bytes lt)) (short_loss (length bytes) k lt))
     (λ le. subst (λ (o : Option ℕ). TakesLoss (length bytes) k (take_for d sender bytes messages o channel k numbers).heard.counts) (sym (long_channel d bytes le))
     (long_loss (length bytes) k _ le (for_loss d sender bytes messages (from_be_bytes w32 (take 4 bytes)) channel k numbers)))
     (cases_lt (length bytes) 4)

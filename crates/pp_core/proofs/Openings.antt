@@ -3,10 +3,10 @@ use Rattle.std.proofs.Common.{◌≡◌, ◌⊎◌, inl, inr, ⊎_elim, ℕ, zer
 use Rattle.std.proofs.lemmas.Bool.{and_from, or_left, or_parts, or_from, and_left, and_right, cases_Bool, cond-true, cond-false, not-false, le-ltb, eqb-true, eqb-false, eq-eqb, ne_eqb, false≢true}
 use Rattle.std.specs.Prelude.{MatchOption}
 use Rattle.rand_chacha.specs.ChaCha.{ChaCha, next_word}
-use Rattle.pp_terms.specs.Traffic.{Record, Received, same_address}
-use Rattle.pp_terms.specs.Descriptor.{Descriptor, chunks_of}
-use Rattle.pp_terms.specs.Options.{Options}
-use Rattle.pp_terms.specs.Messages.{Message, Handshake, Data, Ack, Have, Integrity, Pex4, PexReq, Request, Cancel, Choke, Unchoke, Pex6, WireKind, datagram}
+use Rattle.pp_terms.specs.format.Traffic.{Record, Received, same_address}
+use Rattle.pp_terms.specs.format.Descriptor.{Descriptor, chunks_of}
+use Rattle.pp_terms.specs.format.Options.{Options}
+use Rattle.pp_terms.specs.format.Messages.{Message, Handshake, Data, Ack, Have, Integrity, Pex4, PexReq, Request, Cancel, Choke, Unchoke, Pex6, WireKind, datagram}
 use Rattle.pp_traffic.specs.Past.{now, read, is_number, some_since, is_at}
 use Rattle.pp_traffic.specs.Life.{Life, greets, comes_on, shakes_on, closes_on, is_closed, fits, begins_fitting}
 use Rattle.pp_traffic.specs.Story.{Line, Taken, hear, heard_in, story}
@@ -22,7 +22,7 @@ use Rattle.pp_core.specs.Standing.{Follows, SeatStands}
 use Rattle.pp_core.specs.declared.counts.Counts.{Counts}
 use Rattle.pp_core.specs.declared.channel.Channel.{Channel}
 use Rattle.pp_core.specs.declared.hearing.Heard as heard
-use Rattle.pp_core.proofs.Following.{Since, follow_all}
+use Rattle.pp_core.proofs.Following.{Later, follow_all}
 use Rattle.pp_core.proofs.Seats.{same_self, follow_taken}
 
 pub number_some : (word : ℕ) → 0 < number_from word
@@ -69,13 +69,13 @@ Opened sender word source = opened_by sender (number_from word) source
 
 new_seat : (d : Descriptor) (whole : ℕ → Type 0) (at : ℕ) (sender : Address) (word source : ℕ) (o : Options) (ms : List Message) (fault : Option (ℕ × WireKind)) (bytes : List ℕ) (past : List Record)
     (new : Channel) (k : Counts) → datagram d.method d.chunk bytes ≡ record { channel = Some 0; messages = record { read = Handshake source o ∷ ms; fault = fault } }
-    → fits d false o ≡ true → (source ≡ 0 → ⊥) → Since (chunks_of d) whole whole (hear_all (chunks_of d) fault ms (Opened sender word source) k).counts → (hear_all (chunks_of d) fault ms (Opened sender word source) k).channel ≡ Some new
+    → fits d false o ≡ true → (source ≡ 0 → ⊥) → Later (chunks_of d) whole whole → (hear_all (chunks_of d) fault ms (Opened sender word source) k).channel ≡ Some new
     → HasNewSeat d whole new (Received at (address_of sender) bytes ∷ past)
 new_seat d whole at sender word source o ms fault bytes past new k is fitting some since left =
     let life = NewLife sender (number_from word) source past in
     let r : Record = Received at (address_of sender) bytes in
     let greeting = greets_new d at sender (number_from word) source o ms fault bytes past is fitting in
-    let blank : Follows (chunks_of d) whole (Opened sender word source) [] = record { runs = tt; within = λ i e. absurd (false≢true e); asked_for = λ i e. absurd (false≢true e); kept = λ i w e. absurd (false≢true e); unchoked = refl; flies = refl } in
+    let blank : Follows (chunks_of d) whole (Opened sender word source) [] = record { runs = tt; within = λ i e. absurd (false≢true e); asked_for = λ i e. absurd (false≢true e); few = omega arith; kept = λ i w n e. absurd (false≢true e); unchoked = refl; flies = refl } in
     let after = follow_all (chunks_of d) whole whole fault ms (Opened sender word source) new k (max at (now past)) [] since blank left in
     let told_is : heard_in d life true r ≡ ms = cond-true (greets d life r) (drop 1 (read d r).messages.read) (cond (comes_on d life r) (read d r).messages.read []) greeting ∙ rw is refl in
     let story_is : story d life (r ∷ past) ≡ Taken (max at (now past)) ∷ hear (max at (now past)) ms [] =
@@ -114,7 +114,7 @@ new_seat d whole at sender word source o ms fault bytes past new k is fitting so
 -- ---- what a datagram leaves where there was no channel
 
 abbrev pub OpensSeat : Descriptor → (ℕ → Type 0) → List Record → heard.Heard → Type 0
-OpensSeat d whole past h = Since (chunks_of d) whole whole h.counts → MatchOption h.channel (Unit {0}) (λ new. HasNewSeat d whole new past)
+OpensSeat d whole past h = Later (chunks_of d) whole whole → MatchOption h.channel (Unit {0}) (λ new. HasNewSeat d whole new past)
 
 channel? : (o : Option Channel) → (o ≡ None) ⊎ ((x : Channel) × (o ≡ Some x))
 channel? None = inl refl

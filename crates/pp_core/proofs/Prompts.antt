@@ -1,19 +1,19 @@
 -- A turn of a peer that stands for its traffic leaves nothing that it owes.
-use Rattle.std.proofs.Common.{◌≡◌, ◌⊎◌, inl, inr, ⊎_elim, ℕ, ◌<◌, ltb, leb, eqb, Bool, true, false, cond, not, ◌&&◌, ◌||◌, Option, Some, None, List, [], ◌∷◌, ◌++◌, length, take, drop, refl, sym, ◌∙◌, ap, subst, arith}
+use Rattle.std.proofs.Common.{◌≡◌, ◌⊎◌, inl, inr, ⊎_elim, ℕ, ◌<◌, ◌≤◌, ltb, leb, eqb, Bool, true, false, cond, not, ◌&&◌, ◌||◌, Option, Some, None, List, [], ◌∷◌, ◌++◌, length, take, drop, refl, sym, ◌∙◌, ap, subst, arith}
 use Rattle.std.proofs.lemmas.Bool.{and_parts, and_from, or_cases, or_left, or_right, or_parts, or_from, cases_Bool, cond-true, cond-false, not-true, eqb-true, ne_eqb, false≢true}
 use Rattle.std.specs.Prelude.{MatchOption, MatchBool}
 use Rattle.std.specs.List.{AllByRecursion, list_any}
 use Rattle.std.proofs.Math.Seq.{take-length}
 use Rattle.rand_chacha.specs.ChaCha.{ChaCha, next_word}
-use Rattle.pp_terms.specs.Book.{LookUp}
-use Rattle.pp_terms.specs.Traffic as traffic
-use Rattle.pp_terms.specs.Traffic.{Record, Received, Sent, same_address}
-use Rattle.pp_terms.specs.Descriptor.{Descriptor, chunks_of}
-use Rattle.pp_terms.specs.Messages.{Message, Handshake, Data, Ack, Have, Integrity, Pex4, PexReq, Request, Cancel, Choke, Unchoke, Pex6, WireKind, datagram}
+use Rattle.pp_terms.specs.tree.Book.{LookUp}
+use Rattle.pp_terms.specs.format.Traffic as traffic
+use Rattle.pp_terms.specs.format.Traffic.{Record, Received, Sent, same_address}
+use Rattle.pp_terms.specs.format.Descriptor.{Descriptor, chunks_of}
+use Rattle.pp_terms.specs.format.Messages.{Message, Handshake, Data, Ack, Have, Integrity, Pex4, PexReq, Request, Cancel, Choke, Unchoke, Pex6, WireKind, datagram}
 use Rattle.pp_traffic.specs.Past.{read, goes_to, is_number, is_event, some_since, is_at}
 use Rattle.pp_traffic.specs.Life.{Life, greets, answers, begins, begins_as, begins_fitting, fits}
 use Rattle.pp_traffic.specs.Story.{story}
-use Rattle.pp_traffic.specs.Asking.{asked, is_heard}
+use Rattle.pp_traffic.specs.Asking.{asked, asks_in, most_asks, is_heard}
 use Rattle.pp_traffic.specs.Flight.{fewer_than_two}
 use Rattle.pp_traffic.specs.Plain.{is_handshake, first_since, IsPlainDial, IsPlainAnswer, IsPlainNow}
 use Rattle.pp_traffic.specs.Prompt.{knocks, first_source, knocks_in, knocks_once, lets_in, LetsInFirst, ServesAsked}
@@ -27,7 +27,7 @@ use Rattle.pp_core.specs.Taking.{Taken, leaves, is_refused, number_from, opened_
 use Rattle.pp_core.specs.Events.{reached, after_event}
 use Rattle.pp_core.specs.Sending.{owes_reply, may_deliver}
 use Rattle.pp_core.specs.Sends.{replies_on, OwesNone, LeavesNone}
-use Rattle.pp_terms.specs.Range.{Span, has}
+use Rattle.pp_terms.specs.tree.Range.{Span, has}
 use Rattle.pp_core.specs.Sending.{is_asked}
 use Rattle.pp_core.specs.Standing.{State, IsKept, NonePlain, SeatStands, HasSeat, StandsFor}
 use Rattle.pp_core.specs.declared.counts.Counts.{Counts}
@@ -306,17 +306,17 @@ some_asked [] i e = absurd (false≢true e)
 some_asked (x ∷ list) i e = refl
 
 served_seat : (d : Descriptor) (whole : ℕ → Type 0) (c : Channel) (life : Life) (i : ℕ) (past : List Record) → whole i → may_deliver c ≡ false → SeatStands d whole c life past → IsPlainNow d life past
-    → is_heard d life past ≡ true → asked i (story d life past) ≡ true → fewer_than_two (story d life past) ≡ false
-served_seat d whole c life i past w left stands plain heard asks =
+    → is_heard d life past ≡ true → asks_in (story d life past) ≤ most_asks → asked i (story d life past) ≡ true → fewer_than_two (story d life past) ≡ false
+served_seat d whole c life i past w left stands plain heard few_came asks =
     let proven : c.proven ≡ true = stands.heard ∙ heard in
     let replied : c.replied ≡ true = stands.replied ∙ plain_replied d life past stands.answered plain in
-    let wanted : is_asked c.asked ≡ true = some_asked c.asked i (stands.follows.kept i w asks) in
+    let wanted : is_asked c.asked ≡ true = some_asked c.asked i (stands.follows.kept i w few_came asks) in
     let few : ltb (length c.flying) 2 ≡ false =
     sym (ap (λ (b : Bool). b && ltb (length c.flying) 2) (and_from (c.proven && c.replied) (is_asked c.asked) (and_from c.proven c.replied proven replied) wanted)) ∙ left in
     subst (λ (xs : List ℕ). ltb (length xs) 2 ≡ false) stands.follows.flies few
 
 pub serves_turn : (book : LookUp) (since : ℕ) (s : State) (i : ℕ) (past : List Record) → StandsFor book since s past → IsKept s.descriptor s.committed s.counts i → LeavesNone s → ServesAsked s.descriptor fewer_than_two i past
-serves_turn book since s i past st w left life plain heard asks =
+serves_turn book since s i past st w left life plain heard few_came asks =
     let kept = IsKept s.descriptor s.committed s.counts in
     ⊎_elim
     (λ none. let nothing : NonePlain s.descriptor past = subst (λ (o : Option Channel). MatchOption o (NonePlain s.descriptor past) (λ x. HasSeat s.descriptor kept x past)) none st.seat in absurd (nothing life plain))
@@ -328,6 +328,7 @@ serves_turn book since s i past st w left life plain heard asks =
     (served_seat s.descriptor kept some.0 seat.life i past w done seat.stands
     (subst (λ (l : Life). IsPlainNow s.descriptor l past) same plain)
     (subst (λ (l : Life). is_heard s.descriptor l past ≡ true) same heard)
+    (subst (λ (l : Life). asks_in (story s.descriptor l past) ≤ most_asks) same few_came)
     (subst (λ (l : Life). asked i (story s.descriptor l past) ≡ true) same asks)))
     (channel? s.channel)
 

@@ -2,31 +2,18 @@
 use Rattle.std.proofs.Common.{◌≡◌, ℕ, zero, suc, ◌+◌, ◌<◌, ◌≤◌, Bool, true, false, cond, Some, None, List, [], ◌∷◌, length, take, drop, refl, sym, ◌∙◌, ap, arith, zero-add}
 use Rattle.std.proofs.lemmas.List.{length-take, length-drop}
 use Rattle.std.proofs.lemmas.Bool.{cond-true, cond-false}
-use Rattle.pp_terms.specs.Descriptor.{Method, Descriptor, chunks_of}
-use Rattle.pp_terms.specs.Options.{IsBytes}
-use Rattle.pp_terms.specs.Messages.{Message, WireKind, Step, Read, End, Cut, next_message, moved, Messages, messages_at, with_first}
-use Rattle.pp_terms.proofs.MessageLaws.{IsBytes-drop, read_is_spelt, spelt_some}
+use Rattle.pp_terms.specs.format.Descriptor.{Method, Descriptor, chunks_of}
+use Rattle.pp_terms.specs.format.Options.{IsBytes}
+use Rattle.pp_terms.specs.format.Messages.{Message, WireKind, Step, Read, End, Cut, next_message, moved, Messages, messages_at, with_first}
+use Rattle.pp_terms.proofs.MessageLaws.{read_is_spelt, spelt_some}
 use Rattle.pp_terms.proofs.DatagramLaws.{one_by_one}
+use Rattle.pp_terms.proofs.MovedSteps.{moved_end, size_of}
+use Rattle.pp_terms.proofs.Spellings.{IsBytes-drop}
 use Rattle.pp_core.specs.Counting.{rise}
 use Rattle.pp_core.specs.Hearing.{is_outside, is_closing, after_message, is_full, counted, hear_rest}
 use Rattle.pp_core.specs.Progress.{hear_at}
 use Rattle.pp_core.specs.declared.counts.Counts.{Counts}
 use Rattle.pp_core.specs.declared.channel.Channel.{Channel}
-
-record Size (at : ℕ) (s : Step) (m : Message) (next : ℕ) : Type 0 where
-  size : ℕ
-  is : s ≡ Read m size
-  ends : next ≡ at + size
-
-size_of : (at : ℕ) (s : Step) (m : Message) (next : ℕ) → moved at s ≡ Read m next → Size at s m next
-size_of at (Read n size) m next e = record { size = size; is = cc; ends = cc }
-size_of at End m next e = absurd cc
-size_of at (Cut place kind) m next e = absurd cc
-
-pub moved_end : (at : ℕ) (s : Step) → moved at s ≡ End → s ≡ End
-moved_end at (Read n size) e = absurd cc
-moved_end at End e = refl
-moved_end at (Cut place kind) e = absurd cc
 
 pub record Place (at : ℕ) (s : Step) (kind : WireKind) : Type 0 where
   pub place : ℕ

@@ -3,22 +3,22 @@ use Rattle.std.proofs.Common.{◌≡◌, ◌⊎◌, inl, inr, ⊎_elim, ℕ, ◌
 use Rattle.std.specs.Prelude.{MatchOption, MatchBool, slice_index_or}
 use Rattle.std.specs.List.{AllByRecursion, list_any}
 use Rattle.std.proofs.lemmas.Bool.{and_from, eq-eqb, or_left, or_right}
-use Rattle.pp_terms.specs.Book.{LookUp}
-use Rattle.pp_terms.specs.Traffic.{LinkState, Record, Sent, GainsRecords}
-use Rattle.pp_terms.specs.Descriptor.{Descriptor}
-use Rattle.pp_terms.specs.Disk.{DiskState, History, IsKnown, moment_of}
-use Rattle.pp_terms.specs.Messages.{Message, Datagram, datagram}
+use Rattle.pp_terms.specs.tree.Book.{LookUp}
+use Rattle.pp_terms.specs.format.Traffic.{LinkState, Record, Sent, GainsRecords}
+use Rattle.pp_terms.specs.format.Descriptor.{Descriptor}
+use Rattle.pp_terms.specs.disk.Disk.{DiskState, History, IsKnown, moment_of}
+use Rattle.pp_terms.specs.format.Messages.{Message, Datagram, datagram}
 use Rattle.pp_terms.proofs.Knowing.{known_on}
 use Rattle.pp_traffic.specs.Past.{goes_to, is_number, is_event}
 use Rattle.pp_traffic.specs.Life.{begins_as}
 use Rattle.pp_outside.specs.Outside.{address_of}
-use Rattle.pp_terms.specs.Range.{has}
-use Rattle.pp_requests.specs.Lists.{chunk_count}
+use Rattle.pp_terms.specs.tree.Range.{has}
+use Rattle.pp_requests.specs.Lists.{chunk_count, IsLeast}
 use Rattle.pp_scan.specs.Holding.{is_there}
 use Rattle.pp_core.specs.Serving.{ReadsAlone, Served, lacks, unread, damaged, delivers}
 use Rattle.pp_core.specs.Writing.{IsDatagram, reply, delivery}
 use Rattle.pp_core.specs.Sending.{is_sent, is_unsent, is_unheld, is_unread, is_damaged, is_replied, is_met, is_delivered, leaves_on, owes_reply, Replies}
-use Rattle.pp_core.specs.Sends.{IsOurs, replies_on, OwesNone, SameCore, Sends, RisesWith, IsDamagedThere, Causes, on, HasReplied, ServesNext, Point, ServesEach, asked_on, asked_count}
+use Rattle.pp_core.specs.Sends.{IsOurs, replies_on, OwesNone, SameCore, Sends, RisesWith, IsDamagedThere, WasDamaged, Causes, on, HasReplied, ServesNext, Point, ServesEach, asked_on, asked_count}
 use Rattle.pp_core.specs.Standing.{State, IsKept, StandsFor}
 use Rattle.pp_core.specs.declared.counts.Counts.{Counts}
 use Rattle.pp_core.specs.declared.channel.Channel.{Channel}
@@ -46,6 +46,7 @@ sends_nothing book moment seen s = record {
   shaped = tt;
   answered = λ e. inl e;
   nexts = refl;
+  bound = refl;
   later = omega arith;
   core = record { descriptor = refl; committed = refl; latest = refl; numbers = refl; is_live = refl };
   stands = λ since past le st. st;
@@ -57,14 +58,15 @@ sends_same book moment seen s new e = subst (λ (x : State). Sends book moment s
 -- nothing was sent
 sends_none : (book : LookUp) (moment : ℕ) (seen seen' : LinkState) (s : State) (c new : Channel) (k : Counts) → s.channel ≡ Some c → owes_reply new ≡ owes_reply c
     → ((since : ℕ) (past : List Record) → StandsFor book since s past → StandsFor book since (on s (leaves_on new k)) past)
-    → seen'.traffic ≡ seen.traffic → seen'.nexts ≡ seen.nexts → seen.faults ≤ seen'.faults → Sends book moment seen seen' s (on s (leaves_on new k))
-sends_none book moment seen seen' s c new k here owes stands same nexts later = record {
+    → seen'.traffic ≡ seen.traffic → seen'.nexts ≡ seen.nexts → seen'.bound ≡ seen.bound → seen.faults ≤ seen'.faults → Sends book moment seen seen' s (on s (leaves_on new k))
+sends_none book moment seen seen' s c new k here owes stands same nexts bound later = record {
   added = [];
   gained = gains_nothing seen.traffic seen'.traffic same;
   all_sent = tt;
   shaped = tt;
   answered = λ e. inl (owes_none s c here (sym owes ∙ e));
   nexts = nexts;
+  bound = bound;
   later = later;
   core = same_core s (Some new) k;
   stands = λ since past le st. stands since past st;
@@ -94,37 +96,38 @@ sends_reply book moment seen seen' s c h here (inl sent) =
       answered = λ e. inr (or_left (replies_on s.descriptor s.channel (Sent moment (address_of c.address) one.bytes)) false
           (is_reply s c moment one.bytes (reply s.descriptor c.local sent.0.spans) here one.read (eq-eqb c.local c.local refl)));
       nexts = one.nexts;
+      bound = one.bound;
       later = one.later;
       core = same_core s (Some (is_replied c)) (is_sent s.counts);
       stands = λ since past le st. stands_replied book since s c moment sent.0.spans one.bytes past here le sent.0.news one.read st;
     })
 sends_reply book moment seen seen' s c h here (inr refused) =
     subst (λ (x : Heard). Sends book moment seen seen' s (on s x)) (sym refused.1)
-    (sends_none book moment seen seen' s c c (is_unsent s.counts) here refl (λ since past st. stands_due book since s c past here st) refused.0.same refused.0.nexts refused.0.later)
+    (sends_none book moment seen seen' s c c (is_unsent s.counts) here refl (λ since past st. stands_due book since s c past here st) refused.0.same refused.0.nexts refused.0.bound refused.0.later)
 
 -- a request was given up
 sends_met : (book : LookUp) (moment : ℕ) (seen seen' : LinkState) (s : State) (i : ℕ) (c : Channel) (k : Counts) (h : Heard) → s.channel ≡ Some c
-    → KeptBut i (IsKept s.descriptor s.committed s.counts) (IsKept s.descriptor s.committed k) → SameTies s.counts k
-    → seen'.traffic ≡ seen.traffic → seen'.nexts ≡ seen.nexts → seen.faults ≤ seen'.faults → h ≡ leaves_on (is_met i c) k → Sends book moment seen seen' s (on s h)
-sends_met book moment seen seen' s i c k h here but ties same nexts later is =
+    → KeptBut i (IsKept s.descriptor s.committed s.counts) (IsKept s.descriptor s.committed k) → IsLeast c.asked i → SameTies s.counts k
+    → seen'.traffic ≡ seen.traffic → seen'.nexts ≡ seen.nexts → seen'.bound ≡ seen.bound → seen.faults ≤ seen'.faults → h ≡ leaves_on (is_met i c) k → Sends book moment seen seen' s (on s h)
+sends_met book moment seen seen' s i c k h here but least ties same nexts bound later is =
     subst (λ (x : Heard). Sends book moment seen seen' s (on s x)) (sym is)
-    (sends_none book moment seen seen' s c (is_met i c) k here refl (λ since past st. stands_met book since s i c k past here but ties st) same nexts later)
+    (sends_none book moment seen seen' s c (is_met i c) k here refl (λ since past st. stands_met book since s i c k past here but least ties st) same nexts bound later)
 
 same_faults : (seen seen' : LinkState) → seen' ≡ seen → seen.faults ≤ seen'.faults
 same_faults seen seen' e = let same = ap (λ (x : LinkState). x.faults) e in omega arith
 
-pub sends_served : (book : LookUp) (disk disk' : DiskState) (seen seen' : LinkState) (s : State) (i : ℕ) (c : Channel) (h : Heard) → s.channel ≡ Some c → MayParts c → has c.asked i ≡ true
+pub sends_served : (book : LookUp) (disk disk' : DiskState) (seen seen' : LinkState) (s : State) (i : ℕ) (c : Channel) (h : Heard) → s.channel ≡ Some c → MayParts c → IsLeast c.asked i
     → Served s.descriptor s.committed book i s.latest c s.counts disk disk' seen seen' h → Sends book (moment_of disk.history) seen seen' s (on s h)
-sends_served book disk disk' seen seen' s i c h here may asks (lacks none is same) =
-    sends_met book (moment_of disk.history) seen seen' s i c (is_unheld s.counts) h here (unheld_but s.descriptor s.committed i s.counts none) (record { datagrams = refl; short = refl; sent = refl })
-    (ap (λ (x : LinkState). x.traffic) same) (ap (λ (x : LinkState). x.nexts) same) (same_faults seen seen' same) is
-sends_served book disk disk' seen seen' s i c h here may asks (unread held risen is same) =
-    sends_met book (moment_of disk.history) seen seen' s i c (is_unread s.counts) h here (lost_but s.descriptor s.committed i (IsKept s.descriptor s.committed s.counts) (is_unread s.counts) (lost_unread s.counts)) (record { datagrams = refl; short = refl; sent = refl })
-    (ap (λ (x : LinkState). x.traffic) same) (ap (λ (x : LinkState). x.nexts) same) (same_faults seen seen' same) is
-sends_served book disk disk' seen seen' s i c h here may asks (damaged held why is same) =
-    sends_met book (moment_of disk.history) seen seen' s i c (is_damaged s.counts) h here (lost_but s.descriptor s.committed i (IsKept s.descriptor s.committed s.counts) (is_damaged s.counts) (lost_damaged s.counts)) (record { datagrams = refl; short = refl; sent = refl })
-    (ap (λ (x : LinkState). x.traffic) same) (ap (λ (x : LinkState). x.nexts) same) (same_faults seen seen' same) is
-sends_served book disk disk' seen seen' s i c h here may asks (delivers content chunk held (inl sent)) =
+sends_served book disk disk' seen seen' s i c h here may least (lacks none is same) =
+    sends_met book (moment_of disk.history) seen seen' s i c (is_unheld s.counts) h here (unheld_but s.descriptor s.committed i s.counts none) least (record { datagrams = refl; short = refl; sent = refl })
+    (ap (λ (x : LinkState). x.traffic) same) (ap (λ (x : LinkState). x.nexts) same) (ap (λ (x : LinkState). x.bound) same) (same_faults seen seen' same) is
+sends_served book disk disk' seen seen' s i c h here may least (unread held risen is same) =
+    sends_met book (moment_of disk.history) seen seen' s i c (is_unread s.counts) h here (lost_but s.descriptor s.committed i (IsKept s.descriptor s.committed s.counts) (is_unread s.counts) (lost_unread s.counts)) least (record { datagrams = refl; short = refl; sent = refl })
+    (ap (λ (x : LinkState). x.traffic) same) (ap (λ (x : LinkState). x.nexts) same) (ap (λ (x : LinkState). x.bound) same) (same_faults seen seen' same) is
+sends_served book disk disk' seen seen' s i c h here may least (damaged held damage why is same) =
+    sends_met book (moment_of disk.history) seen seen' s i c (is_damaged s.counts) h here (lost_but s.descriptor s.committed i (IsKept s.descriptor s.committed s.counts) (is_damaged s.counts) (lost_damaged s.counts)) least (record { datagrams = refl; short = refl; sent = refl })
+    (ap (λ (x : LinkState). x.traffic) same) (ap (λ (x : LinkState). x.nexts) same) (ap (λ (x : LinkState). x.bound) same) (same_faults seen seen' same) is
+sends_served book disk disk' seen seen' s i c h here may least (delivers content chunk held (inl sent)) =
     subst (λ (x : Heard). Sends book (moment_of disk.history) seen seen' s (on s x)) (sym sent.1)
     (record {
       added = Sent (moment_of disk.history) (address_of c.address) sent.0.bytes ∷ [];
@@ -133,18 +136,19 @@ sends_served book disk disk' seen seen' s i c h here may asks (delivers content 
       shaped = (record { short = sent.0.short; number = c.remote; messages = delivery s.descriptor book i s.latest content; read = sent.0.read; either = inr (record { chunk = i; moment = s.latest; content = content; are = refl }) }, tt);
       answered = λ e. inl (owes_none s c here e);
       nexts = sent.0.nexts;
+      bound = sent.0.bound;
       later = sent.0.later;
       core = same_core s (Some (is_delivered i c)) (is_sent s.counts);
-      stands = λ since past le st. stands_delivered book since s i c (moment_of disk.history) s.latest content sent.0.bytes past here held may asks chunk sent.0.read st;
+      stands = λ since past le st. stands_delivered book since s i c (moment_of disk.history) s.latest content sent.0.bytes past here held may least chunk sent.0.read st;
     })
-sends_served book disk disk' seen seen' s i c h here may asks (delivers content chunk held (inr refused)) =
-    sends_met book (moment_of disk.history) seen seen' s i c (is_unsent s.counts) h here (lost_but s.descriptor s.committed i (IsKept s.descriptor s.committed s.counts) (is_unsent s.counts) (lost_unsent s.counts)) (record { datagrams = refl; short = refl; sent = refl })
-    refused.0.same refused.0.nexts refused.0.later refused.1
+sends_served book disk disk' seen seen' s i c h here may least (delivers content chunk held (inr refused)) =
+    sends_met book (moment_of disk.history) seen seen' s i c (is_unsent s.counts) h here (lost_but s.descriptor s.committed i (IsKept s.descriptor s.committed s.counts) (is_unsent s.counts) (lost_unsent s.counts)) least (record { datagrams = refl; short = refl; sent = refl })
+    refused.0.same refused.0.nexts refused.0.bound refused.0.later refused.1
 
 pub sends_next : (book : LookUp) (disk disk' : DiskState) (seen seen' : LinkState) (s new : State) → ServesNext book disk disk' seen seen' s new → Sends book (moment_of disk.history) seen seen' s new
 sends_next book disk disk' seen seen' s new n =
     subst (λ (x : State). Sends book (moment_of disk.history) seen seen' s x) (sym n.left)
-    (sends_served book disk disk' seen seen' s n.served.chunk n.channel n.heard n.here (may_parts n.channel n.may) n.served.least.listed n.served.served)
+    (sends_served book disk disk' seen seen' s n.served.chunk n.channel n.heard n.here (may_parts n.channel n.may) n.served.least n.served.served)
 
 -- ---- one after the other
 
@@ -175,6 +179,7 @@ sends_twice book moment a b c s t u p q owed = record {
   shaped = all_both (IsOurs s.descriptor s.committed book) q.added p.added (ours_on s t book q.added p.core q.shaped) p.shaped;
   answered = λ e. ⊎_elim (λ none. inl none) (λ some. inr (any_later (replies_on s.descriptor s.channel) q.added p.added some)) (p.answered (owed e));
   nexts = q.nexts ∙ p.nexts;
+  bound = q.bound ∙ p.bound;
   later = omega (arith, p.later, q.later);
   core = record {
     descriptor = q.core.descriptor ∙ p.core.descriptor;
@@ -199,7 +204,7 @@ served_left : (d : Descriptor) (set : List Bool) (book : LookUp) (i now : ℕ) (
     → Served d set book i now c k disk disk' seen seen' h → IsLeftOn c h
 served_left d set book i now c k disk disk' seen seen' h (lacks none is same) = record { left = is_met i c; is = ap (λ (x : Heard). x.channel) is; owes = refl }
 served_left d set book i now c k disk disk' seen seen' h (unread held risen is same) = record { left = is_met i c; is = ap (λ (x : Heard). x.channel) is; owes = refl }
-served_left d set book i now c k disk disk' seen seen' h (damaged held why is same) = record { left = is_met i c; is = ap (λ (x : Heard). x.channel) is; owes = refl }
+served_left d set book i now c k disk disk' seen seen' h (damaged held damage why is same) = record { left = is_met i c; is = ap (λ (x : Heard). x.channel) is; owes = refl }
 served_left d set book i now c k disk disk' seen seen' h (delivers content chunk held (inl sent)) = record { left = is_delivered i c; is = ap (λ (x : Heard). x.channel) sent.1; owes = refl }
 served_left d set book i now c k disk disk' seen seen' h (delivers content chunk held (inr refused)) = record { left = is_met i c; is = ap (λ (x : Heard). x.channel) refused.1; owes = refl }
 
@@ -219,28 +224,28 @@ next_owed book disk disk' seen seen' s new n e =
 -- ---- why counts rose
 
 pub causes_nothing : (d : Descriptor) (set : List Bool) (book : LookUp) (disk : DiskState) (seen : LinkState) (k : Counts) → Causes d set book disk disk seen seen k k
-causes_nothing d set book disk seen k = record { send = inl refl; read = inl refl; damaged = inl refl; unheld = inl refl; others = refl }
+causes_nothing d set book disk seen k = record { send = inl refl; read = inl refl; damaged = inl refl; named = inl refl; unheld = inl refl; others = refl }
 
 pub causes_reply : (d : Descriptor) (set : List Bool) (book : LookUp) (c : Channel) (k : Counts) (moment : ℕ) (disk : DiskState) (seen seen' : LinkState) (h : Heard) → Replies d set c k moment seen seen' h
     → Causes d set book disk disk seen seen' k h.counts
 causes_reply d set book c k moment disk seen seen' h (inl sent) =
-    subst (λ (x : Heard). Causes d set book disk disk seen seen' k x.counts) (sym sent.1) (record { send = inl refl; read = inl refl; damaged = inl refl; unheld = inl refl; others = refl })
+    subst (λ (x : Heard). Causes d set book disk disk seen seen' k x.counts) (sym sent.1) (record { send = inl refl; read = inl refl; damaged = inl refl; named = inl refl; unheld = inl refl; others = refl })
 causes_reply d set book c k moment disk seen seen' h (inr refused) =
-    subst (λ (x : Heard). Causes d set book disk disk seen seen' k x.counts) (sym refused.1) (record { send = inr refused.0.risen; read = inl refl; damaged = inl refl; unheld = inl refl; others = refl })
+    subst (λ (x : Heard). Causes d set book disk disk seen seen' k x.counts) (sym refused.1) (record { send = inr refused.0.risen; read = inl refl; damaged = inl refl; named = inl refl; unheld = inl refl; others = refl })
 
 causes_served : (d : Descriptor) (set : List Bool) (book : LookUp) (i now : ℕ) (c : Channel) (k : Counts) (disk disk' : DiskState) (seen seen' : LinkState) (h : Heard)
     → Served d set book i now c k disk disk' seen seen' h → Causes d set book disk disk' seen seen' k h.counts
 causes_served d set book i now c k disk disk' seen seen' h (lacks none is same) =
-    subst (λ (x : Heard). Causes d set book disk disk' seen seen' k x.counts) (sym is) (record { send = inl refl; read = inl refl; damaged = inl refl; unheld = inr (i, none); others = refl })
+    subst (λ (x : Heard). Causes d set book disk disk' seen seen' k x.counts) (sym is) (record { send = inl refl; read = inl refl; damaged = inl refl; named = inl refl; unheld = inr (i, none); others = refl })
 causes_served d set book i now c k disk disk' seen seen' h (unread held risen is same) =
-    subst (λ (x : Heard). Causes d set book disk disk' seen seen' k x.counts) (sym is) (record { send = inl refl; read = inr risen; damaged = inl refl; unheld = inl refl; others = refl })
-causes_served d set book i now c k disk disk' seen seen' h (damaged held why is same) =
+    subst (λ (x : Heard). Causes d set book disk disk' seen seen' k x.counts) (sym is) (record { send = inl refl; read = inr risen; damaged = inl refl; named = inl refl; unheld = inl refl; others = refl })
+causes_served d set book i now c k disk disk' seen seen' h (damaged held damage why is same) =
     subst (λ (x : Heard). Causes d set book disk disk' seen seen' k x.counts) (sym is)
-    (record { send = inl refl; read = inl refl; damaged = inr (λ known. record { chunk = i; committed = held; lacking = why known }); unheld = inl refl; others = refl })
+    (record { send = inl refl; read = inl refl; damaged = inr (λ known. record { chunk = i; committed = held; lacking = why known }); named = inr (record { chunk = i; committed = held; damage = damage }); unheld = inl refl; others = refl })
 causes_served d set book i now c k disk disk' seen seen' h (delivers content chunk held (inl sent)) =
-    subst (λ (x : Heard). Causes d set book disk disk' seen seen' k x.counts) (sym sent.1) (record { send = inl refl; read = inl refl; damaged = inl refl; unheld = inl refl; others = refl })
+    subst (λ (x : Heard). Causes d set book disk disk' seen seen' k x.counts) (sym sent.1) (record { send = inl refl; read = inl refl; damaged = inl refl; named = inl refl; unheld = inl refl; others = refl })
 causes_served d set book i now c k disk disk' seen seen' h (delivers content chunk held (inr refused)) =
-    subst (λ (x : Heard). Causes d set book disk disk' seen seen' k x.counts) (sym refused.1) (record { send = inr refused.0.risen; read = inl refl; damaged = inl refl; unheld = inl refl; others = refl })
+    subst (λ (x : Heard). Causes d set book disk disk' seen seen' k x.counts) (sym refused.1) (record { send = inr refused.0.risen; read = inl refl; damaged = inl refl; named = inl refl; unheld = inl refl; others = refl })
 
 pub causes_next : (book : LookUp) (disk disk' : DiskState) (seen seen' : LinkState) (s new : State) → ServesNext book disk disk' seen seen' s new → Causes s.descriptor s.committed book disk disk' seen seen' s.counts new.counts
 causes_next book disk disk' seen seen' s new n =
@@ -279,6 +284,7 @@ causes_twice d set book disk half disk' x y z k l m le le' reads later p q = rec
   send = rises_twice k.send_faults l.send_faults m.send_faults x.faults y.faults z.faults le le' p.send q.send;
   read = rises_twice k.read_faults l.read_faults m.read_faults disk.faults half.faults disk'.faults reads.later later p.read q.read;
   damaged = either_twice k.damaged l.damaged m.damaged (IsKnown disk → IsDamagedThere d set book disk) p.damaged (lacking_before d set book disk half (m.damaged ≡ l.damaged) reads q.damaged);
+  named = either_twice k.damaged l.damaged m.damaged (WasDamaged d set book) p.named q.named;
   unheld = either_twice k.unheld l.unheld m.unheld ((i : ℕ) × (slice_index_or set i false ≡ false)) p.unheld q.unheld;
   others = q.others ∙ ap (λ (n : Counts). record n { sent = m.sent; send_faults = m.send_faults; read_faults = m.read_faults; damaged = m.damaged; unheld = m.unheld }) p.others;
 }

@@ -3,8 +3,9 @@ use Rattle.std.proofs.Common.{◌≡◌, ⊎_elim, ℕ, ◌<◌, leb, eqb, Bool,
 use Rattle.std.proofs.lemmas.Bool.{and_parts, and_from, or_cases, or_left, or_right, both_ways, le-leb, eqb-true, eq-eqb}
 use Rattle.std.specs.Cmp.Lexicographic.{pointwise, same_text}
 use Rattle.std.specs.Prelude.{nat_eq}
-use Rattle.pp_terms.specs.Traffic.{Address, V4, V6, Record, Received, Quiet, Sent, same_address}
-use Rattle.pp_terms.specs.Descriptor.{Descriptor, chunks_of}
+use Rattle.pp_terms.specs.format.Traffic.{Address, V4, V6, Record, Received, Quiet, Sent, same_address}
+use Rattle.pp_terms.specs.format.Descriptor.{Descriptor, chunks_of}
+use Rattle.pp_terms.proofs.Facts.{bytes_same}
 use Rattle.pp_traffic.specs.Past.{now, read, goes_to, is_number, some_since, is_at, EachRecord}
 use Rattle.pp_traffic.specs.Life.{Life, IsLife, greets, answers, comes_on, closes_on}
 use Rattle.pp_traffic.specs.Story.{Line, Taken, story}
@@ -16,13 +17,9 @@ use Rattle.pp_core.specs.declared.channel.Channel.{Channel}
 
 -- ---- addresses
 
-list_same : (xs : List ℕ) → pointwise nat_eq xs xs ≡ true
-list_same [] = refl
-list_same (x ∷ xs) = and_from (eqb x x) (pointwise nat_eq xs xs) (eq-eqb x x refl) (list_same xs)
-
 pub same_self : (a : Address) → same_address a a ≡ true
-same_self (V4 bytes port) = and_from (pointwise nat_eq bytes bytes) (eqb port port) (list_same bytes) (eq-eqb port port refl)
-same_self (V6 bytes port) = and_from (pointwise nat_eq bytes bytes) (eqb port port) (list_same bytes) (eq-eqb port port refl)
+same_self (V4 bytes port) = and_from (pointwise nat_eq bytes bytes) (eqb port port) (bytes_same bytes) (eq-eqb port port refl)
+same_self (V6 bytes port) = and_from (pointwise nat_eq bytes bytes) (eqb port port) (bytes_same bytes) (eq-eqb port port refl)
 
 pub same_is : (a b : Address) → same_address a b ≡ true → a ≡ b
 same_is (V4 a p) (V4 b q) e =
@@ -98,10 +95,10 @@ seat_lives d whole c life past s replied = record {
 -- ---- lines that say nothing
 
 pub follow_taken : (chunks : ℕ) (whole : ℕ → Type 0) (c : Channel) (now : ℕ) (s : List Line) → Follows chunks whole c s → Follows chunks whole c (Taken now ∷ s)
-follow_taken chunks whole c now s f = record { runs = f.runs; within = f.within; asked_for = f.asked_for; kept = f.kept; unchoked = f.unchoked; flies = f.flies }
+follow_taken chunks whole c now s f = record { runs = f.runs; within = f.within; asked_for = f.asked_for; few = f.few; kept = f.kept; unchoked = f.unchoked; flies = f.flies }
 
 pub follow_weaker : (chunks : ℕ) (whole after : ℕ → Type 0) (c : Channel) (s : List Line) → ((i : ℕ) → after i → whole i) → Follows chunks whole c s → Follows chunks after c s
-follow_weaker chunks whole after c s less f = record { runs = f.runs; within = f.within; asked_for = f.asked_for; kept = λ i w e. f.kept i (less i w) e; unchoked = f.unchoked; flies = f.flies }
+follow_weaker chunks whole after c s less f = record { runs = f.runs; within = f.within; asked_for = f.asked_for; few = f.few; kept = λ i w n e. f.kept i (less i w) n e; unchoked = f.unchoked; flies = f.flies }
 
 -- ---- no dials
 
@@ -118,5 +115,5 @@ none_dialled d (r ∷ past) each life place dialled e = ⊎_elim
     no_dial (Sent moment receiver bytes) none a =
         let outer = and_parts (goes_to life.address (Sent moment receiver bytes) && is_number (cond life.is_dialled 0 life.remote) (read d (Sent moment receiver bytes)).channel) _ a in
         let inner = and_parts (goes_to life.address (Sent moment receiver bytes)) (is_number (cond life.is_dialled 0 life.remote) (read d (Sent moment receiver bytes)).channel) outer.0 in
-        both_ways (is_number 0 (read d (Sent moment receiver bytes)).channel) none
+        both_ways (is_number 0 (read d (Sent moment receiver bytes)).channel) none.0
         (subst (λ (b : Bool). is_number (cond b 0 life.remote) (read d (Sent moment receiver bytes)).channel ≡ true) dialled inner.1)

@@ -1,25 +1,27 @@
 -- A peer that stands for its traffic stands for it with one datagram more that it sent.
-use Rattle.std.proofs.Common.{◌≡◌, ⊎_elim, ℕ, zero, suc, ◌+◌, ◌-◌, ◌^◌, ◌<◌, ◌≤◌, min, eqb, Bool, true, false, cond, not, ◌&&◌, ◌||◌, Option, Some, List, [], ◌∷◌, ◌++◌, map, length, refl, sym, ◌∙◌, ap, subst, arith}
-use Rattle.std.proofs.lemmas.Bool.{and_parts, and_from, and_right, or_cases, not-true, not_from_false, cond-true, cond-false, lt-ltb, eqb-true, eqb-false, eq-eqb, ne_eqb, false≢true}
+use Rattle.std.proofs.Common.{◌≡◌, ⊎_elim, ℕ, zero, suc, ◌+◌, ◌-◌, ◌^◌, ◌<◌, ◌≤◌, min, eqb, leb, Bool, true, false, cond, not, ◌&&◌, ◌||◌, Option, Some, List, [], ◌∷◌, ◌++◌, map, length, refl, sym, ◌∙◌, ap, subst, arith}
+use Rattle.std.proofs.lemmas.Bool.{and_parts, and_from, and_right, or_cases, not-true, not_from_false, cond-true, cond-false, lt-ltb, le-leb, both_ways, cases_lt, or_left, or_from, eqb-true, eqb-false, eq-eqb, ne_eqb, false≢true}
 use Rattle.std.proofs.lemmas.List.{append_assoc}
 use Rattle.std.specs.Prelude.{MatchOption, slice_index_or}
-use Rattle.pp_terms.specs.Traffic as traffic
-use Rattle.pp_terms.specs.Traffic.{Record, Sent, same_address}
-use Rattle.pp_terms.specs.Tree.{Node}
-use Rattle.pp_terms.specs.Range.{has}
-use Rattle.pp_terms.specs.Descriptor.{Descriptor, Method, IsDescriptor, chunks_of}
-use Rattle.pp_terms.specs.Book.{LookUp}
-use Rattle.pp_terms.specs.Messages.{Span, Message, Handshake, Data, Have, Datagram, datagram}
+use Rattle.pp_terms.specs.format.Traffic as traffic
+use Rattle.pp_terms.specs.format.Traffic.{Record, Sent, same_address}
+use Rattle.pp_terms.specs.tree.Tree.{Node}
+use Rattle.pp_terms.specs.tree.Range.{has, Span, within, IsRunsFrom}
+use Rattle.pp_terms.specs.format.Descriptor.{Descriptor, Method, IsDescriptor, chunks_of}
+use Rattle.pp_terms.specs.tree.Book.{LookUp}
+use Rattle.pp_terms.specs.format.Messages.{Message, Handshake, Data, Have, Datagram, datagram}
 use Rattle.pp_traffic.specs.Past.{now, goes_to, is_number}
-use Rattle.pp_traffic.specs.Life.{Life, answers, begins_as}
+use Rattle.pp_traffic.specs.Life.{Life, answers, begins_as, closes}
 use Rattle.pp_traffic.specs.Story.{Line, Said, say, said_in, story, behind}
-use Rattle.pp_traffic.specs.Asking.{covers, choked, asked}
+use Rattle.pp_traffic.specs.Asking.{choked, asked, asks_in, most_asks}
 use Rattle.pp_traffic.specs.Flight.{in_flight, fewer_than_two}
 use Rattle.pp_traffic.specs.Serving.{ServesChunk, ServesFrom, Serves}
 use Rattle.pp_traffic.specs.Keeping.{announces}
 use Rattle.pp_traffic.specs.Plain.{IsPlainNow}
 use Rattle.pp_traffic.proofs.OneMore.{story_step}
 use Rattle.pp_traffic.proofs.Plains.{NoneDialled, plain_before_sent, one_opening}
+use Rattle.pp_ranges.proofs.Lengths.{removed_first}
+use Rattle.pp_requests.specs.Lists.{IsLeast, without}
 use Rattle.pp_outside.specs.Outside.{address_of}
 use Rattle.pp_core.specs.Announcing.{AreNext, AreNews}
 use Rattle.pp_core.specs.Counting.{rise}
@@ -60,8 +62,23 @@ story_said d whole c life moment bytes ms past s is =
     story_step d life (DatagramOf c moment bytes) past (seat_began d whole c life past s)
     ∙ ap (λ (xs : List Message). say (now past) xs (story d life past)) (said_there d whole c life moment bytes ms past s is)
 
-dials_none_here : (d : Descriptor) (c : Channel) (moment : ℕ) (bytes : List ℕ) (ms : List Message) (past : List Record) → 0 < c.remote → IsDatagram d bytes c.remote ms → DialsNone d past (DatagramOf c moment bytes)
-dials_none_here d c moment bytes ms past some is = subst (λ (x : Datagram). is_number 0 x.channel ≡ false) (sym is) (ne_eqb c.remote 0 (λ e. omega arith))
+dials_none_here : (d : Descriptor) (c : Channel) (moment : ℕ) (bytes : List ℕ) (ms : List Message) (past : List Record) → 0 < c.remote → closes ms ≡ false → IsDatagram d bytes c.remote ms → DialsNone d past (DatagramOf c moment bytes)
+dials_none_here d c moment bytes ms past some stays is = (
+  subst (λ (x : Datagram). is_number 0 x.channel ≡ false) (sym is) (ne_eqb c.remote 0 (λ e. omega arith)),
+  subst (λ (x : Datagram). closes x.messages.read ≡ false) (sym is) stays,
+)
+
+-- no reply closes the channel, and no delivery
+haves_stay : (spans : List Span) → closes (map Have spans) ≡ false
+haves_stay [] = refl
+haves_stay (x ∷ spans) = haves_stay spans
+
+reply_stays : (d : Descriptor) (local : ℕ) (spans : List Span) → 0 < local → closes (reply d local spans) ≡ false
+reply_stays d local spans some = or_from (eqb local 0) (closes (map Have spans)) (ne_eqb local 0 (λ e. omega arith)) (haves_stay spans)
+
+hashes_stay : (book : LookUp) (nodes : List Node) (i now : ℕ) (bytes : List ℕ) → closes (map (hash_of book) nodes ++ Data i now bytes ∷ []) ≡ false
+hashes_stay book [] i now bytes = refl
+hashes_stay book (n ∷ nodes) i now bytes = hashes_stay book nodes i now bytes
 
 tied_sent : (k : Counts) (moment : ℕ) (receiver : traffic.Address) (bytes : List ℕ) (past : List Record) → IsTied k past → IsTied (is_sent k) (Sent moment receiver bytes ∷ past)
 tied_sent k moment receiver bytes past t = record { datagrams = t.datagrams; short = t.short; sent = ap rise t.sent ∙ omega arith }
@@ -69,12 +86,13 @@ tied_sent k moment receiver bytes past t = record { datagrams = t.datagrams; sho
 -- ---- what is said and changes nothing
 
 said_idle : (chunks : ℕ) (whole : ℕ → Type 0) (c : Channel) (s : List Line) (line : Line) → Follows chunks whole c s → ((i : ℕ) → asked i (line ∷ s) ≡ asked i s) → choked (line ∷ s) ≡ choked s
-    → in_flight (line ∷ s) ≡ in_flight s → Follows chunks whole c (line ∷ s)
-said_idle chunks whole c s line f same_asked same_choked same_flight = record {
+    → in_flight (line ∷ s) ≡ in_flight s → asks_in (line ∷ s) ≡ asks_in s → Follows chunks whole c (line ∷ s)
+said_idle chunks whole c s line f same_asked same_choked same_flight same_asks = record {
   runs = f.runs;
   within = f.within;
   asked_for = λ i e. same_asked i ∙ f.asked_for i e;
-  kept = λ i w e. f.kept i w (sym (same_asked i) ∙ e);
+  few = subst (λ (n : ℕ). length c.asked ≤ n) (sym same_asks) f.few;
+  kept = λ i w n e. f.kept i w (subst (λ (x : ℕ). x ≤ most_asks) same_asks n) (sym (same_asked i) ∙ e);
   unchoked = same_choked ∙ f.unchoked;
   flies = f.flies ∙ sym same_flight;
 }
@@ -82,11 +100,11 @@ said_idle chunks whole c s line f same_asked same_choked same_flight = record {
 follow_haves : (chunks : ℕ) (whole : ℕ → Type 0) (c : Channel) (spans : List Span) (now : ℕ) (s : List Line) → Follows chunks whole c s → Follows chunks whole c (say now (map Have spans) s)
 follow_haves chunks whole c [] now s f = f
 follow_haves chunks whole c (x ∷ spans) now s f =
-    follow_haves chunks whole c spans now (Said now (Have x) ∷ s) (said_idle chunks whole c s (Said now (Have x)) f (λ i. refl) refl refl)
+    follow_haves chunks whole c spans now (Said now (Have x) ∷ s) (said_idle chunks whole c s (Said now (Have x)) f (λ i. refl) refl refl refl)
 
 follow_reply : (d : Descriptor) (chunks : ℕ) (whole : ℕ → Type 0) (c : Channel) (local : ℕ) (spans : List Span) (now : ℕ) (s : List Line) → Follows chunks whole c s → Follows chunks whole c (say now (reply d local spans) s)
 follow_reply d chunks whole c local spans now s f =
-    follow_haves chunks whole c spans now (Said now (Handshake local (own_options d)) ∷ s) (said_idle chunks whole c s (Said now (Handshake local (own_options d))) f (λ i. refl) refl refl)
+    follow_haves chunks whole c spans now (Said now (Handshake local (own_options d)) ∷ s) (said_idle chunks whole c s (Said now (Handshake local (own_options d))) f (λ i. refl) refl refl refl)
 
 -- ---- the reply
 
@@ -94,7 +112,7 @@ kept_sent : (d : Descriptor) (set : List Bool) (k : Counts) (i : ℕ) → IsKept
 kept_sent d set k i w = record {
   within = w.within;
   committed = w.committed;
-  whole = record { full = w.whole.full; damaged = w.whole.damaged; read_faults = w.whole.read_faults; send_faults = w.whole.send_faults };
+  whole = record { damaged = w.whole.damaged; read_faults = w.whole.read_faults; send_faults = w.whole.send_faults };
 }
 
 replied_seat : (d : Descriptor) (whole : ℕ → Type 0) (c : Channel) (life : Life) (moment : ℕ) (bytes : List ℕ) (spans : List Span) (past : List Record) → SeatStands d whole c life past
@@ -117,7 +135,7 @@ replied_seat d whole c life moment bytes spans past s is =
       open_still = refl;
     } in
     let f = s.follows in
-    let same : Follows (chunks_of d) whole (is_replied c) (story d life past) = record { runs = f.runs; within = f.within; asked_for = f.asked_for; kept = f.kept; unchoked = f.unchoked; flies = f.flies } in
+    let same : Follows (chunks_of d) whole (is_replied c) (story d life past) = record { runs = f.runs; within = f.within; asked_for = f.asked_for; few = f.few; kept = f.kept; unchoked = f.unchoked; flies = f.flies } in
     seat_on d whole whole c (is_replied c) life r past s on
     (subst (λ (xs : List Line). Follows (chunks_of d) whole (is_replied c) xs) (sym (story_said d whole c life moment bytes (reply d c.local spans) past s is))
     (follow_reply d (chunks_of d) whole (is_replied c) c.local spans (now past) (story d life past) same))
@@ -170,7 +188,7 @@ next_announces method set from zero (x ∷ spans) i next e = absurd next
 next_announces method set from (suc room) (x ∷ spans) i next e = ⊎_elim
     (λ here. next.0.held i here)
     (λ later. next_announces method set (x.last + 1) room spans i next.1 later)
-    (or_cases (covers x i) (announces i (map Have spans)) e)
+    (or_cases (within x i) (announces i (map Have spans)) e)
 
 serves_here : (d : Descriptor) (book : LookUp) (c : Channel) (moment : ℕ) (bytes : List ℕ) (ms : List Message) (past : List Record) → IsDatagram d bytes c.remote ms
     → ServesFrom d book fewer_than_two past (address_of c.address) (Some c.remote) [] ms → Serves d book fewer_than_two past (DatagramOf c moment bytes)
@@ -183,7 +201,7 @@ pub stands_replied : (book : LookUp) (since : ℕ) (s : State) (c : Channel) (mo
 stands_replied book since s c moment spans bytes past here le news is st =
     let kept = IsKept s.descriptor s.committed s.counts in
     let seat = subst (λ (o : Option Channel). MatchOption o (NonePlain s.descriptor past) (λ x. HasSeat s.descriptor kept x past)) here st.seat in
-    let dials = dials_none_here s.descriptor c moment bytes (reply s.descriptor c.local spans) past seat.stands.remote_some is in
+    let dials = dials_none_here s.descriptor c moment bytes (reply s.descriptor c.local spans) past seat.stands.remote_some (reply_stays s.descriptor c.local spans seat.stands.local_some) is in
     record {
       valid = st.valid;
       paths = st.paths;
@@ -218,6 +236,16 @@ lost_unread k w = rise_some k.read_faults w.read_faults
 pub lost_damaged : (k : Counts) → IsLost (is_damaged k)
 lost_damaged k w = rise_some k.damaged w.damaged
 
+-- without the least number the list has no more ranges
+least_shrinks : (i : ℕ) (list : List Span) → IsRunsFrom 0 list → IsLeast list i → length (without i list) ≤ length list
+least_shrinks i [] runs least = omega arith
+least_shrinks i (x ∷ xs) runs least =
+    let low : i ≤ x.first = ⊎_elim
+    (λ lt. absurd (both_ways (has (x ∷ xs) x.first) (least.lesser x.first lt) (or_left (within x x.first) (has xs x.first) (and_from (leb x.first x.first) (leb x.first x.last) (le-leb x.first x.first (omega arith)) (le-leb x.first x.last (let order = runs.1 in omega arith))))))
+    (λ le. le)
+    (cases_lt x.first i) in
+    removed_first (record { first = i; last = i }) x xs 0 (omega arith) low runs (let order = runs.1 in omega arith)
+
 -- what is kept now was before, and isn't chunk i
 abbrev pub KeptBut : ℕ → (ℕ → Type 0) → (ℕ → Type 0) → Type 0
 KeptBut i whole after = (j : ℕ) → after j → whole j × (j ≡ i → ⊥)
@@ -230,13 +258,13 @@ unheld_but d set i k none j w = (
   record {
     within = w.within;
     committed = w.committed;
-    whole = record { full = w.whole.full; damaged = w.whole.damaged; read_faults = w.whole.read_faults; send_faults = w.whole.send_faults };
+    whole = record { damaged = w.whole.damaged; read_faults = w.whole.read_faults; send_faults = w.whole.send_faults };
   },
   λ e. false≢true (sym none ∙ subst (λ (n : ℕ). slice_index_or set n false ≡ true) e w.committed),
 )
 
-met_seat : (d : Descriptor) (whole after : ℕ → Type 0) (i : ℕ) (c : Channel) (life : Life) (past : List Record) → KeptBut i whole after → SeatStands d whole c life past → SeatStands d after (is_met i c) life past
-met_seat d whole after i c life past but s = record {
+met_seat : (d : Descriptor) (whole after : ℕ → Type 0) (i : ℕ) (c : Channel) (life : Life) (past : List Record) → KeptBut i whole after → IsLeast c.asked i → SeatStands d whole c life past → SeatStands d after (is_met i c) life past
+met_seat d whole after i c life past but least s = record {
   at = s.at;
   local = s.local;
   remote = s.remote;
@@ -251,7 +279,8 @@ met_seat d whole after i c life past but s = record {
     runs = without_runs i c.asked s.follows.runs;
     within = λ j e. s.follows.within j (without_from i j c.asked s.follows.runs e).1;
     asked_for = λ j e. s.follows.asked_for j (without_from i j c.asked s.follows.runs e).1;
-    kept = λ j w e. without_to i j c.asked s.follows.runs (but j w).1 (s.follows.kept j (but j w).0 e);
+    few = let less = least_shrinks i c.asked s.follows.runs least in let low = s.follows.few in omega arith;
+    kept = λ j w n e. without_to i j c.asked s.follows.runs (but j w).1 (s.follows.kept j (but j w).0 n e);
     unchoked = s.follows.unchoked;
     flies = s.follows.flies;
   };
@@ -281,11 +310,11 @@ left_on book since s c new k past here on ties st =
     }
 
 pub stands_met : (book : LookUp) (since : ℕ) (s : State) (i : ℕ) (c : Channel) (k : Counts) (past : List Record) → s.channel ≡ Some c
-    → KeptBut i (IsKept s.descriptor s.committed s.counts) (IsKept s.descriptor s.committed k) → SameTies s.counts k
+    → KeptBut i (IsKept s.descriptor s.committed s.counts) (IsKept s.descriptor s.committed k) → IsLeast c.asked i → SameTies s.counts k
     → StandsFor book since s past → StandsFor book since (record s { channel = Some (is_met i c); counts = k }) past
-stands_met book since s i c k past here but ties st =
+stands_met book since s i c k past here but least ties st =
     left_on book since s c (is_met i c) k past here
-    (λ life stands. met_seat s.descriptor (IsKept s.descriptor s.committed s.counts) (IsKept s.descriptor s.committed k) i c life past but stands) ties st
+    (λ life stands. met_seat s.descriptor (IsKept s.descriptor s.committed s.counts) (IsKept s.descriptor s.committed k) i c life past but least stands) ties st
 
 -- the reply is still due
 pub stands_due : (book : LookUp) (since : ℕ) (s : State) (c : Channel) (past : List Record) → s.channel ≡ Some c → StandsFor book since s past
@@ -298,23 +327,24 @@ stands_due book since s c past here st =
 
 -- ---- a chunk
 
-data_follows : (chunks : ℕ) (whole : ℕ → Type 0) (i : ℕ) (c : Channel) (now at : ℕ) (bytes : List ℕ) (s : List Line) → Follows chunks whole c s → Follows chunks whole (is_delivered i c) (Said at (Data i now bytes) ∷ s)
-data_follows chunks whole i c now at bytes s f = record {
+data_follows : (chunks : ℕ) (whole : ℕ → Type 0) (i : ℕ) (c : Channel) (now at : ℕ) (bytes : List ℕ) (s : List Line) → IsLeast c.asked i → Follows chunks whole c s → Follows chunks whole (is_delivered i c) (Said at (Data i now bytes) ∷ s)
+data_follows chunks whole i c now at bytes s least f = record {
   runs = without_runs i c.asked f.runs;
   within = λ j e. f.within j (without_from i j c.asked f.runs e).1;
   asked_for = λ j e. let parts = without_from i j c.asked f.runs e in
       and_from (not (eqb i j)) (asked j s) (not_from_false (eqb i j) (ne_eqb i j (λ same. parts.0 (sym same)))) (f.asked_for j parts.1);
-  kept = λ j w e. let parts = and_parts (not (eqb i j)) (asked j s) e in
-      without_to i j c.asked f.runs (λ same. eqb-false i j (not-true (eqb i j) parts.0) (sym same)) (f.kept j w parts.1);
+  few = let less = least_shrinks i c.asked f.runs least in let low = f.few in omega arith;
+  kept = λ j w n e. let parts = and_parts (not (eqb i j)) (asked j s) e in
+      without_to i j c.asked f.runs (λ same. eqb-false i j (not-true (eqb i j) parts.0) (sym same)) (f.kept j w n parts.1);
   unchoked = f.unchoked;
   flies = ap (λ (xs : List ℕ). i ∷ xs) f.flies;
 }
 
-follow_delivery : (chunks : ℕ) (whole : ℕ → Type 0) (book : LookUp) (nodes : List Node) (i : ℕ) (c : Channel) (now at : ℕ) (bytes : List ℕ) (s : List Line) → Follows chunks whole c s
+follow_delivery : (chunks : ℕ) (whole : ℕ → Type 0) (book : LookUp) (nodes : List Node) (i : ℕ) (c : Channel) (now at : ℕ) (bytes : List ℕ) (s : List Line) → IsLeast c.asked i → Follows chunks whole c s
     → Follows chunks whole (is_delivered i c) (say at (map (hash_of book) nodes ++ Data i now bytes ∷ []) s)
-follow_delivery chunks whole book [] i c now at bytes s f = data_follows chunks whole i c now at bytes s f
-follow_delivery chunks whole book (n ∷ nodes) i c now at bytes s f =
-    follow_delivery chunks whole book nodes i c now at bytes (Said at (hash_of book n) ∷ s) (said_idle chunks whole c s (Said at (hash_of book n)) f (λ j. refl) refl refl)
+follow_delivery chunks whole book [] i c now at bytes s least f = data_follows chunks whole i c now at bytes s least f
+follow_delivery chunks whole book (n ∷ nodes) i c now at bytes s least f =
+    follow_delivery chunks whole book nodes i c now at bytes (Said at (hash_of book n) ∷ s) least (said_idle chunks whole c s (Said at (hash_of book n)) f (λ j. refl) refl refl refl)
 
 -- it is no handshake, and announces nothing
 no_greeting : (book : LookUp) (nodes : List Node) (number i now : ℕ) (bytes : List ℕ) → begins_as number (map (hash_of book) nodes ++ Data i now bytes ∷ []) ≡ false
@@ -331,9 +361,9 @@ no_answer d book life c moment i now' content bytes is =
     and_right (goes_to life.address (DatagramOf c moment bytes) && is_number (cond life.is_dialled 0 life.remote) (datagram d.method d.chunk bytes).channel) (begins_as life.local (datagram d.method d.chunk bytes).messages.read)
     (ap (λ (x : Datagram). begins_as life.local x.messages.read) is ∙ no_greeting book (path_nodes d i) life.local i now' content)
 
-delivered_seat : (d : Descriptor) (book : LookUp) (whole : ℕ → Type 0) (i : ℕ) (c : Channel) (life : Life) (moment now' : ℕ) (content bytes : List ℕ) (past : List Record) → SeatStands d whole c life past
+delivered_seat : (d : Descriptor) (book : LookUp) (whole : ℕ → Type 0) (i : ℕ) (c : Channel) (life : Life) (moment now' : ℕ) (content bytes : List ℕ) (past : List Record) → IsLeast c.asked i → SeatStands d whole c life past
     → IsDatagram d bytes c.remote (delivery d book i now' content) → SeatStands d whole (is_delivered i c) life (DatagramOf c moment bytes ∷ past)
-delivered_seat d book whole i c life moment now' content bytes past s is =
+delivered_seat d book whole i c life moment now' content bytes past least s is =
     let r = DatagramOf c moment bytes in
     let on : GoesOn d c (is_delivered i c) life r = record {
       address = refl;
@@ -345,7 +375,7 @@ delivered_seat d book whole i c life moment now' content bytes past s is =
     } in
     seat_on d whole whole c (is_delivered i c) life r past s on
     (subst (λ (xs : List Line). Follows (chunks_of d) whole (is_delivered i c) xs) (sym (story_said d whole c life moment bytes (delivery d book i now' content) past s is))
-    (follow_delivery (chunks_of d) whole book (path_nodes d i) i c now' (now past) content (story d life past) s.follows))
+    (follow_delivery (chunks_of d) whole book (path_nodes d i) i c now' (now past) content (story d life past) least s.follows))
 
 only_delivered : (d : Descriptor) (book : LookUp) (whole : ℕ → Type 0) (i : ℕ) (c : Channel) (life : Life) (moment now' : ℕ) (content bytes : List ℕ) (past : List Record) → SeatStands d whole c life past
     → IsDatagram d bytes c.remote (delivery d book i now' content) → NoneDialled d (DatagramOf c moment bytes ∷ past) → ((other : Life) → IsPlainNow d other past → other ≡ life)
@@ -396,13 +426,13 @@ delivery_serves d set book whole i c life now' content past valid paths held s m
     })
 
 pub stands_delivered : (book : LookUp) (since : ℕ) (s : State) (i : ℕ) (c : Channel) (moment now' : ℕ) (content bytes : List ℕ) (past : List Record) → s.channel ≡ Some c
-    → slice_index_or s.committed i false ≡ true → MayParts c → has c.asked i ≡ true → IsChunk s.descriptor book i content
+    → slice_index_or s.committed i false ≡ true → MayParts c → IsLeast c.asked i → IsChunk s.descriptor book i content
     → IsDatagram s.descriptor bytes c.remote (delivery s.descriptor book i now' content) → StandsFor book since s past
     → StandsFor book since (record s { channel = Some (is_delivered i c); counts = is_sent s.counts }) (DatagramOf c moment bytes ∷ past)
-stands_delivered book since s i c moment now' content bytes past here held may asks chunk is st =
+stands_delivered book since s i c moment now' content bytes past here held may least chunk is st =
     let kept = IsKept s.descriptor s.committed s.counts in
     let seat = subst (λ (o : Option Channel). MatchOption o (NonePlain s.descriptor past) (λ x. HasSeat s.descriptor kept x past)) here st.seat in
-    let dials = dials_none_here s.descriptor c moment bytes (delivery s.descriptor book i now' content) past seat.stands.remote_some is in
+    let dials = dials_none_here s.descriptor c moment bytes (delivery s.descriptor book i now' content) past seat.stands.remote_some (hashes_stay book (path_nodes s.descriptor i) i now' content) is in
     record {
       valid = st.valid;
       paths = st.paths;
@@ -410,13 +440,13 @@ stands_delivered book since s i c moment now' content bytes past here held may a
       seat = record {
         life = seat.life;
         stands = weaker_seat s.descriptor kept (IsKept s.descriptor s.committed (is_sent s.counts)) (is_delivered i c) seat.life (DatagramOf c moment bytes ∷ past) (kept_sent s.descriptor s.committed s.counts)
-            (delivered_seat s.descriptor book kept i c seat.life moment now' content bytes past seat.stands is);
+            (delivered_seat s.descriptor book kept i c seat.life moment now' content bytes past least seat.stands is);
         only = only_delivered s.descriptor book kept i c seat.life moment now' content bytes past seat.stands is (none_dialled s.descriptor (DatagramOf c moment bytes ∷ past) (dials, st.dials_none)) seat.only;
       };
       dials_none = (dials, st.dials_none);
       served = (
         serves_here s.descriptor book c moment bytes (delivery s.descriptor book i now' content) past is
-            (delivery_serves s.descriptor s.committed book kept i c seat.life now' content past st.valid st.paths held seat.stands may asks chunk),
+            (delivery_serves s.descriptor s.committed book kept i c seat.life now' content past st.valid st.paths held seat.stands may least.listed chunk),
         st.served,
       );
       announced = (λ j e. absurd (false≢true (sym (no_news book (path_nodes s.descriptor i) j i now' content) ∙ subst (λ (x : Datagram). announces j x.messages.read ≡ true) is e)), st.announced);

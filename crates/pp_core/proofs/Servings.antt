@@ -4,18 +4,18 @@ use Rattle.std.specs.Prelude.{Result, Err, MatchOption}
 use Rattle.std.proofs.lemmas.Bool.{and_parts, false_from_ne_true, ltb-true}
 use Rattle.std.proofs.lemmas.List.{length-take, length-take-le}
 use Rattle.sha2.specs.Sha256.{sha256}
-use Rattle.pp_terms.specs.Book.{LookUp}
-use Rattle.pp_terms.specs.Content.{chunk_length}
-use Rattle.pp_terms.specs.Descriptor.{Descriptor}
-use Rattle.pp_terms.specs.Disk.{DiskState, IsKnown}
-use Rattle.pp_terms.specs.Range.{Span}
+use Rattle.pp_terms.specs.tree.Book.{LookUp}
+use Rattle.pp_terms.specs.tree.Content.{chunk_length}
+use Rattle.pp_terms.specs.format.Descriptor.{Descriptor}
+use Rattle.pp_terms.specs.disk.Disk.{DiskState, IsKnown}
+use Rattle.pp_terms.specs.tree.Range.{Span}
 use Rattle.pp_requests.specs.Lists.{chunk_count}
 use Rattle.pp_scan.specs.Holding.{is_there}
-use Rattle.pp_store.specs.ReadChunk.{IsRightChunk}
+use Rattle.pp_store.specs.ReadChunk.{IsRightChunk, IsDamaged, HasRead}
 use Rattle.pp_store.specs.declared.reading.ReadFault.{ReadFault}
 use Rattle.pp_store.specs.declared.reading.ReadFault.TheVariants.{Damaged}
 use Rattle.pp_core.specs.Sending.{may_deliver, is_asked}
-use Rattle.pp_core.specs.Serving.{ReadsAlone, IsChunk, IsLacking}
+use Rattle.pp_core.specs.Serving.{ReadsAlone, IsChunk, IsDamage, IsLacking}
 use Rattle.pp_core.specs.declared.channel.Channel.{Channel}
 
 pub right_chunk : (d e : Descriptor) (book : LookUp) (i : ℕ) (disk : DiskState) (out : List ℕ) (count len : ℕ) → e ≡ d → len ≡ chunk_length d.size d.chunk i → len ≤ length out
@@ -32,6 +32,21 @@ pub lacking : (d e : Descriptor) (book : LookUp) (i : ℕ) (disk : DiskState) (r
 lacking d e book i disk result found kept same sound is known =
     false_from_ne_true (is_there d disk.history.reads book i) (λ there.
     sound known (subst (λ (x : Descriptor). is_there x disk.history.reads book i ≡ true) (sym same) there) found kept is)
+
+damage_of : (d e : Descriptor) (book : LookUp) (i : ℕ) (disk : DiskState) (out found kept : List ℕ) → e ≡ d → chunk_length d.size d.chunk i ≤ length out
+    → IsDamaged e i book disk out found kept → IsDamage d book i
+damage_of d e book i disk out found kept same fits r = record {
+  bytes = take (chunk_length d.size d.chunk i) out;
+  kept = kept;
+  whole = length-take-le (chunk_length d.size d.chunk i) out fits;
+  kept_is = r.kept_is;
+  differ = λ is. r.differ (r.found_is ∙ ap (λ (x : Descriptor). sha256 (take (chunk_length x.size x.chunk i) out)) same ∙ is);
+}
+
+pub read_damage : (A : Type 0) (d e : Descriptor) (book : LookUp) (i : ℕ) (disk disk' : DiskState) (out : List ℕ) (result : Result ℕ ReadFault) (found kept : List ℕ) → e ≡ d
+    → chunk_length d.size d.chunk i ≤ length out → HasRead A e i book disk disk' out result → result ≡ Err (Damaged found kept) → IsDamage d book i
+read_damage A d e book i disk disk' out result found kept same fits does is =
+    damage_of d e book i disk out found kept same fits (subst (HasRead A e i book disk disk' out) is does)
 
 pub reads_nothing : (s : DiskState) → ReadsAlone s s
 reads_nothing s = record { tells = refl; honest = refl; same = refl; hard = refl; later = omega arith }

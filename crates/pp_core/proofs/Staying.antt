@@ -1,6 +1,6 @@
 -- What stays the same in a turn: the descriptor, the committed chunks, and so what the book has of them.
 use Rattle.std.proofs.Common.{◌≡◌, ℕ, Bool, List, refl, sym, subst}
-use Rattle.pp_terms.specs.Descriptor.{Descriptor}
+use Rattle.pp_terms.specs.format.Descriptor.{Descriptor}
 use Rattle.pp_tree.specs.Book.{BookState, entry}
 use Rattle.pp_outside.specs.declared.link.Event.{Event}
 use Rattle.pp_outside.specs.declared.link.Event.TheVariants.{Datagram, Quiet}

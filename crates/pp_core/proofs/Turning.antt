@@ -4,12 +4,13 @@ use Rattle.std.proofs.lemmas.Bool.{cases_Bool, both_ways, cond-true, cond-false,
 use Rattle.std.proofs.Math.Seq.{take-length}
 use Rattle.std.specs.Prelude.{MatchOption, MatchBool, slice_index_or}
 use Rattle.rand_chacha.specs.ChaCha.{ChaCha}
-use Rattle.pp_terms.specs.Traffic as traffic
-use Rattle.pp_terms.specs.Traffic.{Record, Received}
-use Rattle.pp_terms.specs.Descriptor.{Descriptor, IsDescriptor, chunks_of}
-use Rattle.pp_terms.specs.Book.{LookUp, IsRooted}
-use Rattle.pp_terms.specs.Disk.{DiskState, History, IsKnown}
-use Rattle.pp_terms.specs.Image.{holds}
+use Rattle.pp_terms.specs.format.Traffic as traffic
+use Rattle.pp_terms.specs.format.Traffic.{Record, Received}
+use Rattle.pp_terms.specs.format.Descriptor.{Descriptor, IsDescriptor, chunks_of}
+use Rattle.pp_terms.specs.tree.Book.{LookUp, IsRooted}
+use Rattle.pp_terms.specs.disk.Disk.{DiskState, History, IsKnown}
+use Rattle.pp_terms.specs.disk.Image.{is_found}
+use Rattle.pp_terms.proofs.Facts.{member_below}
 use Rattle.pp_scan.specs.Holding.{is_there}
 use Rattle.pp_scan.proofs.Holds.{held_there, empty_none}
 use Rattle.pp_scan.proofs.Finding.{some_bytes}
@@ -17,7 +18,6 @@ use Rattle.pp_store.specs.Store.{IsOpened}
 use Rattle.pp_scan.specs.Scan.{IsScanned}
 use Rattle.pp_core.specs.Opening.{new_state}
 use Rattle.pp_core.specs.Serving.{HasPaths}
-use Rattle.pp_core.proofs.Announcements.{within_set}
 use Rattle.pp_traffic.specs.Past.{is_event, some_since}
 use Rattle.pp_traffic.specs.Life.{Life, closes_on}
 use Rattle.pp_traffic.specs.Plain.{IsPlainDial, IsPlainAnswer, IsPlainNow}
@@ -30,10 +30,12 @@ use Rattle.pp_outside.specs.declared.link.Event.TheVariants.{Datagram, Quiet}
 use Rattle.pp_core.specs.Counting.{rise}
 use Rattle.pp_core.specs.Events.{turned, reached, after_event, after_refusal}
 use Rattle.pp_core.specs.Taking.{take_datagram}
-use Rattle.pp_core.specs.Standing.{State, IsWhole, IsKept, SeatStands, HasSeat, NonePlain, came, came_short, capped, IsTied, StandsFor}
+use Rattle.pp_core.specs.Standing.{State, IsWhole, IsKept, SeatStands, HasSeat, NonePlain, IsTied, StandsFor}
+use Rattle.pp_terms.specs.Count.{capped}
+use Rattle.pp_traffic.specs.Tallied.{came, came_short}
 use Rattle.pp_core.specs.declared.counts.Counts.{Counts}
 use Rattle.pp_core.specs.declared.channel.Channel.{Channel}
-use Rattle.pp_core.proofs.Following.{Since}
+use Rattle.pp_core.proofs.Following.{Later}
 use Rattle.pp_core.proofs.Absorbs.{LeavesSeat, leaves_seat, seat_quiet}
 use Rattle.pp_core.proofs.Openings.{HasNewSeat, opens_seat}
 use Rattle.pp_core.proofs.Losses.{TakesLoss, takes_loss}
@@ -58,18 +60,17 @@ tied_datagram k new at sender bytes past t l = record {
 
 whole_before : (size : ℕ) (k new : Counts) → TakesLoss size (reached k) new → IsWhole new → IsWhole k
 whole_before size k new l w = record {
-  full = l.full w.full;
   damaged = sym l.damaged ∙ w.damaged;
   read_faults = sym l.read_faults ∙ w.read_faults;
   send_faults = sym l.send_faults ∙ w.send_faults;
 }
 
 -- what is kept now was kept before
-kept_before : (d : Descriptor) (set : List Bool) (size : ℕ) (k new : Counts) → TakesLoss size (reached k) new → Since (chunks_of d) (IsKept d set k) (IsKept d set new) new
-kept_before d set size k new l i w = (record { within = w.within; committed = w.committed; whole = whole_before size k new l w.whole }, w.within, w.whole.full)
+kept_before : (d : Descriptor) (set : List Bool) (size : ℕ) (k new : Counts) → TakesLoss size (reached k) new → Later (chunks_of d) (IsKept d set k) (IsKept d set new)
+kept_before d set size k new l i w = (record { within = w.within; committed = w.committed; whole = whole_before size k new l w.whole }, w.within)
 
-kept_self : (d : Descriptor) (set : List Bool) (k : Counts) → Since (chunks_of d) (IsKept d set k) (IsKept d set k) k
-kept_self d set k i w = (w, w.within, w.whole.full)
+kept_self : (d : Descriptor) (set : List Bool) (k : Counts) → Later (chunks_of d) (IsKept d set k) (IsKept d set k)
+kept_self d set k i w = (w, w.within)
 
 -- ---- seats
 
@@ -134,12 +135,12 @@ taken_seat d set (Some c) k numbers at sender bytes past none s =
     (leaves_seat d (IsKept d set k) (IsKept d set new) c (reached k) numbers s.life at sender bytes past s.stands
     (kept_before d set (length bytes) k new (takes_loss d sender bytes (Some c) (reached k) numbers)))
 
-kept_turned : (d : Descriptor) (set : List Bool) (k new : Counts) → new.full ≡ k.full → new.damaged ≡ k.damaged → new.read_faults ≡ k.read_faults → new.send_faults ≡ k.send_faults
+kept_turned : (d : Descriptor) (set : List Bool) (k new : Counts) → new.damaged ≡ k.damaged → new.read_faults ≡ k.read_faults → new.send_faults ≡ k.send_faults
     → (i : ℕ) → IsKept d set new i → IsKept d set k i
-kept_turned d set k new full damaged read send i w = record {
+kept_turned d set k new damaged read send i w = record {
   within = w.within;
   committed = w.committed;
-  whole = record { full = sym full ∙ w.whole.full; damaged = sym damaged ∙ w.whole.damaged; read_faults = sym read ∙ w.whole.read_faults; send_faults = sym send ∙ w.whole.send_faults };
+  whole = record { damaged = sym damaged ∙ w.whole.damaged; read_faults = sym read ∙ w.whole.read_faults; send_faults = sym send ∙ w.whole.send_faults };
 }
 
 quiet_seat : (d : Descriptor) (set : List Bool) (channel : Option Channel) (k : Counts) (at : ℕ) (past : List Record) → NoneDialled d past → MatchOption channel (NonePlain d past) (λ c. HasSeat d (IsKept d set k) c past)
@@ -147,7 +148,7 @@ quiet_seat : (d : Descriptor) (set : List Bool) (channel : Option Channel) (k : 
 quiet_seat d set None k at past none nothing = none_before d (traffic.Quiet at) past none refl nothing
 quiet_seat d set (Some c) k at past none s = record {
   life = s.life;
-  stands = weaker_seat d (IsKept d set k) (IsKept d set (turned k)) c s.life (traffic.Quiet at ∷ past) (kept_turned d set k (turned k) refl refl refl refl)
+  stands = weaker_seat d (IsKept d set k) (IsKept d set (turned k)) c s.life (traffic.Quiet at ∷ past) (kept_turned d set k (turned k) refl refl refl)
       (seat_quiet d (IsKept d set k) c s.life at past s.stands);
   only = only_before d (traffic.Quiet at) past s.life none refl s.only;
 }
@@ -209,7 +210,7 @@ stands_refused book since s past st = record {
     refused_seat (Some c) seat = record {
       life = seat.life;
       stands = weaker_seat s.descriptor (IsKept s.descriptor s.committed s.counts) (IsKept s.descriptor s.committed (after_refusal s).counts) c seat.life past
-          (kept_turned s.descriptor s.committed s.counts (after_refusal s).counts refl refl refl refl) seat.stands;
+          (kept_turned s.descriptor s.committed s.counts (after_refusal s).counts refl refl refl) seat.stands;
       only = seat.only;
     }
 
@@ -218,7 +219,7 @@ stands_refused book since s past st = record {
 pub paths_found : (d : Descriptor) (disk : DiskState) (book : LookUp) (set : List Bool) → IsRooted d book → IsScanned d disk book set → HasPaths d set book
 paths_found d disk book set rooted found = record {
   rooted = rooted;
-  within = λ i e. let lt = within_set set i e in omega (arith, found.count, lt);
+  within = λ i e. let lt = member_below set i e in omega (arith, found.count, lt);
   leaf = found.leaf;
   peaks = found.peaks;
 }
@@ -229,10 +230,10 @@ pub there_found : (d : Descriptor) (disk disk' : DiskState) (book : LookUp) (set
 there_found d disk disk' book set i valid known found opened e = by disk.history.reads refl
   where
     lt : i < chunks_of d
-    lt = let within = within_set set i e in omega (arith, found.count, within)
+    lt = let within = member_below set i e in omega (arith, found.count, within)
 
     by : (reads : List ℕ) → disk.history.reads ≡ reads → is_there d disk'.history.reads book i ≡ true
-    by [] empty = absurd (false≢true (sym (ap (λ (r : List ℕ). holds d r i) empty ∙ empty_none d i (some_bytes d i valid lt)) ∙ sym (found.held known i lt) ∙ e))
+    by [] empty = absurd (false≢true (sym (ap (λ (r : List ℕ). is_found d r i) empty ∙ empty_none d i (some_bytes d i valid lt)) ∙ sym (found.held known i lt) ∙ e))
     by (x ∷ rest) some =
         let again : disk'.history.reads ≡ disk.history.reads = ap (λ (h : History). h.reads) (opened.scanned (omega (arith, ap length some))) in
         ap (λ (r : List ℕ). is_there d r book i) again ∙ held_there d disk.history.reads book i (found.known known) (found.peaks i e) ∙ sym (found.held known i lt) ∙ e

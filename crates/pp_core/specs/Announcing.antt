@@ -1,9 +1,9 @@
 -- Which chunks a reply announces (RFC 7574, section 3.2): the held ones from the first on, in as few ranges as the method has names
 -- for, at most 64.
 use Rattle.std.specs.Prelude.{◌≡◌, ℕ, zero, suc, ◌+◌, ◌-◌, ◌*◌, ◌^◌, ◌<◌, ◌≤◌, Bool, true, false, List, [], ◌∷◌, ◌++◌, map, length, slice_index_or}
-use Rattle.pp_terms.specs.Descriptor.{Descriptor, Method}
-use Rattle.pp_terms.specs.Messages.{Span, Message, Have, IsNamed}
-use Rattle.pp_traffic.specs.Asking.{covers}
+use Rattle.pp_terms.specs.format.Descriptor.{Descriptor, Method}
+use Rattle.pp_terms.specs.format.Messages.{Message, Have, IsNamed}
+use Rattle.pp_terms.specs.tree.Range.{Span, within}
 use Rattle.pp_core.specs.Writing.{IsFront, IsWritten, reply}
 
 -- A node of that layer begins at a leaf and ends at another or before it, and no higher one does.
@@ -29,7 +29,7 @@ pub record IsRow (set : List Bool) (first end : ℕ) : Type 0 where
 
 -- all chunks of the span are in the set
 abbrev pub IsHeldSpan : List Bool → Span → Type 0
-IsHeldSpan set s = (i : ℕ) → covers s i ≡ true → slice_index_or set i false ≡ true
+IsHeldSpan set s = (i : ℕ) → within s i ≡ true → slice_index_or set i false ≡ true
 
 -- The range begins at the first chunk of the set from a place on, and is the longest there that the method names.
 pub record IsNext (method : Method) (set : List Bool) (from : ℕ) (s : Span) : Type 0 where

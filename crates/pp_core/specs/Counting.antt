@@ -1,5 +1,6 @@
 -- Counts of what a peer did.
 use Rattle.std.specs.Prelude.{ℕ, ◌+◌, ◌-◌, ◌^◌, min}
+use Rattle.pp_terms.specs.command.Tally.{Tally}
 use Rattle.pp_core.specs.declared.counts.Counts.{Counts}
 
 -- one more, but at most the greatest number of 64 bits
@@ -30,4 +31,31 @@ no_counts = record {
   read_faults = 0;
   send_faults = 0;
   receive_faults = 0;
+}
+
+-- the counts as plain data
+abbrev pub tally_of : Counts → Tally
+tally_of k = record {
+  turns = k.turns;
+  datagrams = k.datagrams;
+  sent = k.sent;
+  stored = k.stored;
+  keepalives = k.keepalives;
+  short = k.short;
+  stranger = k.stranger;
+  refused_handshakes = k.refused_handshakes;
+  no_seat = k.no_seat;
+  cut = k.cut;
+  outside = k.outside;
+  not_a_node = k.not_a_node;
+  full = k.full;
+  choked = k.choked;
+  unheld = k.unheld;
+  missing = k.missing;
+  wrong = k.wrong;
+  repeats = k.repeats;
+  damaged = k.damaged;
+  read_faults = k.read_faults;
+  send_faults = k.send_faults;
+  receive_faults = k.receive_faults;
 }

@@ -1,9 +1,8 @@
 -- What the messages of a datagram do to the channel on which they come (RFC 7574, sections 3 and 8).
 use Rattle.std.specs.Prelude.{ℕ, ◌-◌, ◌==◌, nat_le, nat_lt, min, Bool, false, not, ◌&&◌, if◌then◌else◌, Option, Some, None, List, [], ◌∷◌}
 use Rattle.std.specs.List.{filter}
-use Rattle.pp_terms.specs.Messages.{Span, Message, Handshake, Data, Ack, Have, Integrity, Request, Cancel, WireKind, Messages, only}
-use Rattle.pp_terms.specs.Range as range
-use Rattle.pp_traffic.specs.Asking.{covers}
+use Rattle.pp_terms.specs.format.Messages.{Message, Handshake, Data, Ack, Have, Integrity, Request, Cancel, WireKind, Messages, only}
+use Rattle.pp_terms.specs.tree.Range.{Span, within}
 use Rattle.pp_ranges.specs.Edits.{inserted, removed}
 use Rattle.pp_requests.specs.Lists.{are_too_many, requested, cancelled}
 use Rattle.pp_core.specs.Counting.{rise}
@@ -35,16 +34,16 @@ is_closing (Handshake source options) = source == 0
 is_closing _ = false
 
 -- what of a span lies in the content
-abbrev pub inside : ℕ → Span → Option range.Span
+abbrev pub inside : ℕ → Span → Option Span
 inside chunks span =
     if nat_lt span.first chunks && nat_le span.first span.last then Some (record { first = span.first; last = min span.last (chunks - 1) }) else None
 
 -- the list of what is asked for, after a REQUEST and after a CANCEL
-abbrev pub asks_for : Option range.Span → List range.Span → List range.Span
+abbrev pub asks_for : Option Span → List Span → List Span
 asks_for None list = list
 asks_for (Some part) list = requested part list
 
-abbrev pub lets_go : Option range.Span → List range.Span → List range.Span
+abbrev pub lets_go : Option Span → List Span → List Span
 lets_go None list = list
 lets_go (Some part) list = cancelled part list
 
@@ -52,15 +51,15 @@ lets_go (Some part) list = cancelled part list
 abbrev pub after_message : ℕ → Message → Channel → Channel
 after_message chunks (Request span) c = record c { asked = asks_for (inside chunks span) c.asked }
 after_message chunks (Cancel span) c = record c { asked = lets_go (inside chunks span) c.asked }
-after_message chunks (Ack span delay) c = record c { flying = filter (λ i. not (covers span i)) c.flying }
+after_message chunks (Ack span delay) c = record c { flying = filter (λ i. not (within span i)) c.flying }
 after_message chunks _ c = c
 
 -- the list has no room for what a REQUEST or a CANCEL makes of it
-abbrev pub overflows : Option range.Span → (range.Span → List range.Span) → Bool
+abbrev pub overflows : Option Span → (Span → List Span) → Bool
 overflows None edit = false
 overflows (Some part) edit = are_too_many (edit part)
 
-abbrev pub is_full : ℕ → Message → List range.Span → Bool
+abbrev pub is_full : ℕ → Message → List Span → Bool
 is_full chunks (Request span) list = overflows (inside chunks span) (λ part. inserted (Some part) list)
 is_full chunks (Cancel span) list = overflows (inside chunks span) (λ part. removed part list)
 is_full chunks _ list = false

@@ -1,6 +1,6 @@
 -- A peer as its fields keep it, and as contracts see it.
 use Rattle.std.specs.Prelude.{◌≡◌, false, length}
-use Rattle.pp_terms.specs.Descriptor.{chunks_of}
+use Rattle.pp_terms.specs.format.Descriptor.{chunks_of}
 use Rattle.pp_core.specs.Standing.{State}
 use Rattle.pp_core.specs.declared.peer.Peer.TheInside.{Inside}
 

@@ -1,11 +1,11 @@
 -- What is sent on the channel, and what is left of it.
 use Rattle.std.specs.Prelude.{◌≡◌, ◌⊎◌, ℕ, ◌≤◌, nat_lt, Bool, true, false, not, ◌&&◌, Some, List, [], ◌∷◌, length}
 use Rattle.pp_terms.specs.Count.{HasRisen}
-use Rattle.pp_terms.specs.Descriptor.{Descriptor}
-use Rattle.pp_terms.specs.Traffic.{LinkState, Sent, GainsRecords}
-use Rattle.pp_terms.specs.Book.{LookUp}
-use Rattle.pp_terms.specs.Messages.{Span, Message}
-use Rattle.pp_terms.specs.Range as range
+use Rattle.pp_terms.specs.format.Descriptor.{Descriptor}
+use Rattle.pp_terms.specs.format.Traffic.{LinkState, Sent, GainsRecords}
+use Rattle.pp_terms.specs.tree.Book.{LookUp}
+use Rattle.pp_terms.specs.format.Messages.{Message}
+use Rattle.pp_terms.specs.tree.Range.{Span}
 use Rattle.pp_requests.specs.Lists.{without}
 use Rattle.pp_outside.specs.Outside.{address_of}
 use Rattle.pp_core.specs.Counting.{rise}
@@ -37,12 +37,14 @@ pub record SendsOne (d : Descriptor) (c : Channel) (ms : List Message) (moment :
   pub short : length bytes ≤ 16384
   pub gained : GainsRecords old.traffic (Sent moment (address_of c.address) bytes ∷ []) new.traffic
   pub nexts : new.nexts ≡ old.nexts
+  pub bound : new.bound ≡ old.bound
   pub later : old.faults ≤ new.faults
 
 -- The link refused to send.
 pub record SendsNone (old new : LinkState) : Type 0 where
   pub same : new.traffic ≡ old.traffic
   pub nexts : new.nexts ≡ old.nexts
+  pub bound : new.bound ≡ old.bound
   pub later : old.faults ≤ new.faults
   pub risen : HasRisen old.faults new.faults
 
@@ -73,7 +75,7 @@ Replies d held c k moment old new h =
 -- ---- a chunk
 
 -- something is asked for
-abbrev pub is_asked : List range.Span → Bool
+abbrev pub is_asked : List Span → Bool
 is_asked [] = false
 is_asked (x ∷ xs) = true
 

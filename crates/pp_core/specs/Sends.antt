@@ -1,12 +1,13 @@
 -- What was sent, and what the peer stands for then.
 use Rattle.std.specs.Prelude.{◌≡◌, ◌⊎◌, ℕ, ◌≤◌, Bool, true, false, ◌&&◌, MatchOption, MatchBool, Option, Some, None, List, [], ◌∷◌, ◌++◌, length, slice_index_or}
 use Rattle.std.specs.List.{AllByRecursion, list_any}
-use Rattle.pp_terms.specs.Book.{LookUp}
+use Rattle.pp_terms.specs.tree.Book.{LookUp}
 use Rattle.pp_terms.specs.Count.{HasRisen}
-use Rattle.pp_terms.specs.Disk.{DiskState, IsKnown, moment_of}
-use Rattle.pp_terms.specs.Descriptor.{Descriptor}
-use Rattle.pp_terms.specs.Traffic.{LinkState, Record, Received, Quiet, Sent, GainsRecords}
-use Rattle.pp_terms.specs.Messages.{Span, Message}
+use Rattle.pp_terms.specs.disk.Disk.{DiskState, IsKnown, moment_of}
+use Rattle.pp_terms.specs.format.Descriptor.{Descriptor}
+use Rattle.pp_terms.specs.format.Traffic.{LinkState, Record, Received, Quiet, Sent, GainsRecords}
+use Rattle.pp_terms.specs.format.Messages.{Message}
+use Rattle.pp_terms.specs.tree.Range.{Span}
 use Rattle.pp_traffic.specs.Past.{read, goes_to, is_number, is_event}
 use Rattle.pp_traffic.specs.Life.{begins_as}
 use Rattle.pp_outside.specs.Outside.{address_of}
@@ -15,7 +16,7 @@ use Rattle.pp_scan.specs.Holding.{is_there}
 use Rattle.pp_core.specs.Announcing.{AreNews}
 use Rattle.pp_core.specs.Writing.{IsDatagram, reply, delivery}
 use Rattle.pp_core.specs.Sending.{owes_reply, may_deliver, Replies}
-use Rattle.pp_core.specs.Serving.{ServesLeast}
+use Rattle.pp_core.specs.Serving.{IsDamage, ServesLeast}
 use Rattle.pp_core.specs.Standing.{State, StandsFor}
 use Rattle.pp_core.specs.declared.counts.Counts.{Counts}
 use Rattle.pp_core.specs.declared.channel.Channel.{Channel}
@@ -75,6 +76,7 @@ pub record Sends (book : LookUp) (moment : ℕ) (seen seen' : LinkState) (s new 
   -- a reply that was owed and isn't any more is among them
   pub answered : OwesNone new → OwesNone s ⊎ (list_any (replies_on s.descriptor s.channel) added ≡ true)
   pub nexts : seen'.nexts ≡ seen.nexts
+  pub bound : seen'.bound ≡ seen.bound
   pub later : seen.faults ≤ seen'.faults
   pub core : SameCore s new
   pub stands : (since : ℕ) (past : List Record) → since ≤ moment → StandsFor book since s past → StandsFor book since new (added ++ past)
@@ -93,12 +95,19 @@ pub record IsDamagedThere (d : Descriptor) (set : List Bool) (book : LookUp) (di
   pub committed : slice_index_or set chunk false ≡ true
   pub lacking : is_there d disk.history.reads book chunk ≡ false
 
+-- bytes of a committed chunk's length have another digest than the book's for its leaf
+pub record WasDamaged (d : Descriptor) (set : List Bool) (book : LookUp) : Type 0 where
+  pub chunk : ℕ
+  pub committed : slice_index_or set chunk false ≡ true
+  pub damage : IsDamage d book chunk
+
 -- Why counts rose while a peer sent: the link or the disk refused; the disk isn't one that is honest, tells and has a committed
 -- chunk. No other count but those of what was sent, and of requests for chunks that aren't committed, rose.
 pub record Causes (d : Descriptor) (set : List Bool) (book : LookUp) (disk disk' : DiskState) (seen seen' : LinkState) (k new : Counts) : Type 0 where
   pub send : RisesWith k.send_faults new.send_faults seen.faults seen'.faults
   pub read : RisesWith k.read_faults new.read_faults disk.faults disk'.faults
   pub damaged : (new.damaged ≡ k.damaged) ⊎ (IsKnown disk → IsDamagedThere d set book disk)
+  pub named : (new.damaged ≡ k.damaged) ⊎ WasDamaged d set book
   pub unheld : (new.unheld ≡ k.unheld) ⊎ ((i : ℕ) × (slice_index_or set i false ≡ false))
   pub others : new ≡ record k {
     sent = new.sent;

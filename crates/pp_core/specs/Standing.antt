@@ -1,18 +1,21 @@
 -- What a peer knows stands for what its link carried.
 use Rattle.std.specs.Prelude.{◌≡◌, ℕ, ◌+◌, ◌-◌, ◌^◌, ◌<◌, ◌≤◌, nat_lt, min, Bool, true, false, cond, Option, MatchOption, List, [], ◌∷◌, length, slice_index_or}
 use Rattle.rand_chacha.specs.ChaCha.{ChaCha}
-use Rattle.pp_terms.specs.Descriptor.{Descriptor, IsDescriptor, chunks_of}
-use Rattle.pp_terms.specs.Book.{LookUp}
-use Rattle.pp_terms.specs.Range.{IsRunsFrom, has}
-use Rattle.pp_terms.specs.Traffic.{Record, Received, Quiet, Sent}
+use Rattle.pp_terms.specs.format.Descriptor.{Descriptor, IsDescriptor, chunks_of}
+use Rattle.pp_terms.specs.tree.Book.{LookUp}
+use Rattle.pp_terms.specs.tree.Range.{IsRunsFrom, has}
+use Rattle.pp_terms.specs.format.Traffic.{Record, Received, Quiet, Sent}
 use Rattle.pp_traffic.specs.Past.{now, read, is_number, some_since, is_at, EachRecord}
 use Rattle.pp_traffic.specs.Life.{Life, greets, answers, is_closed}
 use Rattle.pp_traffic.specs.Story.{Line, story}
-use Rattle.pp_traffic.specs.Asking.{choked, asked, is_heard}
-use Rattle.pp_traffic.specs.Flight.{in_flight, fewer_than_two}
-use Rattle.pp_traffic.specs.Serving.{ServesAll}
+use Rattle.pp_traffic.specs.Asking.{choked, asked, asks_in, most_asks, is_heard}
+use Rattle.pp_traffic.specs.Flight.{in_flight}
+use Rattle.pp_terms.specs.Count.{capped}
+use Rattle.pp_traffic.specs.Tallied.{came, came_short, went}
+use Rattle.pp_traffic.specs.Serving.{window_of, ServesAll}
 use Rattle.pp_traffic.specs.Keeping.{EachAnnounced}
 use Rattle.pp_traffic.specs.Plain.{IsPlainNow}
+use Rattle.pp_traffic.specs.Turns.{is_closing}
 use Rattle.pp_outside.specs.Outside.{address_of}
 use Rattle.pp_core.specs.Serving.{HasPaths}
 use Rattle.pp_core.specs.declared.counts.Counts.{Counts}
@@ -33,7 +36,6 @@ pub record State : Type 0 where
 
 -- Nothing that was asked for was given up, but chunks that aren't committed.
 pub record IsWhole (k : Counts) : Type 0 where
-  pub full : k.full ≡ 0
   pub damaged : k.damaged ≡ 0
   pub read_faults : k.read_faults ≡ 0
   pub send_faults : k.send_faults ≡ 0
@@ -45,12 +47,13 @@ pub record IsKept (d : Descriptor) (set : List Bool) (k : Counts) (i : ℕ) : Ty
   pub whole : IsWhole k
 
 -- The channel's list and flight are those of a story. Nothing is on the list but chunks of the content that are asked for, and
--- what is asked for is while it wasn't given up.
+-- what is asked for is while it wasn't given up, and no more requests and cancellations came than the list has room for.
 pub record Follows (chunks : ℕ) (whole : ℕ → Type 0) (c : Channel) (story : List Line) : Type 0 where
   pub runs : IsRunsFrom 0 c.asked
   pub within : (i : ℕ) → has c.asked i ≡ true → i < chunks
   pub asked_for : (i : ℕ) → has c.asked i ≡ true → asked i story ≡ true
-  pub kept : (i : ℕ) → whole i → asked i story ≡ true → has c.asked i ≡ true
+  pub few : length c.asked ≤ asks_in story
+  pub kept : (i : ℕ) → whole i → asks_in story ≤ most_asks → asked i story ≡ true → has c.asked i ≡ true
   pub unchoked : choked story ≡ false
   pub flies : c.flying ≡ in_flight story
 
@@ -77,36 +80,14 @@ pub record HasSeat (d : Descriptor) (whole : ℕ → Type 0) (c : Channel) (past
 abbrev pub NonePlain : Descriptor → List Record → Type 0
 NonePlain d past = (other : Life) → IsPlainNow d other past → ⊥
 
--- no datagram was sent to channel 0
+-- no datagram was sent to channel 0, and none with a closing handshake
 abbrev pub DialsNone : Descriptor → List Record → Record → Type 0
 DialsNone d before (Received at sender bytes) = Unit {0}
 DialsNone d before (Quiet at) = Unit {0}
-DialsNone d before (Sent moment receiver bytes) = is_number 0 (read d (Sent moment receiver bytes)).channel ≡ false
+DialsNone d before (Sent moment receiver bytes) =
+    (is_number 0 (read d (Sent moment receiver bytes)).channel ≡ false) × (is_closing d (Sent moment receiver bytes) ≡ false)
 
 -- ---- counts
-
--- how many datagrams came, how many of them had fewer than four bytes, and how many were sent
-abbrev pub came : List Record → ℕ
-came [] = 0
-came (Received at sender bytes ∷ before) = came before + 1
-came (Quiet at ∷ before) = came before
-came (Sent moment receiver bytes ∷ before) = came before
-
-abbrev pub came_short : List Record → ℕ
-came_short [] = 0
-came_short (Received at sender bytes ∷ before) = cond (nat_lt (length bytes) 4) (came_short before + 1) (came_short before)
-came_short (Quiet at ∷ before) = came_short before
-came_short (Sent moment receiver bytes ∷ before) = came_short before
-
-abbrev pub went : List Record → ℕ
-went [] = 0
-went (Received at sender bytes ∷ before) = went before
-went (Quiet at ∷ before) = went before
-went (Sent moment receiver bytes ∷ before) = went before + 1
-
--- a number, but at most the greatest of 64 bits
-abbrev pub capped : ℕ → ℕ
-capped n = min n (2 ^ 64 - 1)
 
 pub record IsTied (k : Counts) (past : List Record) : Type 0 where
   pub datagrams : k.datagrams ≡ capped (came past)
@@ -122,6 +103,6 @@ pub record StandsFor (book : LookUp) (since : ℕ) (s : State) (past : List Reco
   pub now_is : s.latest ≡ now past
   pub seat : MatchOption s.channel (NonePlain s.descriptor past) (λ c. HasSeat s.descriptor (IsKept s.descriptor s.committed s.counts) c past)
   pub dials_none : EachRecord (DialsNone s.descriptor) past
-  pub served : ServesAll s.descriptor book fewer_than_two past
+  pub served : ServesAll s.descriptor book (window_of s.descriptor) past
   pub announced : EachAnnounced s.descriptor (λ moment i. (slice_index_or s.committed i false ≡ true) × (since ≤ moment)) past
   pub tied : IsTied s.counts past

@@ -1,10 +1,10 @@
 -- What a datagram does to the one channel of a peer (RFC 7574, sections 3.1.1 and 8.2 to 8.4).
 use Rattle.std.specs.Prelude.{ℕ, ◌==◌, Bool, true, false, not, ◌&&◌, ◌||◌, if◌then◌else◌, Option, Some, None, List, [], ◌∷◌, length}
 use Rattle.rand_chacha.specs.ChaCha.{ChaCha, next_word}
-use Rattle.pp_terms.specs.Descriptor.{Descriptor, chunks_of}
-use Rattle.pp_terms.specs.Options.{Options}
-use Rattle.pp_terms.specs.Messages.{Message, Handshake, WireKind, UnknownType, Short, Range, Wide, InOptions, Messages, datagram}
-use Rattle.pp_terms.specs.Traffic.{same_address}
+use Rattle.pp_terms.specs.format.Descriptor.{Descriptor, chunks_of}
+use Rattle.pp_terms.specs.format.Options.{Options}
+use Rattle.pp_terms.specs.format.Messages.{Message, Handshake, WireKind, UnknownType, Short, Range, Wide, InOptions, Messages, datagram}
+use Rattle.pp_terms.specs.format.Traffic.{same_address}
 use Rattle.pp_traffic.specs.Life.{fits}
 use Rattle.pp_outside.specs.Outside.{address_of}
 use Rattle.pp_outside.specs.declared.link.Address.{Address}

@@ -1,12 +1,13 @@
 -- Datagrams that are sent: their bytes, and what is read of them.
 use Rattle.std.specs.Prelude.{◌≡◌, ℕ, ◌≤◌, true, false, Some, None, is_some, unwrap_or, List, [], ◌∷◌, ◌++◌, map, length, take}
 use Rattle.std.specs.List.{AllByRecursion}
-use Rattle.pp_terms.specs.Bins.{first_leaf, last_leaf}
-use Rattle.pp_terms.specs.Book.{LookUp}
-use Rattle.pp_terms.specs.Descriptor.{Descriptor, chunks_of, method_number}
-use Rattle.pp_terms.specs.Options.{Options, IsBytes}
-use Rattle.pp_terms.specs.Messages.{Span, Message, Handshake, Data, Have, Integrity, IsFull, datagram}
-use Rattle.pp_terms.specs.Tree.{Node, is_full}
+use Rattle.pp_terms.specs.tree.Bins.{first_leaf, last_leaf}
+use Rattle.pp_terms.specs.tree.Book.{LookUp}
+use Rattle.pp_terms.specs.format.Descriptor.{Descriptor, chunks_of, method_number}
+use Rattle.pp_terms.specs.format.Options.{Options, IsBytes}
+use Rattle.pp_terms.specs.format.Messages.{Message, Handshake, Data, Have, Integrity, IsFull, datagram}
+use Rattle.pp_terms.specs.tree.Range.{Span}
+use Rattle.pp_terms.specs.tree.Tree.{Node, is_full}
 use Rattle.pp_traffic.specs.Laws.{plan}
 
 -- The bytes are read, to their end, as a channel number and these messages.
@@ -54,10 +55,6 @@ hash_of book n = Integrity (span_under n) (unwrap_or (book n.layer n.offset) [])
 -- the hashes of a chunk's whole path: all peaks, and the siblings on the way up to one of them
 abbrev pub path_nodes : Descriptor → ℕ → List Node
 path_nodes d i = plan (chunks_of d) (λ n. false) i
-
--- all leaves under the node are chunks, and the book has its digest
-abbrev pub IsGiven : Descriptor → LookUp → Node → Type 0
-IsGiven d book n = (is_full (chunks_of d) n ≡ true) × (is_some (book n.layer n.offset) ≡ true)
 
 -- a chunk behind its path's hashes
 abbrev pub delivery : Descriptor → LookUp → ℕ → ℕ → List ℕ → List Message

@@ -2,7 +2,7 @@
 
 ghost use Rattle.std.specs.Prelude.{◌≡◌, ◌<◌, nat_lt, not, [], ◌∷◌, length};
 ghost use Rattle.std.specs.List.{filter};
-ghost use Rattle.pp_traffic.specs.Asking.{covers};
+ghost use Rattle.pp_terms.specs.tree.Range.{within};
 ghost use Rattle.pp_wire.specs.Views.{span_of};
 
 use arrayvec::ArrayVec;
@@ -54,11 +54,11 @@ impl Flight {
 
     /// The chunks of a span were acknowledged.
     pub(crate) fn land(&mut self, span: Span)
-        ensures { self.new ≡ filter (λ i. not (covers (span_of span) i)) self.old }
+        ensures { self.new ≡ filter (λ i. not (within (span_of span) i)) self.old }
     {
         let mut chunks = ArrayVec::new();
         for i in self.chunks.iter() {
-            if !covers(span, *i) {
+            if !within(span, *i) {
                 chunks.push(*i);
             }
         }
@@ -67,8 +67,8 @@ impl Flight {
 }
 
 // Whether a chunk lies in the span.
-fn covers(span: Span, i: u32) -> bool
-    ensures { result ≡ covers (span_of span) i }
+fn within(span: Span, i: u32) -> bool
+    ensures { result ≡ within (span_of span) i }
 {
     span.first <= u64::from(i) && u64::from(i) <= span.last
 }

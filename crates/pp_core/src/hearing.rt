@@ -1,8 +1,8 @@
 //! The messages that come on a channel.
 
 ghost use Rattle.std.specs.Prelude.{◌≡◌, ◌<◌, ◌≤◌, if◌then◌else◌, Some, length, drop, option_map};
-ghost use Rattle.pp_terms.specs.Messages.{messages_at};
-ghost use Rattle.pp_terms.specs.Descriptor.{chunks_of};
+ghost use Rattle.pp_terms.specs.format.Messages.{messages_at};
+ghost use Rattle.pp_terms.specs.format.Descriptor.{chunks_of};
 ghost use Rattle.pp_ranges.specs.Edits.{inserted, removed};
 ghost use Rattle.pp_wire.specs.Views.{span_of, message_of};
 ghost use Rattle.pp_core.specs.Hearing.{named_by, is_outside, is_closing, inside, asks_for, lets_go, overflows, after_message, is_full, hear_rest};

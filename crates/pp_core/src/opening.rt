@@ -1,13 +1,14 @@
 //! A peer is opened.
 
-ghost use Rattle.std.specs.Prelude.{◌≡◌, ◌<◌, ◌≤◌, ◌⊎◌, ℕ, [], length, replicate, slice_index_or, IfOk, OnOk, OnErr, true, false};
+ghost use Rattle.std.specs.Prelude.{◌≡◌, ◌<◌, ◌≤◌, ◌⊎◌, ℕ, [], Some, length, replicate, slice_index_or, IfOk, OnOk, OnErr, true, false};
 ghost use Rattle.std.specs.Result.{result_map_both};
 ghost use Rattle.rand_chacha.specs.ChaCha.{of_seed};
-ghost use Rattle.pp_terms.specs.Book.{IsRooted};
-ghost use Rattle.pp_terms.specs.Descriptor.{IsDescriptor, chunks_of};
-ghost use Rattle.pp_terms.specs.Disk.{IsKnown, moment_of};
-ghost use Rattle.pp_terms.specs.Image.{holds};
-ghost use Rattle.pp_tree.specs.Book.{entry, empty_book, HasRootAlone};
+ghost use Rattle.pp_terms.specs.tree.Book.{IsRooted};
+ghost use Rattle.pp_terms.specs.format.Descriptor.{IsDescriptor, chunks_of};
+ghost use Rattle.pp_terms.specs.disk.Disk.{IsKnown, Throughout, moment_of};
+ghost use Rattle.pp_terms.specs.disk.Image.{is_found, StandsIn};
+ghost use Rattle.pp_tree.specs.Book.{entry, empty_book, IsBookOf, HasRootAlone};
+ghost use Rattle.pp_scan.specs.Look.{SyncsAtMost};
 ghost use Rattle.pp_scan.specs.Holding.{is_there};
 ghost use Rattle.pp_scan.specs.Scan.{HasFound};
 ghost use Rattle.pp_store.specs.Keep.{KeepsDisk};
@@ -76,7 +77,7 @@ fn make_rooms(alloc: Global, descriptor: &Descriptor, book: &mut Book) -> Result
     ensures datagram { IfOk result (λ r. length r.datagram.items ≡ 16384) }
     ensures told { IfOk result (λ r. (r.told.chunks ≡ chunks_of descriptor.now) × (r.told.some ≡ false)) }
     ensures alone { OnOk result (HasRootAlone descriptor.now (entry book.new)) }
-    ensures chunks { OnOk result (book.new.chunks ≡ chunks_of descriptor.now) }
+    ensures descriptor { OnOk result (book.new.descriptor ≡ Some descriptor.now) }
     ensures err { OnErr result (book.new ≡ book.old) }
     ensures valid { IsDescriptor descriptor.now }
 {
@@ -113,9 +114,12 @@ impl Peer {
         ensures found { HasOpened descriptor.now (D.state disk.old) (D.state disk.new) result }
         ensures opened { IsKnown (D.state disk.old)
             → OnOk result (IsOpened descriptor.now (D.state disk.old).history (D.state disk.new).history) }
-        // Exactly the chunks are committed that were held.
+        // Whatever it answers, a file that isn't empty is not written to, and synced once at the most.
+        ensures unwritten { IsKnown (D.state disk.old) → 0 < length (D.state disk.old).history.reads
+            → SyncsAtMost (D.state disk.old).history (D.state disk.new).history }
+        // Exactly the chunks are committed that are found in what reads gave.
         ensures held { IsKnown (D.state disk.old) → IfOk result (λ p. (i : ℕ) → i < chunks_of descriptor.now
-            → slice_index_or p.committed i false ≡ holds descriptor.now (D.state disk.old).history.reads i) }
+            → slice_index_or p.committed i false ≡ is_found descriptor.now (D.state disk.old).history.reads i) }
         // Each committed chunk is there,
         ensures there { IsKnown (D.state disk.old) → IfOk result (λ p. (i : ℕ) → slice_index_or p.committed i false ≡ true
             → is_there descriptor.now (D.state disk.new).history.reads (entry book.new) i ≡ true) }
@@ -123,7 +127,12 @@ impl Peer {
         ensures kept { IsKnown (D.state disk.old) → IfOk result (λ p. AllStand descriptor.now p.committed (D.state disk.new).history) }
         ensures goes_on { IsKnown (D.state disk.old) → GoesOn descriptor.now (D.state disk.old).history (D.state disk.new).history }
         ensures disk { KeepsDisk (D.state disk.old) (D.state disk.new) }
-        ensures book { (book.new ≡ empty_book) ⊎ IsRooted descriptor.now (entry book.new) }
+        // A chunk that stood in every image is committed.
+        ensures taken { IsKnown (D.state disk.old) → IfOk result (λ p. (i : ℕ)
+            → Throughout (D.state disk.old).history (moment_of (D.state disk.old).history) (λ image. StandsIn descriptor.now image i)
+            → slice_index_or p.committed i false ≡ true) }
+        ensures book { (book.new ≡ empty_book) ⊎ IsBookOf descriptor.now book.new }
+        ensures filled { OnOk result (IsBookOf descriptor.now book.new) }
     {
         let Ok(rooms) = make_rooms(alloc, descriptor, book) else {
             return Err(OpenFault::Memory);

@@ -2,18 +2,18 @@
 
 ghost use Rattle.std.specs.Prelude.{◌≡◌, ◌<◌, ◌≤◌, ◌⊎◌, ◌∷◌, ℕ, List, true, false, max, length, IsOk, MatchBool};
 ghost use Rattle.pp_terms.specs.Count.{HasRisen};
-ghost use Rattle.pp_terms.specs.Disk.{moment_of};
+ghost use Rattle.pp_terms.specs.disk.Disk.{moment_of};
 ghost use Rattle.pp_outside.specs.Arrivals.{IsEvent};
 ghost use Rattle.pp_core.specs.Events.{turned, reached, after_event, after_refusal};
 ghost use Rattle.pp_core.specs.Counting.{rise};
 ghost use Rattle.pp_core.specs.Sends.{Sends, Causes, OwesNone, LeavesNone, HasReplied, ServesNext, HasServed, HasFlushed, asked_count};
 ghost use Rattle.pp_core.specs.Serving.{HasPaths, ReadsAlone};
-ghost use Rattle.pp_terms.specs.Descriptor.{chunks_of};
+ghost use Rattle.pp_terms.specs.format.Descriptor.{chunks_of};
 ghost use Rattle.pp_core.specs.Opening.{new_state};
 ghost use Rattle.pp_core.specs.Standing.{StandsFor};
-ghost use Rattle.pp_terms.specs.Book.{LookUp};
+ghost use Rattle.pp_terms.specs.tree.Book.{LookUp};
 ghost use Rattle.pp_tree.specs.Book.{entry};
-ghost use Rattle.pp_terms.specs.Traffic.{Record};
+ghost use Rattle.pp_terms.specs.format.Traffic.{Record};
 ghost use Rattle.pp_outside.specs.Outside.{record_of};
 
 use crate::channel::Channel;

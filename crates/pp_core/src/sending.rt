@@ -2,10 +2,11 @@
 
 ghost use Rattle.std.specs.Prelude.{◌≡◌, ◌<◌, ◌≤◌, false, length};
 ghost use Rattle.std.specs.List.{AllByRecursion};
-ghost use Rattle.pp_terms.specs.Descriptor.{chunks_of};
-ghost use Rattle.pp_terms.specs.Disk.{moment_of};
+ghost use Rattle.pp_terms.specs.format.Descriptor.{chunks_of};
+ghost use Rattle.pp_terms.specs.disk.Disk.{moment_of};
 ghost use Rattle.pp_core.specs.Sending.{is_sent, is_unsent, is_unheld, is_unread, is_damaged, owes_reply, Replies, may_deliver, is_launched, Launches};
-ghost use Rattle.pp_core.specs.Writing.{path_nodes, IsGiven};
+ghost use Rattle.pp_core.specs.Writing.{path_nodes};
+ghost use Rattle.pp_traffic.specs.Laws.{IsInBook};
 ghost use Rattle.pp_tree.specs.Book.{entry};
 
 use crate::channel::Channel;
@@ -133,7 +134,7 @@ pub(crate) fn deliver<D: Disk, L: Link>(
     requires chunks { told.now.chunks ≡ chunks_of descriptor.now }
     requires none { told.now.some ≡ false }
     requires within { i < chunks_of descriptor.now }
-    requires given { AllByRecursion (IsGiven descriptor.now (entry book.now)) (path_nodes descriptor.now i) }
+    requires given { AllByRecursion (IsInBook descriptor.now (entry book.now)) (path_nodes descriptor.now i) }
     requires room { length out.old ≡ 16384 }
     requires some { 0 < length bytes.now }
     requires most { length bytes.now ≤ descriptor.now.chunk }

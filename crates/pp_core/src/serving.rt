@@ -1,7 +1,7 @@
 //! A chunk that is asked for, as it is read and sent.
 
 ghost use Rattle.std.specs.Prelude.{◌≡◌, ℕ, ◌<◌, true, false, length, slice_index_or, MatchOption};
-ghost use Rattle.pp_terms.specs.Descriptor.{chunks_of};
+ghost use Rattle.pp_terms.specs.format.Descriptor.{chunks_of};
 ghost use Rattle.pp_tree.specs.Book.{entry};
 ghost use Rattle.pp_requests.specs.Lists.{IsLeast, chunk_count};
 ghost use Rattle.pp_core.specs.Serving.{HasPaths, ReadsAlone, Served, ServesLeast};

@@ -3,8 +3,8 @@
 ghost use Rattle.std.specs.Prelude.{◌≡◌, ◌≤◌, ◌==◌, ◌||◌, not, false, length, drop, take, Some, None};
 ghost use Rattle.std.specs.Int.{w32, from_be_bytes};
 ghost use Rattle.rand_chacha.specs.ChaCha.{next_word};
-ghost use Rattle.pp_terms.specs.Descriptor.{chunks_of};
-ghost use Rattle.pp_terms.specs.Messages.{messages_at};
+ghost use Rattle.pp_terms.specs.format.Descriptor.{chunks_of};
+ghost use Rattle.pp_terms.specs.format.Messages.{messages_at};
 ghost use Rattle.pp_traffic.specs.Life.{fits};
 ghost use Rattle.pp_options.specs.Views.{options_of};
 ghost use Rattle.pp_wire.specs.Views.{kind_of};

@@ -2,15 +2,16 @@
 
 ghost use Rattle.std.specs.Prelude.{◌≡◌, ◌<◌, ◌≤◌, ◌+◌, ◌*◌, ◌^◌, ◌++◌, ◌∷◌, [], ◌⊎◌, false, map, length, take, IfOk, OnErr};
 ghost use Rattle.std.specs.List.{AllByRecursion};
-ghost use Rattle.pp_terms.specs.Descriptor.{chunks_of};
-ghost use Rattle.pp_terms.specs.Messages.{spell, IsFull, AtMostFull, IsNamed, Handshake, Have, Integrity, Data};
+ghost use Rattle.pp_terms.specs.format.Descriptor.{chunks_of};
+ghost use Rattle.pp_terms.specs.format.Messages.{spell, IsFull, AtMostFull, IsNamed, Handshake, Have, Integrity, Data};
 ghost use Rattle.pp_tree.specs.Book.{entry};
 ghost use Rattle.pp_tree.specs.Method.{method_of};
 ghost use Rattle.pp_tree.specs.Node.{node_of};
 ghost use Rattle.pp_wire.specs.Views.{span_of, message_of};
 ghost use Rattle.pp_wire.specs.Put.{CanPut, NamesChunks};
 ghost use Rattle.pp_core.specs.Announcing.{HasNews, WritesReply};
-ghost use Rattle.pp_core.specs.Writing.{IsFront, IsWritten, own_options, span_under, hash_of, path_nodes, IsGiven, delivery};
+ghost use Rattle.pp_core.specs.Writing.{IsFront, IsWritten, own_options, span_under, hash_of, path_nodes, delivery};
+ghost use Rattle.pp_traffic.specs.Laws.{IsInBook};
 
 use crate::announcing::next_range;
 use pp_options::Options;
@@ -135,7 +136,7 @@ fn put_hashes(
     out: &mut [u8],
     at: usize,
 ) -> usize
-    requires given { AllByRecursion (IsGiven descriptor.now (entry book.now)) (map node_of nodes.now) }
+    requires given { AllByRecursion (IsInBook descriptor.now (entry book.now)) (map node_of nodes.now) }
     requires few { length nodes.now ≤ 48 }
     requires room { at + 2352 ≤ length out.old }
     ensures ends { result ≤ at + 2352 }
@@ -207,7 +208,7 @@ pub(crate) fn write_delivery(
     requires chunks { told.now.chunks ≡ chunks_of descriptor.now }
     requires none { told.now.some ≡ false }
     requires within { i < chunks_of descriptor.now }
-    requires given { AllByRecursion (IsGiven descriptor.now (entry book.now)) (path_nodes descriptor.now i) }
+    requires given { AllByRecursion (IsInBook descriptor.now (entry book.now)) (path_nodes descriptor.now i) }
     requires room { length out.old ≡ 16384 }
     requires some { 0 < length bytes.now }
     requires most { length bytes.now ≤ descriptor.now.chunk }

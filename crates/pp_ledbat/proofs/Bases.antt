@@ -1,11 +1,12 @@
 -- The base of the delays is at most the current one: each of the last samples stands in one of as many of the last minutes.
 use Rattle.std.proofs.Common.{◌≡◌, ◌⊎◌, inl, inr, ℕ, zero, suc, ◌+◌, ◌≤◌, min, ◌==◌, Bool, true, false, cond, List, [], ◌∷◌, take, map, length, refl, arith}
 use Rattle.std.specs.List.{fold}
-use Rattle.pp_terms.specs.Messages.{Message, Data, Ack}
+use Rattle.pp_terms.specs.format.Messages.{Message, Data, Ack}
 use Rattle.pp_traffic.specs.declared.entries.Minute.{Minute}
 use Rattle.pp_traffic.specs.Story.{Line, Heard, Said, Taken}
 use Rattle.pp_traffic.specs.Delays.{Delays, sample_of, is_near, minute_of, noted, sampled, least}
 use Rattle.pp_traffic.specs.Meter.{Meter, hits, settled, is_due, timed_out, heard_by, said_by, meter}
+use Rattle.pp_traffic.proofs.Measures.{fold_least}
 use Rattle.pp_ledbat.specs.Laws.{BaseIsLeast}
 
 -- one of the first minutes, so many, is at most the sample
@@ -90,22 +91,18 @@ said_kept : (now : ℕ) (message : Message) (m : Meter) → IsKept m.delays → 
 said_kept now (Data i sent_at bytes) m is = is
 said_kept now _ m is = is
 
-meter_kept : (chunk opened : ℕ) (story : List Line) → IsKept (meter chunk opened story).delays
-meter_kept chunk opened [] = record { all = tt; none = λ e. refl }
-meter_kept chunk opened (Heard now message ∷ before) = heard_kept now message (meter chunk opened before) (meter_kept chunk opened before)
-meter_kept chunk opened (Said now message ∷ before) = said_kept now message (meter chunk opened before) (meter_kept chunk opened before)
-meter_kept chunk opened (Taken now ∷ before) =
-    either_kept (is_due now (meter chunk opened before)) (timed_out now (meter chunk opened before)) (meter chunk opened before)
-    (meter_kept chunk opened before) (meter_kept chunk opened before)
+meter_kept : (chunk : ℕ) (story : List Line) → IsKept (meter chunk story).delays
+meter_kept chunk [] = record { all = tt; none = λ e. refl }
+meter_kept chunk (Heard now message ∷ before) = heard_kept now message (meter chunk before) (meter_kept chunk before)
+meter_kept chunk (Said now message ∷ before) = said_kept now message (meter chunk before) (meter_kept chunk before)
+meter_kept chunk (Taken now ∷ before) =
+    either_kept (is_due now (meter chunk before)) (timed_out now (meter chunk before)) (meter chunk before)
+    (meter_kept chunk before) (meter_kept chunk before)
 
 -- ---- the least of each
 
 abbrev leasts : List Minute → List ℕ
 leasts minutes = map (λ minute. minute.least) minutes
-
-fold_least : (x : ℕ) (xs : List ℕ) → fold min x xs ≤ x
-fold_least x [] = omega arith
-fold_least x (y ∷ ys) = omega (arith, fold_least (min x y) ys)
 
 fold_below : (x n sample : ℕ) (minutes : List Minute) → IsAbove n sample minutes → fold min x (leasts minutes) ≤ sample
 fold_below x zero sample minutes is = absurd is
@@ -131,7 +128,7 @@ least_above (sample ∷ samples) minutes all none =
     fold_above (least (leasts minutes)) sample 2 samples minutes refl (least_below 1 sample minutes all.0) all.1
 
 pub base_is_least : BaseIsLeast
-base_is_least chunk opened story =
-    let m = meter chunk opened story in
-    let kept = meter_kept chunk opened story in
+base_is_least chunk story =
+    let m = meter chunk story in
+    let kept = meter_kept chunk story in
     least_above m.delays.samples m.delays.minutes kept.all kept.none

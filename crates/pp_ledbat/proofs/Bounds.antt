@@ -1,7 +1,7 @@
 -- The bounds of a window.
 use Rattle.std.proofs.Common.{◌≡◌, ℕ, ◌+◌, ◌*◌, ◌≤◌, min, max, Bool, true, false, cond, pos, ◌+ℤ◌, List, [], ◌∷◌, refl, sym, subst, arith, ◌==◌}
 use Rattle.std.specs.Int.{int_min}
-use Rattle.pp_terms.specs.Messages.{Message, Data, Ack}
+use Rattle.pp_terms.specs.format.Messages.{Message, Data, Ack}
 use Rattle.pp_traffic.specs.Story.{Line, Heard, Said, Taken}
 use Rattle.pp_traffic.specs.Gain.{gain, gained, natural}
 use Rattle.pp_traffic.specs.Delays.{sample_of, is_near, sampled, queuing}
@@ -78,18 +78,18 @@ said_fine : (now chunk : ℕ) (message : Message) (m : Meter) → IsFine chunk m
 said_fine now chunk (Data i sent_at bytes) m is = record { same = is.same; bounded = is.bounded }
 said_fine now chunk _ m is = is
 
-meter_fine : (chunk opened : ℕ) (story : List Line) → IsFine chunk (meter chunk opened story)
-meter_fine chunk opened [] = record { same = refl; bounded = record { least = omega arith; most = omega arith } }
-meter_fine chunk opened (Heard now message ∷ before) = heard_fine now chunk message (meter chunk opened before) (meter_fine chunk opened before)
-meter_fine chunk opened (Said now message ∷ before) = said_fine now chunk message (meter chunk opened before) (meter_fine chunk opened before)
-meter_fine chunk opened (Taken now ∷ before) =
-    either_fine (is_due now (meter chunk opened before)) chunk (timed_out now (meter chunk opened before)) (meter chunk opened before)
-    (timed_out_fine now chunk (meter chunk opened before) (meter_fine chunk opened before)) (meter_fine chunk opened before)
+meter_fine : (chunk : ℕ) (story : List Line) → IsFine chunk (meter chunk story)
+meter_fine chunk [] = record { same = refl; bounded = record { least = omega arith; most = omega arith } }
+meter_fine chunk (Heard now message ∷ before) = heard_fine now chunk message (meter chunk before) (meter_fine chunk before)
+meter_fine chunk (Said now message ∷ before) = said_fine now chunk message (meter chunk before) (meter_fine chunk before)
+meter_fine chunk (Taken now ∷ before) =
+    either_fine (is_due now (meter chunk before)) chunk (timed_out now (meter chunk before)) (meter chunk before)
+    (timed_out_fine now chunk (meter chunk before) (meter_fine chunk before)) (meter_fine chunk before)
 
 pub windows_are_bounded : WindowsAreBounded
 windows_are_bounded = record {
-  least = λ chunk opened story. (meter_fine chunk opened story).bounded.least;
-  most = λ chunk opened story. (meter_fine chunk opened story).bounded.most;
+  least = λ chunk story. (meter_fine chunk story).bounded.least;
+  most = λ chunk story. (meter_fine chunk story).bounded.most;
   moved_least = gained_least;
   moved_most = gained_most;
 }

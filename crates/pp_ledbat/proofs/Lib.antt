@@ -2,6 +2,5 @@ pub mod Samples
 pub mod Bases
 pub mod Bounds
 pub mod Timeouts
-pub mod Openings
 pub mod Calls
 pub mod Fresh

@@ -1,16 +1,10 @@
 -- Worked examples of windows. Their values are of a plain program that keeps every chunk that was ever sent.
 use Rattle.std.specs.Prelude.{◌≡◌, ℕ, List, [], ◌∷◌}
-use Rattle.pp_terms.specs.Messages.{Data, Ack}
-use Rattle.pp_traffic.specs.Story.{Line, Heard, Said, Taken}
+use Rattle.pp_traffic.specs.Story.{Line, Taken}
 use Rattle.pp_traffic.specs.Gain.{gained}
 use Rattle.pp_traffic.specs.Trips.{no_trips, timed}
 use Rattle.pp_traffic.specs.Meter.{flight, half_of, meter}
-
-abbrev pub sent_at : (now chunk : ℕ) → Line
-sent_at now chunk = Said now (Data chunk now [])
-
-abbrev pub acked_at : (now first last delay : ℕ) → Line
-acked_at now first last delay = Heard now (Ack (record { first = first; last = last }) delay)
+use Rattle.pp_traffic.specs.FatesExamples.{sent_at, acked_at}
 
 -- fifty lines of one story of chunks of 1024 bytes, the newest first
 abbrev pub fifty : List Line
@@ -36,7 +30,7 @@ fifty =
 -- the window, the flight and the timeout after each line
 abbrev pub readings : List Line → List (ℕ × ℕ × ℕ)
 readings [] = []
-readings (line ∷ before) = let m = meter 1024 0 (line ∷ before) in (m.window, flight m, m.trips.timeout) ∷ readings before
+readings (line ∷ before) = let m = meter 1024 (line ∷ before) in (m.window, flight m, m.trips.timeout) ∷ readings before
 
 pub record WindowExamples : Type 0 where
   -- the delay at the base, at half the target, at the target and at twice it; and the greatest window

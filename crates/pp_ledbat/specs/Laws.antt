@@ -1,11 +1,12 @@
 -- Laws on the congestion window of a story.
 use Rattle.std.specs.Prelude.{◌≡◌, ◌↔◌, ℕ, ◌+◌, ◌-◌, ◌*◌, ◌%◌, ◌^◌, ◌<◌, ◌≤◌, nat_lt, true, false, if◌then◌else◌, ℤ, pos, ◌+ℤ◌, ◌-ℤ◌, nat_abs, Some, List, [], ◌∷◌, length}
 use Rattle.std.specs.List.{AllByRecursion}
-use Rattle.pp_terms.specs.Messages.{Span, Data, Ack}
+use Rattle.pp_terms.specs.format.Messages.{Data, Ack}
+use Rattle.pp_terms.specs.tree.Range.{Span}
 use Rattle.pp_traffic.specs.Story.{Line, Heard, Said, Taken}
 use Rattle.pp_traffic.specs.Gain.{gained}
 use Rattle.pp_traffic.specs.Delays.{sample_of, is_near, current, base}
-use Rattle.pp_traffic.specs.Meter.{Meter, new_meter, sent, is_flying, has_room, hits, flying, loses, acked, is_due, timed_out, ended, meter}
+use Rattle.pp_traffic.specs.Meter.{Meter, new_meter, sent, hits, flying, loses, acked, is_due, timed_out, ended, meter}
 
 -- how far a delay is above the first one, modulo 2 ^ 64; and a number of 64 bits as a signed one
 abbrev pub apart : (first delay : ℕ) → ℕ
@@ -23,19 +24,19 @@ pub record SamplesAreSigned : Type 0 where
 
 -- The base is at most the current delay, so their difference is the queuing delay.
 abbrev pub BaseIsLeast : Type 0
-BaseIsLeast = (chunk opened : ℕ) (story : List Line) → base (meter chunk opened story).delays ≤ current (meter chunk opened story).delays
+BaseIsLeast = (chunk : ℕ) (story : List Line) → base (meter chunk story).delays ≤ current (meter chunk story).delays
 
 -- A window stays from one chunk to 512; one that moved is at least two.
 pub record WindowsAreBounded : Type 0 where
-  pub least : (chunk opened : ℕ) (story : List Line) → chunk ≤ (meter chunk opened story).window
-  pub most : (chunk opened : ℕ) (story : List Line) → (meter chunk opened story).window ≤ 512 * chunk
+  pub least : (chunk : ℕ) (story : List Line) → chunk ≤ (meter chunk story).window
+  pub most : (chunk : ℕ) (story : List Line) → (meter chunk story).window ≤ 512 * chunk
   pub moved_least : (window acked queuing chunk flight : ℕ) → 2 * chunk ≤ gained window acked queuing chunk flight
   pub moved_most : (window acked queuing chunk flight : ℕ) → gained window acked queuing chunk flight ≤ 512 * chunk
 
 -- What flies was overtaken by fewer than three, so where none of it is acknowledged all of it flies on.
 pub record FlightsAreFresh : Type 0 where
-  pub few : (chunk opened : ℕ) (story : List Line) → AllByRecursion (λ e. e.overtaken < 3) (meter chunk opened story).entries
-  pub same : (first last chunk opened : ℕ) (story : List Line) → let entries = (meter chunk opened story).entries in
+  pub few : (chunk : ℕ) (story : List Line) → AllByRecursion (λ e. e.overtaken < 3) (meter chunk story).entries
+  pub same : (first last chunk : ℕ) (story : List Line) → let entries = (meter chunk story).entries in
       hits first last entries ≡ 0 → (flying first last entries ≡ entries) × (loses first last entries ≡ false)
 
 -- After a timeout nothing flies, and looking for one again, or an ACK, changes nothing.
@@ -46,30 +47,14 @@ pub record TimeoutsSettle : Type 0 where
   pub ends_twice : (now : ℕ) (m : Meter) → ended now (ended now m) ≡ ended now m
   pub ignores : (now first last delay later : ℕ) (m : Meter) → acked first last delay later (timed_out now m) ≡ timed_out now m
 
--- Two meters are alike but for the moment from which a timeout counts while nothing flies.
-pub record AreAlike (m n : Meter) : Type 0 where
-  pub chunk : m.chunk ≡ n.chunk
-  pub window : m.window ≡ n.window
-  pub entries : m.entries ≡ n.entries
-  pub delays : m.delays ≡ n.delays
-  pub trips : m.trips ≡ n.trips
-  pub halved : m.halved ≡ n.halved
-  pub timer : is_flying m ≡ true → m.timer ≡ n.timer
-
--- So the moment of the opening decides nothing.
-pub record OpeningsAreAlike : Type 0 where
-  pub alike : (chunk a b : ℕ) (story : List Line) → AreAlike (meter chunk a story) (meter chunk b story)
-  pub room : (chunk a b : ℕ) (story : List Line) → has_room (meter chunk a story) ≡ has_room (meter chunk b story)
-  pub due : (chunk a b now : ℕ) (story : List Line) → is_due now (meter chunk a story) ≡ is_due now (meter chunk b story)
-
 -- What a window's calls leave stands for the same calls as lines of a story: `new` for none, and each other call for one more.
 pub record CallsStand : Type 0 where
-  pub new : (chunk opened : ℕ) → new_meter chunk opened ≡ meter chunk opened []
-  pub sends : (chunk opened i now sent_at : ℕ) (bytes : List ℕ) (story : List Line) (m : Meter) → m ≡ meter chunk opened story
-      → sent i now m ≡ meter chunk opened (Said now (Data i sent_at bytes) ∷ story)
-  pub hears : (chunk opened delay now : ℕ) (span : Span) (story : List Line) (m : Meter) → m ≡ meter chunk opened story
-      → acked span.first span.last delay now m ≡ meter chunk opened (Heard now (Ack span delay) ∷ story)
-  pub times_out : (chunk opened now : ℕ) (story : List Line) (m : Meter) → m ≡ meter chunk opened story → is_due now m ≡ true
-      → timed_out now m ≡ meter chunk opened (Taken now ∷ story)
-  pub waits : (chunk opened now : ℕ) (story : List Line) (m : Meter) → m ≡ meter chunk opened story → is_due now m ≡ false
-      → m ≡ meter chunk opened (Taken now ∷ story)
+  pub new : (chunk : ℕ) → new_meter chunk ≡ meter chunk []
+  pub sends : (chunk i now sent_at : ℕ) (bytes : List ℕ) (story : List Line) (m : Meter) → m ≡ meter chunk story
+      → sent i now m ≡ meter chunk (Said now (Data i sent_at bytes) ∷ story)
+  pub hears : (chunk delay now : ℕ) (span : Span) (story : List Line) (m : Meter) → m ≡ meter chunk story
+      → acked span.first span.last delay now m ≡ meter chunk (Heard now (Ack span delay) ∷ story)
+  pub times_out : (chunk now : ℕ) (story : List Line) (m : Meter) → m ≡ meter chunk story → is_due now m ≡ true
+      → timed_out now m ≡ meter chunk (Taken now ∷ story)
+  pub waits : (chunk now : ℕ) (story : List Line) (m : Meter) → m ≡ meter chunk story → is_due now m ≡ false
+      → m ≡ meter chunk (Taken now ∷ story)

@@ -1,6 +1,6 @@
 //! Laws on the window.
 
-ghost use Rattle.pp_ledbat.specs.Laws.{SamplesAreSigned, BaseIsLeast, WindowsAreBounded, FlightsAreFresh, TimeoutsSettle, OpeningsAreAlike, CallsStand};
+ghost use Rattle.pp_ledbat.specs.Laws.{SamplesAreSigned, BaseIsLeast, WindowsAreBounded, FlightsAreFresh, TimeoutsSettle, CallsStand};
 ghost use Rattle.pp_ledbat.specs.Examples.{WindowExamples};
 
 /// What is so of every window, whatever its story (RFC 6817, section 2.4). It does nothing.
@@ -10,7 +10,6 @@ pub fn laws_of_windows()
     ensures bounds { WindowsAreBounded }
     ensures flights { FlightsAreFresh }
     ensures timeouts { TimeoutsSettle }
-    ensures openings { OpeningsAreAlike }
     ensures calls { CallsStand }
 {}
 

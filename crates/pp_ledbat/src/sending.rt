@@ -126,10 +126,10 @@ fn fly(entries: &mut ArrayVec<Entry, 512>, range: ChunkRange, count: usize) -> b
 
 impl Window {
     /// A window of two chunks, of a size from 1 to 8192 bytes, with nothing in flight.
-    pub fn new(chunk: u32, now: u64) -> Window
+    pub fn new(chunk: u32) -> Window
         requires positive { 0 < chunk }
         requires chunk { chunk ≤ 8192 }
-        ensures { result ≡ terms.new_meter chunk now }
+        ensures { result ≡ terms.new_meter chunk }
     {
         Window {
             chunk,
@@ -138,7 +138,7 @@ impl Window {
             delays: DelayHistory::new(),
             trips: RoundTrips::new(),
             halved: None,
-            timer: now,
+            timer: 0,
         }
     }
 

@@ -44,7 +44,7 @@ fn made(window: &mut Window, call: Call) -> Option<u64> {
 type Row = (Call, u64, u64, u64, u64);
 
 fn keeps_to(rt: &impl Abort, rows: &[Row]) {
-    let mut window = Window::new(1024, 0);
+    let mut window = Window::new(1024);
     for (call, answer, bytes, flight, timeout) in rows {
         assert_eq!(rt; made(&mut window, *call), Some(*answer), "{call:?}");
         assert_eq!(rt; window.window(), *bytes, "the window after {call:?}");

@@ -1,20 +1,22 @@
 -- How a run ended, from how the command ended that its words spell.
-use Rattle.std.proofs.Common.{◌≡◌, ◌⊎◌, inl, inr, ℕ, List, codes, refl, sym, ◌∙◌, ap, subst}
-use Rattle.pp_terms.specs.Book.{LookUp, IsRooted}
-use Rattle.pp_terms.specs.Commands.{Command, Import, Seed, Fetch, Check, Export, Replay, Rehearse}
-use Rattle.pp_terms.specs.CommandLine.{Spells, IsImport, IsSeed, IsOnStore, IsOneOf, IsFirstWrong}
-use Rattle.pp_terms.specs.Descriptor.{Descriptor}
-use Rattle.pp_terms.specs.Disk.{DiskState}
-use Rattle.pp_terms.specs.Stream.{SourceState, SinkState}
-use Rattle.pp_terms.specs.Traffic.{Address, LinkState}
-use Rattle.pp_terms.specs.Usage as wrong
+use Rattle.std.proofs.Common.{◌≡◌, ◌⊎◌, ℕ, List, codes, refl, sym, ◌∙◌, subst}
+use Rattle.pp_terms.specs.command.Commands.{Command, Import, Seed, Fetch, Check, Export, Replay, Rehearse}
+use Rattle.pp_terms.specs.command.CommandLine.{Spells, IsImport, IsSeed, IsOnStore, IsOneOf, IsFirstWrong}
+use Rattle.pp_terms.specs.command.Stream.{SourceState, SinkState}
+use Rattle.pp_terms.specs.command.Usage as wrong
+use Rattle.pp_terms.specs.disk.Disk.{DiskState, IsKnown, GainsName}
+use Rattle.pp_terms.specs.format.Descriptor.{Descriptor}
+use Rattle.pp_terms.specs.format.Traffic.{LinkState}
+use Rattle.pp_tree.specs.Book.{BookState, IsBookOf}
 use Rattle.pp_words.proofs.OneCommand.{one_command}
 use Rattle.pp_words.proofs.OneReading.{command_not_wrong}
 use Rattle.pp_node.specs.Built.{built}
-use Rattle.pp_node.specs.Run.{ImportEnds}
-use Rattle.pp_node.specs.Checking.{CheckEnds}
-use Rattle.pp_node.specs.Exporting.{ExportEnds}
-use Rattle.pp_node.specs.Promising.{SeedEnds}
+use Rattle.pp_node.specs.Run.{ImportsIn, IsImportRun, ImportEnds}
+use Rattle.pp_node.specs.Looking.{IsUnwritten}
+use Rattle.pp_node.specs.Outside.{Outside, outside}
+use Rattle.pp_node.specs.Checking.{ChecksIn, CheckEnds}
+use Rattle.pp_node.specs.Exporting.{ExportsIn, ExportEnds}
+use Rattle.pp_node.specs.Promising.{SeedWords, SeedsIn, SeedEnds}
 use Rattle.pp_node.specs.Commanding.{HasEnded}
 use Rattle.pp_node.specs.Status.{number_of}
 use Rattle.pp_node.specs.declared.status.Status.{Status}
@@ -25,63 +27,79 @@ use Rattle.pp_node.specs.declared.status.Status.TheVariants.{Done, Usage, NotASt
 pub none_spelled : (words : List (List ℕ)) (u : wrong.Usage) → IsFirstWrong built words u → (c : Command) → IsOneOf built c → Spells words c → ⊥
 none_spelled words u first c one spelled = command_not_wrong built words c u one spelled first
 
--- ---- a command's end
+-- ---- a command's end, of what its call says
 
-pub rooted_as : (B : Type 0) (view : B → LookUp) (d : Descriptor) (book book' : B) → (book' ≡ book) ⊎ IsRooted d (view book') → (view book' ≡ view book) ⊎ IsRooted d (view book')
-rooted_as B view d book book' (inl same) = inl (ap view same)
-rooted_as B view d book book' (inr rooted) = inr rooted
+module _ (status : Status) (store : List ℕ) (link : LinkState) (disk disk' : DiskState) (sink sink' : SinkState) where
+  pub import_ended : (chunk : ℕ) (source source' : SourceState) (book : BookState)
+      → ((l : LinkState) (b : BookState) → ImportsIn status chunk (outside disk l source sink b) (outside disk' l source' sink' b))
+      → (IsKnown disk → GainsName disk.history.names store disk'.history.names) → IsImportRun status chunk source source' disk disk'
+      → ImportEnds (number_of status) store chunk (outside disk link source sink book) (outside disk' link source' sink' book)
+  import_ended chunk source source' book ends named run = record { status = status; number = refl; ends = ends link book; named = named; run = run }
 
-module _ (words : List (List ℕ)) (command : Command) (status : Status) (result : ℕ) (random : List ℕ) (source source' : SourceState) (sink sink' : SinkState) (disk disk' : DiskState)
-    (seen seen' : LinkState) (book book' : LookUp) (read : Spells words command) (number : result ≡ number_of status)
-    (ended : HasEnded command status random source source' sink sink' disk disk' seen seen' book book') where
-  ended_as : (c : Command) → Spells words c → HasEnded c status random source source' sink sink' disk disk' seen seen' book book'
-  ended_as c spelled = subst (λ (x : Command). HasEnded x status random source source' sink sink' disk disk' seen seen' book book') (one_command words command c read spelled) ended
+  pub check_ended : (d : Descriptor) (source : SourceState) (book book' : BookState)
+      → ((l : LinkState) (s : SourceState) → ChecksIn status d (outside disk l s sink book) (outside disk' l s sink' book'))
+      → (IsKnown disk → GainsName disk.history.names store disk'.history.names) → IsUnwritten disk disk' → (book' ≡ book) ⊎ IsBookOf d book'
+      → CheckEnds (number_of status) store d (outside disk link source sink book) (outside disk' link source sink' book')
+  check_ended d source book book' ends named unwritten rooted =
+      record { status = status; number = refl; ends = ends link source; named = named; unwritten = unwritten; unread = refl; rooted = rooted }
 
-  pub import_ends : (store : List ℕ) (chunk : ℕ) → IsImport words store chunk → ImportEnds result chunk source source' sink sink' disk disk'
-  import_ends store chunk spelled = let end = ended_as (Import store chunk) spelled in record { status = status; number = number; ends = end.0; run = end.1 }
+  pub export_ended : (d : Descriptor) (source : SourceState) (book book' : BookState)
+      → ((l : LinkState) (s : SourceState) → ExportsIn status d (outside disk l s sink book) (outside disk' l s sink' book'))
+      → (IsKnown disk → GainsName disk.history.names store disk'.history.names) → IsUnwritten disk disk' → (book' ≡ book) ⊎ IsBookOf d book'
+      → ExportEnds (number_of status) store d (outside disk link source sink book) (outside disk' link source sink' book')
+  export_ended d source book book' ends named unwritten rooted =
+      record { status = status; number = refl; ends = ends link source; named = named; unwritten = unwritten; unread = refl; rooted = rooted }
 
-  pub seed_ends : (store : List ℕ) (descriptor : Descriptor) (listen : Address) (turns : ℕ) → IsSeed words store descriptor listen turns
-      → SeedEnds result descriptor random turns source source' sink sink' disk disk' seen seen' book book'
-  seed_ends store descriptor listen turns spelled =
-      let end = ended_as (Seed store descriptor listen turns) spelled in
-      record { status = status; number = number; ends = end.0; promises = end.1; unread = end.2; rooted = end.3 }
+-- ---- a run's end
+
+module _ (words : List (List ℕ)) (command : Command) (status : Status) (result : ℕ) (old new : Outside) (read : Spells words command)
+    (number : result ≡ number_of status) (ended : HasEnded command (number_of status) old new) where
+  ended_as : (c : Command) → Spells words c → HasEnded c result old new
+  ended_as c spelled = subst (λ (n : ℕ). HasEnded c n old new) (sym number)
+      (subst (λ (x : Command). HasEnded x (number_of status) old new) (one_command words command c read spelled) ended)
+
+  pub import_ends : (store : List ℕ) (chunk : ℕ) → IsImport words store chunk → ImportEnds result store chunk old new
+  import_ends store chunk spelled = ended_as (Import store chunk) spelled
+
+  pub seed_ends : (w : SeedWords) → IsSeed words w.store w.descriptor w.listen w.turns → SeedEnds result w old new
+  seed_ends w spelled = ended_as (Seed w.store w.descriptor w.listen w.turns) spelled
 
   pub check_ends : (store : List ℕ) (descriptor : Descriptor) → IsOnStore (codes "check") words store descriptor
-      → CheckEnds result descriptor source source' sink sink' disk disk' book book'
-  check_ends store descriptor spelled =
-      let end = ended_as (Check store descriptor) spelled in
-      record { status = status; number = number; ends = end.0; unwritten = end.1; unread = end.2; rooted = end.3 }
+      → CheckEnds result store descriptor old new
+  check_ends store descriptor spelled = ended_as (Check store descriptor) spelled
 
   pub export_ends : (store : List ℕ) (descriptor : Descriptor) → IsOnStore (codes "export") words store descriptor
-      → ExportEnds result descriptor source source' sink sink' disk disk' book book'
-  export_ends store descriptor spelled =
-      let end = ended_as (Export store descriptor) spelled in
-      record { status = status; number = number; ends = end.0; unwritten = end.1; unread = end.2; rooted = end.3 }
+      → ExportEnds result store descriptor old new
+  export_ends store descriptor spelled = ended_as (Export store descriptor) spelled
 
-  never : (c : Command) → HasEnded c Usage random source source' sink sink' disk disk' seen seen' book book' → ⊥
-  never (Import store chunk) end = end.0
-  never (Seed store descriptor listen turns) end = end.0
-  never (Check store descriptor) end = end.0
-  never (Fetch store descriptor listen turns order peers) end = end
-  never (Export store descriptor) end = end.0
-  never Replay end = end
-  never (Rehearse n) end = end
+usage_only : (s : Status) → number_of s ≡ 1 → s ≡ Usage
+usage_only Usage is = refl
+usage_only Done is = absurd cc
+usage_only NotAStore is = absurd cc
+usage_only Incomplete is = absurd cc
+usage_only DiskFault is = absurd cc
+usage_only LinkFault is = absurd cc
+usage_only SourceFault is = absurd cc
+usage_only SinkFault is = absurd cc
+usage_only NotEmpty is = absurd cc
+usage_only ContentSize is = absurd cc
+usage_only Memory is = absurd cc
+usage_only Damaged is = absurd cc
 
-  usage_only : (s : Status) → number_of s ≡ 1 → s ≡ Usage
-  usage_only Usage is = refl
-  usage_only Done is = absurd cc
-  usage_only NotAStore is = absurd cc
-  usage_only Incomplete is = absurd cc
-  usage_only DiskFault is = absurd cc
-  usage_only LinkFault is = absurd cc
-  usage_only SourceFault is = absurd cc
-  usage_only SinkFault is = absurd cc
-  usage_only NotEmpty is = absurd cc
-  usage_only ContentSize is = absurd cc
-  usage_only Memory is = absurd cc
-  usage_only Damaged is = absurd cc
+-- no command ends as wrong words do
+never : (c : Command) (number : ℕ) (old new : Outside) → number ≡ 1 → HasEnded c number old new → ⊥
+never (Import store chunk) number old new one end =
+    subst (λ (s : Status). ImportsIn s chunk old new) (usage_only end.status (sym end.number ∙ one)) end.ends
+never (Seed store descriptor listen turns) number old new one end =
+    subst (λ (s : Status). SeedsIn s (record { store = store; descriptor = descriptor; listen = listen; turns = turns }) old new end.added) (usage_only end.status (sym end.number ∙ one)) end.ends
+never (Check store descriptor) number old new one end =
+    subst (λ (s : Status). ChecksIn s descriptor old new) (usage_only end.status (sym end.number ∙ one)) end.ends
+never (Fetch store descriptor listen turns order peers) number old new one end = end
+never (Export store descriptor) number old new one end =
+    subst (λ (s : Status). ExportsIn s descriptor old new) (usage_only end.status (sym end.number ∙ one)) end.ends
+never Replay number old new one end = end
+never (Rehearse n) number old new one end = end
 
-  -- no command ends as wrong words do
-  pub no_usage : result ≡ 1 → ⊥
-  no_usage one = never command
-      (subst (λ (s : Status). HasEnded command s random source source' sink sink' disk disk' seen seen' book book') (usage_only status (sym number ∙ one)) ended)
+pub no_usage : (command : Command) (status : Status) (result : ℕ) (old new : Outside) → result ≡ number_of status
+    → HasEnded command (number_of status) old new → result ≡ 1 → ⊥
+no_usage command status result old new number ended one = never command (number_of status) old new (sym number ∙ one) ended

@@ -2,14 +2,14 @@
 use Rattle.std.proofs.Common.{◌≡◌, inl, inr, ⊎_elim, ℕ, ◌+◌, ◌*◌, ◌<◌, ◌≤◌, Bool, true, false, List, [], ◌++◌, length, get_or, take, drop, Result, Ok, Err, refl, sym, ◌∙◌, ap, subst, arith, below_more, length-append, length-drop}
 use Rattle.std.proofs.Math.Seq.{drop-append_seam, take-append-add}
 use Rattle.std.proofs.lemmas.List.{take_all, length-take, get_or_default, take-append-le, drop-append-le}
-use Rattle.pp_terms.specs.Book.{LookUp, IsRooted}
+use Rattle.pp_terms.specs.tree.Book.{LookUp, IsRooted}
 use Rattle.pp_terms.specs.Count.{HasRisen}
-use Rattle.pp_terms.specs.Content.{chunk_of, chunk_length}
-use Rattle.pp_terms.specs.Descriptor.{Descriptor, IsDescriptor, chunks_of}
-use Rattle.pp_terms.specs.Disk.{DiskState, History, IsKnown, IsRead}
-use Rattle.pp_terms.specs.Image.{holds}
-use Rattle.pp_terms.specs.Store.{chunk_place}
-use Rattle.pp_terms.specs.Stream.{SinkState, Gains}
+use Rattle.pp_terms.specs.tree.Content.{chunk_of, chunk_length}
+use Rattle.pp_terms.specs.format.Descriptor.{Descriptor, IsDescriptor, chunks_of}
+use Rattle.pp_terms.specs.disk.Disk.{DiskState, History, IsKnown, IsRead}
+use Rattle.pp_terms.specs.disk.Image.{is_found}
+use Rattle.pp_terms.specs.disk.Store.{chunk_place}
+use Rattle.pp_terms.specs.command.Stream.{SinkState, Gains}
 use Rattle.pp_terms.proofs.Knowing.{known_on}
 use Rattle.pp_tree.proofs.Sizes.{chunk_size_range, chunk_count_holds, chunk_begins}
 use Rattle.pp_scan.specs.Look.{KeepsAll}
@@ -18,12 +18,19 @@ use Rattle.pp_scan.proofs.Reading.{known_after}
 use Rattle.pp_store.specs.declared.reading.ReadFault.{ReadFault}
 use Rattle.pp_store.specs.declared.reading.ReadFault.TheVariants as read
 use Rattle.pp_store.specs.ReadChunk.{HasRead, IsRightChunk}
-use Rattle.pp_node.specs.Looking.{IsOf, IsFound}
+use Rattle.pp_terms.specs.command.Stream.{SourceState}
+use Rattle.pp_terms.specs.format.Traffic.{LinkState}
+use Rattle.pp_tree.specs.Book.{BookState, entry}
+use Rattle.pp_scan.specs.declared.scanning.ScanFault.{ScanFault}
+use Rattle.pp_scan.specs.declared.scanning.ScanFault.TheVariants as scans
+use Rattle.pp_node.specs.Outside.{outside}
+use Rattle.pp_node.specs.Looking.{IsOf, IsFound, HasLooked}
 use Rattle.pp_node.specs.declared.status.Status.{Status}
 use Rattle.pp_node.specs.declared.status.Status.TheVariants as ends
-use Rattle.pp_node.specs.Exporting.{IsChunk, AreChunks, HasPut, IsWhole, IsExported, IsIncomplete, IsReadable, IsDamagedChunk, PutsChunk, ExportsIn, status_of_fault}
+use Rattle.pp_node.specs.Exporting.{IsChunk, AreChunks, HasPut, IsWhole, IsExported, IsIncomplete, IsReadable, IsDamagedChunk, PutsChunk, ExportsIn, status_of_fault, status_of_scan}
 use Rattle.pp_node.specs.declared.exporting.PutFault.{PutFault}
 use Rattle.pp_node.specs.declared.exporting.PutFault.TheVariants.{Disk, Sink, Damaged}
+use Rattle.pp_node.proofs.Looks.{other_since}
 use Rattle.pp_node.proofs.Written.{gains-nil, gains_more}
 
 -- bytes behind whole chunks change none of them
@@ -42,6 +49,12 @@ chunk_next bytes piece chunk n size short =
 some_chunk : (d : Descriptor) → IsDescriptor d → 0 < d.chunk
 some_chunk d valid = let range = chunk_size_range d.chunk valid.chunk_size in omega (arith, range.0)
 
+-- The sink gained the first n chunks and no more.
+pub record Puts (d : Descriptor) (sink sink' : SinkState) (disk disk' : DiskState) (book : LookUp) (n : ℕ) : Type 0 where
+  pub bytes : List ℕ
+  pub chunks : AreChunks d disk disk' book n bytes
+  pub gained : Gains sink.taken bytes sink'.taken
+
 -- as seen from before calls that change nothing but counts
 module _ (d : Descriptor) (old mid seen new : DiskState) (book : LookUp) (known : IsKnown old → IsKnown mid) (found : new.history.found ≡ seen.history.found) where
   pub chunk_seen : (i : ℕ) (bytes : List ℕ) → IsChunk d mid seen book i bytes → IsChunk d old new book i bytes
@@ -57,16 +70,32 @@ module _ (d : Descriptor) (old mid seen new : DiskState) (book : LookUp) (known 
     each = λ i lt. chunk_seen i (chunk_of bytes d.chunk i) (are.each i lt);
   }
 
-  pub put_seen : (sink sink' : SinkState) (n : ℕ) → HasPut d sink sink' mid seen book n → HasPut d sink sink' old new book n
+  pub put_seen : (sink sink' : SinkState) (n : ℕ) → Puts d sink sink' mid seen book n → Puts d sink sink' old new book n
   put_seen sink sink' n put = record { bytes = put.bytes; chunks = chunks_seen n put.bytes put.chunks; gained = put.gained }
 
   pub whole_seen : IsWhole d mid seen → IsWhole d old new
   whole_seen whole = record {
     begins = λ k. subst (IsOf d) (sym found) (whole.begins (known k));
-    holding = λ k i lt. ap (λ (r : List ℕ). holds d r i) found ∙ whole.holding (known k) i lt;
+    holding = λ k i lt. ap (λ (r : List ℕ). is_found d r i) found ∙ whole.holding (known k) i lt;
   }
 
-pub put_none : (d : Descriptor) (sink : SinkState) (disk disk' : DiskState) (book : LookUp) → HasPut d sink sink disk disk' book 0
+-- a damaged chunk, likewise
+pub damaged_seen : (d : Descriptor) (old mid : DiskState) (book : LookUp) → (IsKnown old → IsKnown mid) → (n : ℕ) → IsDamagedChunk d mid book n → IsDamagedChunk d old book n
+damaged_seen d old mid book known n is = record {
+  bytes = is.bytes;
+  found = is.found;
+  kept = is.kept;
+  room = is.room;
+  damaged = record {
+    kept_is = is.damaged.kept_is;
+    found_is = is.damaged.found_is;
+    differ = is.damaged.differ;
+    read = λ k. absurd (is.never (known k));
+  };
+  never = λ k. is.never (known k);
+}
+
+pub put_none : (d : Descriptor) (sink : SinkState) (disk disk' : DiskState) (book : LookUp) → Puts d sink sink disk disk' book 0
 put_none d sink disk disk' book = record {
   bytes = [];
   chunks = record { within = omega arith; size = omega arith; each = λ i lt. absurd (omega arith) };
@@ -92,7 +121,7 @@ module _ (d : Descriptor) (disk disk' : DiskState) (book : LookUp) (n : ℕ) (va
             (subst (IsChunk d disk disk' book n) (sym (chunk_next bytes piece d.chunk n size short)) is);
       }
 
-  pub put_more : (old mid new : SinkState) → HasPut d old mid disk disk' book n → (piece : List ℕ) → IsChunk d disk disk' book n piece → Gains mid.taken piece new.taken → HasPut d old new disk disk' book (n + 1)
+  pub put_more : (old mid new : SinkState) → Puts d old mid disk disk' book n → (piece : List ℕ) → IsChunk d disk disk' book n piece → Gains mid.taken piece new.taken → Puts d old new disk disk' book (n + 1)
   put_more old mid new put piece is gained = record {
     bytes = put.bytes ++ piece;
     chunks = chunks_more put.bytes piece put.chunks is;
@@ -100,9 +129,9 @@ module _ (d : Descriptor) (disk disk' : DiskState) (book : LookUp) (n : ℕ) (va
   }
 
 -- all chunks are the whole content
-pub exported_all : (d : Descriptor) (sink sink' : SinkState) (disk disk' : DiskState) (book : LookUp) → IsDescriptor d → IsWhole d disk disk' → HasPut d sink sink' disk disk' book (chunks_of d)
-    → IsExported d sink sink' disk disk' book
-exported_all d sink sink' disk disk' book valid whole put = record {
+pub exported_all : (d : Descriptor) (sink sink' : SinkState) (disk disk' : DiskState) (link : LinkState) (source : SourceState) (before book : BookState) → IsDescriptor d → IsWhole d disk disk'
+    → Puts d sink sink' disk disk' (entry book) (chunks_of d) → IsExported d (outside disk link source sink before) (outside disk' link source sink' book)
+exported_all d sink sink' disk disk' link source before book valid whole put = record {
   whole = whole;
   content = put.bytes;
   size = let held = chunk_count_holds d.size d.chunk (some_chunk d valid) in omega (arith, put.chunks.size, held.0);
@@ -155,75 +184,75 @@ pub disk_refused : (d : Descriptor) (i : ℕ) (book : LookUp) (disk disk' : Disk
 disk_refused d i book disk disk' out result is does = subst (HasRead ⊥ d i book disk disk' out) is does
 
 -- chunk n stops the writing of the chunks, and those before it were written
-module _ (d : Descriptor) (first disk disk' : DiskState) (old mid new : SinkState) (book : LookUp) (n : ℕ) (valid : IsDescriptor d) (within : n < chunks_of d)
-    (readable : IsReadable d first book) (before : KeepsAll first disk) (keeps : KeepsAll disk disk') (later : old.faults ≤ mid.faults) (put : HasPut d old mid first disk book n) where
+module _ (d : Descriptor) (first disk disk' : DiskState) (old mid new : SinkState) (state : BookState) (n : ℕ) (valid : IsDescriptor d) (within : n < chunks_of d)
+    (readable : IsReadable d first (entry state)) (before : KeepsAll first disk) (keeps : KeepsAll disk disk') (later : old.faults ≤ mid.faults) (put : Puts d old mid first disk (entry state) n) where
+  abbrev nodes : LookUp
+  nodes = entry state
+
   known_then : IsKnown first → IsKnown disk
   known_then = known_after first disk before
 
   found_then : disk'.history.found ≡ disk.history.found
   found_then = ap (λ (h : History). h.found) keeps.same
 
-  put_then : HasPut d old mid first disk' book n
-  put_then = put_seen d first first disk disk' book (λ k. k) found_then old mid n put
+  put_then : Puts d old mid first disk' nodes n
+  put_then = put_seen d first first disk disk' nodes (λ k. k) found_then old mid n put
 
   whole_then : IsWhole d first disk'
-  whole_then = whole_seen d first first first disk' book (λ k. k) (found_then ∙ ap (λ (h : History). h.found) before.same) readable.whole
+  whole_then = whole_seen d first first first disk' nodes (λ k. k) (found_then ∙ ap (λ (h : History). h.found) before.same) readable.whole
 
-  chunk_then : (bytes : List ℕ) → IsChunk d disk disk' book n bytes → IsChunk d first disk' book n bytes
-  chunk_then = chunk_seen d first disk disk' disk' book known_then refl n
+  chunk_then : (bytes : List ℕ) → IsChunk d disk disk' nodes n bytes → IsChunk d first disk' nodes n bytes
+  chunk_then = chunk_seen d first disk disk' disk' nodes known_then refl n
 
-  pub put_on : (result : Result (Unit {0}) PutFault) → result ≡ Ok tt → PutsChunk d n mid new disk disk' book result → HasPut d old new first disk' book (n + 1)
-  put_on result is does = let (piece, chunk, gained) = subst (PutsChunk d n mid new disk disk' book) is does in
-      put_more d first disk' book n valid within old mid new put_then piece (chunk_then piece chunk) gained
+  pub put_on : (result : Result (Unit {0}) PutFault) → result ≡ Ok tt → PutsChunk d n mid new disk disk' nodes result → Puts d old new first disk' nodes (n + 1)
+  put_on result is does = let (piece, chunk, gained) = subst (PutsChunk d n mid new disk disk' nodes) is does in
+      put_more d first disk' nodes n valid within old mid new put_then piece (chunk_then piece chunk) gained
 
-  stopped : (fault : PutFault) → PutsChunk d n mid new disk disk' book (Err fault) → ExportsIn (status_of_fault fault) d old new first disk' book
-  stopped Disk (risen, same) = record {
-    risen = λ below. let r : disk.faults < disk'.faults = risen below in omega (arith, r, before.faults);
-    stopped = inr (n, within, subst (λ (s : SinkState). HasPut d old s first disk' book n) (sym same) put_then, whole_then);
-  }
-  stopped Sink (risen, piece, chunk, part) =
-      let size = length_whole d first disk' book n valid within put_then.bytes put_then.chunks in
+  stopped : (link : LinkState) (source : SourceState) (earlier : BookState) (fault : PutFault) → PutsChunk d n mid new disk disk' nodes (Err fault)
+      → ExportsIn (status_of_fault fault) d (outside first link source old earlier) (outside disk' link source new state)
+  stopped link source earlier Disk (risen, same) =
+      let p = subst (λ (s : SinkState). Puts d old s first disk' nodes n) (sym same) put_then in
+      record {
+        refused = record {
+          risen = λ below. let r : disk.faults < disk'.faults = risen below in omega (arith, r, before.faults);
+          compared = λ known. inl (whole_then.begins known);
+        };
+        stopped = inr (n, within, record { bytes = p.bytes; chunks = p.chunks; gained = p.gained }, whole_then);
+      }
+  stopped link source earlier Sink (risen, piece, chunk, part) =
+      let size = length_whole d first disk' nodes n valid within put_then.bytes put_then.chunks in
       record {
         risen = λ below. let r : mid.faults < new.faults = risen below in omega (arith, r, later);
         whole = whole_then;
         n = n;
         count = length put_then.bytes + part.count;
         bytes = put_then.bytes ++ piece;
-        chunks = chunks_more d first disk' book n valid within put_then.bytes piece put_then.chunks (chunk_then piece chunk);
+        chunks = chunks_more d first disk' nodes n valid within put_then.bytes piece put_then.chunks (chunk_then piece chunk);
         least = omega (arith, size);
         short = omega (arith, part.short, length-append put_then.bytes piece);
         gained = subst (λ (b : List ℕ). Gains old.taken b new.taken) (sym (take-append-add put_then.bytes piece part.count))
             (gains_more old.taken mid.taken new.taken put_then.bytes (take part.count piece) put_then.gained part.gained);
       }
-  stopped Damaged (damaged, same) = record {
-    n = n;
-    within = within;
-    put = subst (λ (s : SinkState). HasPut d old s first disk' book n) (sym same) put_then;
-    damaged = record {
-      bytes = damaged.bytes;
-      found = damaged.found;
-      kept = damaged.kept;
-      room = damaged.room;
-      damaged = record {
-        kept_is = damaged.damaged.kept_is;
-        found_is = damaged.damaged.found_is;
-        differ = damaged.damaged.differ;
-        read = λ k. absurd (damaged.never (known_then k));
-      };
-      never = λ k. damaged.never (known_then k);
-    };
-  }
+  stopped link source earlier Damaged (damaged, same) =
+      let p = subst (λ (s : SinkState). Puts d old s first disk' nodes n) (sym same) put_then in
+      record {
+        n = n;
+        within = within;
+        put = record { bytes = p.bytes; chunks = p.chunks; gained = p.gained };
+        damaged = damaged_seen d first disk nodes known_then n damaged;
+      }
 
-  pub stopped_at : (result : Result (Unit {0}) PutFault) (fault : PutFault) → result ≡ Err fault → PutsChunk d n mid new disk disk' book result → ExportsIn (status_of_fault fault) d old new first disk' book
-  stopped_at result fault is does = stopped fault (subst (PutsChunk d n mid new disk disk' book) is does)
+  pub stopped_at : (link : LinkState) (source : SourceState) (earlier : BookState) (result : Result (Unit {0}) PutFault) (fault : PutFault) → result ≡ Err fault → PutsChunk d n mid new disk disk' nodes result
+      → ExportsIn (status_of_fault fault) d (outside first link source old earlier) (outside disk' link source new state)
+  stopped_at link source earlier result fault is does = stopped link source earlier fault (subst (PutsChunk d n mid new disk disk' nodes) is does)
 
 -- no chunk is left
-pub exported_written : (d : Descriptor) (old new : SinkState) (first disk : DiskState) (book : LookUp) → IsDescriptor d → IsReadable d first book → KeepsAll first disk
-    → (n : ℕ) → n ≡ chunks_of d → HasPut d old new first disk book n → IsExported d old new first disk book
-exported_written d old new first disk book valid readable keeps n all put =
-    exported_all d old new first disk book valid
-    (whole_seen d first first first disk book (λ k. k) (ap (λ (h : History). h.found) keeps.same) readable.whole)
-    (subst (HasPut d old new first disk book) all put)
+pub exported_written : (d : Descriptor) (old new : SinkState) (first disk : DiskState) (link : LinkState) (source : SourceState) (before book : BookState) → IsDescriptor d → IsReadable d first (entry book)
+    → KeepsAll first disk → (n : ℕ) → n ≡ chunks_of d → Puts d old new first disk (entry book) n → IsExported d (outside first link source old before) (outside disk link source new book)
+exported_written d old new first disk link source before book valid readable keeps n all put =
+    exported_all d old new first disk link source before book valid
+    (whole_seen d first first first disk (entry book) (λ k. k) (ap (λ (h : History). h.found) keeps.same) readable.whole)
+    (subst (Puts d old new first disk (entry book)) all put)
 
 -- every chunk was found
 pub readable_found : (d : Descriptor) (disk : DiskState) (book : LookUp) (set : List Bool) → IsFound d disk disk book set → (IsKnown disk → disk.history.reads ≡ disk.history.found) → IsRooted d book
@@ -239,48 +268,40 @@ readable_found d disk book set is same rooted all =
     }
 
 -- a chunk wasn't found
-pub incomplete_found : (d : Descriptor) (sink : SinkState) (disk : DiskState) (book : LookUp) (set : List Bool) (i : ℕ) → IsFound d disk disk book set
-    → i < length set → get_or set i true ≡ false → IsIncomplete d sink sink disk disk
-incomplete_found d sink disk book set i is lt absent = record {
+pub incomplete_found : (d : Descriptor) (sink : SinkState) (disk : DiskState) (link : LinkState) (source : SourceState) (before book : BookState) (set : List Bool) (i : ℕ) → IsFound d disk disk (entry book) set
+    → i < length set → get_or set i true ≡ false → IsIncomplete d (outside disk link source sink before) (outside disk link source sink book)
+incomplete_found d sink disk link source before book set i is lt absent = record {
   begins = is.begins;
   absent = λ k. let within : i < chunks_of d = omega (arith, lt, is.count) in
       (i, within, sym (is.held k i within) ∙ get_or_default set i false true lt ∙ absent);
   silent = refl;
 }
 
+-- the scan was refused
+pub export_refused : (d : Descriptor) (disk disk' : DiskState) (sink : SinkState) (link : LinkState) (source : SourceState) (before book : BookState) (fault : ScanFault)
+    → HasLooked d disk disk' (entry book) (Err fault) → ExportsIn (status_of_scan fault) d (outside disk link source sink before) (outside disk' link source sink book)
+export_refused d disk disk' sink link source before book (scans.NotAStore at found want) is = record { at = at; found = found; want = want; other = is; said = refl }
+export_refused d disk disk' sink link source before book scans.Disk is = record { refused = is; stopped = inl refl }
+export_refused d disk disk' sink link source before book scans.Memory is = record { begins = is; silent = refl }
+
 -- as seen from before the scan
-module _ (d : Descriptor) (old mid new : DiskState) (sink sink' : SinkState) (book : LookUp) (tells : mid.tells ≡ old.tells) (honest : mid.honest ≡ old.honest) (later : old.faults ≤ mid.faults) where
+module _ (d : Descriptor) (old mid new : DiskState) (sink sink' : SinkState) (link : LinkState) (source : SourceState) (before half state : BookState) (tells : mid.tells ≡ old.tells) (honest : mid.honest ≡ old.honest) (later : old.faults ≤ mid.faults) where
   known_mid : IsKnown old → IsKnown mid
   known_mid = known_on old mid tells honest
 
-  chunk_later : (i : ℕ) (bytes : List ℕ) → IsChunk d mid new book i bytes → IsChunk d old new book i bytes
-  chunk_later = chunk_seen d old mid new new book known_mid refl
+  chunk_later : (i : ℕ) (bytes : List ℕ) → IsChunk d mid new (entry state) i bytes → IsChunk d old new (entry state) i bytes
+  chunk_later = chunk_seen d old mid new new (entry state) known_mid refl
 
-  chunks_later : (n : ℕ) (bytes : List ℕ) → AreChunks d mid new book n bytes → AreChunks d old new book n bytes
-  chunks_later = chunks_seen d old mid new new book known_mid refl
+  chunks_later : (n : ℕ) (bytes : List ℕ) → AreChunks d mid new (entry state) n bytes → AreChunks d old new (entry state) n bytes
+  chunks_later = chunks_seen d old mid new new (entry state) known_mid refl
 
-  put_later : (n : ℕ) → HasPut d sink sink' mid new book n → HasPut d sink sink' old new book n
-  put_later = put_seen d old mid new new book known_mid refl sink sink'
+  put_later : (n : ℕ) → HasPut d (outside mid link source sink half) (outside new link source sink' state) n → HasPut d (outside old link source sink before) (outside new link source sink' state) n
+  put_later n put = record { bytes = put.bytes; chunks = chunks_later n put.bytes put.chunks; gained = put.gained }
 
   whole_later : IsWhole d mid new → IsWhole d old new
-  whole_later = whole_seen d old mid new new book known_mid refl
+  whole_later = whole_seen d old mid new new (entry state) known_mid refl
 
-  damaged_later : (n : ℕ) → IsDamagedChunk d mid book n → IsDamagedChunk d old book n
-  damaged_later n is = record {
-    bytes = is.bytes;
-    found = is.found;
-    kept = is.kept;
-    room = is.room;
-    damaged = record {
-      kept_is = is.damaged.kept_is;
-      found_is = is.damaged.found_is;
-      differ = is.damaged.differ;
-      read = λ k. absurd (is.never (known_mid k));
-    };
-    never = λ k. is.never (known_mid k);
-  }
-
-  pub exported_later : (status : Status) → ExportsIn status d sink sink' mid new book → ExportsIn status d sink sink' old new book
+  pub exported_later : (status : Status) → ExportsIn status d (outside mid link source sink half) (outside new link source sink' state) → ExportsIn status d (outside old link source sink before) (outside new link source sink' state)
   exported_later ends.Done is = record {
     whole = whole_later is.whole;
     content = is.content;
@@ -292,17 +313,15 @@ module _ (d : Descriptor) (old mid new : DiskState) (sink sink' : SinkState) (bo
     at = is.at;
     found = is.found;
     want = is.want;
-    other = record {
-      within = is.other.within;
-      differ = is.other.differ;
-      some = λ k. is.other.some (known_mid k);
-      first = λ k. is.other.first (known_mid k);
-    };
-    silent = is.silent;
+    other = other_since d old mid new known_mid is.at is.found is.want is.other;
+    said = is.said;
   }
   exported_later ends.Incomplete is = record { begins = λ k. is.begins (known_mid k); absent = λ k. is.absent (known_mid k); silent = is.silent }
   exported_later ends.DiskFault is = record {
-    risen = λ below. let r : mid.faults < new.faults = is.risen below in omega (arith, r, later);
+    refused = record {
+      risen = λ below. let r : mid.faults < new.faults = is.refused.risen below in omega (arith, r, later);
+      compared = λ k. is.refused.compared (known_mid k);
+    };
     stopped = ⊎_elim inl (λ (n, within, put, whole). inr (n, within, put_later n put, whole_later whole)) is.stopped;
   }
   exported_later ends.SinkFault is = record {
@@ -317,7 +336,7 @@ module _ (d : Descriptor) (old mid new : DiskState) (sink sink' : SinkState) (bo
     gained = is.gained;
   }
   exported_later ends.Memory is = record { begins = λ k. is.begins (known_mid k); silent = is.silent }
-  exported_later ends.Damaged is = record { n = is.n; within = is.within; put = put_later is.n is.put; damaged = damaged_later is.n is.damaged }
+  exported_later ends.Damaged is = record { n = is.n; within = is.within; put = put_later is.n is.put; damaged = damaged_seen d old mid (entry state) known_mid is.n is.damaged }
   exported_later ends.Usage is = absurd is
   exported_later ends.LinkFault is = absurd is
   exported_later ends.SourceFault is = absurd is

@@ -2,16 +2,16 @@
 use Rattle.std.proofs.Common.{◌≡◌, inl, inr, ℕ, ◌<◌, ◌≤◌, Bool, length, ap, ◌∙◌, arith, Option, List, [], ◌∷◌, ◌++◌, Result, Ok, Err, OnOk, refl, sym, subst, codes, decimal, append_assoc}
 use Rattle.std.specs.Prelude.{count_by, IsErr}
 use Rattle.pp_terms.specs.Count.{HasCause}
-use Rattle.pp_terms.specs.Stream.{SinkState, Gains}
-use Rattle.pp_terms.specs.Descriptor.{Descriptor, descriptor_text}
-use Rattle.pp_terms.specs.Usage.{Usage, kind_text, usage_line}
-use Rattle.pp_terms.specs.Report.{descriptor_line, disk_fault_line, source_fault_line, not_empty_line, content_size_line}
+use Rattle.pp_terms.specs.command.Stream.{SinkState, Gains}
+use Rattle.pp_terms.specs.format.Descriptor.{Descriptor, descriptor_text}
+use Rattle.pp_terms.specs.command.Usage.{Usage, kind_text, usage_line}
+use Rattle.pp_terms.specs.command.Report.{descriptor_line, disk_fault_line, source_fault_line, not_empty_line, content_size_line, not_a_store_line, held_line, ranges_text, SaysHeld}
 use Rattle.pp_store.specs.declared.importing.ImportFault.{ImportFault}
 use Rattle.pp_node.specs.declared.status.Status.{Status}
 use Rattle.pp_node.specs.Text.{Says}
 use Rattle.pp_scan.specs.declared.scanning.ScanFault.{ScanFault}
 use Rattle.pp_node.specs.Run.{Reports}
-use Rattle.pp_node.specs.Held.{not_a_store_line, held_line, ranges_text, HasRanges, SaysHeld}
+use Rattle.pp_node.specs.Held.{HasRanges}
 use Rattle.pp_node.specs.Checking.{ReportsScan}
 use Rattle.pp_node.proofs.Written.{gains_more}
 

@@ -1,23 +1,37 @@
 -- What is found in a store that was attached.
-use Rattle.std.proofs.Common.{◌≡◌, ⊎_elim, ℕ, ◌<◌, ◌≤◌, Bool, true, false, List, length, get_or, Result, Ok, Err, sym, ◌∙◌, ap, subst, arith}
-use Rattle.std.proofs.lemmas.Bool.{cases_lt, false≢true}
-use Rattle.std.proofs.lemmas.List.{get_or_past}
-use Rattle.pp_terms.specs.Book.{LookUp}
-use Rattle.pp_terms.specs.Descriptor.{Descriptor, chunks_of}
-use Rattle.pp_terms.specs.Image.{known, holds}
-use Rattle.pp_terms.specs.Disk.{DiskState, History, IsKnown}
+use Rattle.std.proofs.Common.{◌≡◌, inl, inr, ⊎_elim, ℕ, ◌<◌, ◌≤◌, Bool, true, false, List, length, get_or, Result, Ok, Err, sym, ◌∙◌, ap, subst, arith}
+use Rattle.std.specs.Prelude.{Option}
+use Rattle.pp_terms.specs.Count.{HasRisen}
+use Rattle.pp_terms.specs.tree.Book.{LookUp}
+use Rattle.pp_terms.specs.format.Descriptor.{Descriptor, chunks_of}
+use Rattle.pp_terms.specs.disk.Store.{header}
+use Rattle.pp_terms.specs.disk.Image.{known, is_found}
+use Rattle.pp_terms.specs.disk.Disk.{DiskState, History, IsKnown, GainsName, DoesAttach}
+use Rattle.pp_terms.proofs.Facts.{member_below}
 use Rattle.pp_terms.proofs.Knowing.{known_on}
 use Rattle.pp_scan.specs.declared.scanning.ScanFault.{ScanFault}
 use Rattle.pp_scan.specs.declared.scanning.ScanFault.TheVariants.{NotAStore, Disk, Memory}
+use Rattle.pp_terms.proofs.Untouched.{freshly_attached, synced_at_most}
+use Rattle.pp_scan.specs.Header.{IsDifference}
 use Rattle.pp_scan.specs.Look.{KeepsAll, OnlySyncs}
 use Rattle.pp_scan.specs.Holding.{is_there}
 use Rattle.pp_scan.specs.Scan as scan
 use Rattle.pp_scan.proofs.Holds.{held_there}
-use Rattle.pp_node.specs.Run.{IsFreshlyAttached}
-use Rattle.pp_node.specs.Looking.{IsOf, IsFound, HasLooked, IsUnwritten}
+use Rattle.pp_terms.specs.disk.Untouched.{IsFreshlyAttached, IsSyncedAtMost}
+use Rattle.pp_store.specs.Probe.{HasProbed}
+use Rattle.pp_store.specs.declared.findings.Probe.{Probe}
+use Rattle.pp_store.specs.declared.findings.ProbeFault.{ProbeFault}
+use Rattle.pp_store.specs.declared.findings.ProbeFault.TheVariants as probes
+use Rattle.pp_node.specs.Looking.{IsOf, IsFound, IsOther, IsRefused, HasLooked, IsUnwritten}
 
-in_set : (set : List Bool) (i : ℕ) → get_or set i false ≡ true → i < length set
-in_set set i is = ⊎_elim (λ lt. lt) (λ past. absurd (false≢true (sym (get_or_past set i false past) ∙ is))) (cases_lt i (length set))
+-- a file that is empty or begins with the header isn't another's
+pub none_other : (d : Descriptor) (reads : List ℕ) (at found want : ℕ) → IsOf d reads → 0 < length reads → IsDifference reads (header d) at found want → ⊥
+none_other d reads at found want (inl empty) some first = let none : length reads ≡ 0 = ap (λ (r : List ℕ). length r) empty in omega (arith, none, some)
+none_other d reads at found want (inr begins) some first = first.differ (first.found_is ∙ begins at first.within ∙ sym first.want_is)
+
+-- names as seen from before calls that keep them, and from after them
+pub named_later : (old : Option (List (List ℕ))) (name : List ℕ) (mid new : Option (List (List ℕ))) → GainsName old name mid → new ≡ mid → GainsName old name new
+named_later old name mid new gains same = subst (λ (o : Option (List (List ℕ))). GainsName old name o) (sym same) gains
 
 module _ (d : Descriptor) (old new : DiskState) (book : LookUp) (fresh : IsKnown old → IsFreshlyAttached old.history) (looks : OnlySyncs old new) where
   -- a sync keeps what reads give and what they gave at the attachment
@@ -31,17 +45,20 @@ module _ (d : Descriptor) (old new : DiskState) (book : LookUp) (fresh : IsKnown
   unwritten_scan = record {
     tells = looks.tells;
     honest = looks.honest;
-    same = λ known. same_reads known ∙ sym (same_found known);
+    synced = λ known. synced_at_most old.history new.history (fresh known) (looks.either known);
     faults = looks.faults;
   }
+
+  pub names_scan : IsKnown old → new.history.names ≡ old.history.names
+  names_scan known = ⊎_elim (λ e. ap (λ (h : History). h.names) e) (λ e. ap (λ (h : History). h.names) e) (looks.either known)
 
   found_scan : (set : List Bool) → scan.IsScanned d old book set → IsFound d old new book set
   found_scan set is = record {
     count = is.count;
     leaf = is.leaf;
-    held = λ known i lt. is.held known i lt ∙ ap (λ (r : List ℕ). holds d r i) (sym (same_found known));
+    held = λ known i lt. is.held known i lt ∙ ap (λ (r : List ℕ). is_found d r i) (sym (same_found known));
     there = λ known i at.
-        let within : i < chunks_of d = omega (arith, in_set set i at, is.count) in
+        let within : i < chunks_of d = omega (arith, member_below set i at, is.count) in
         ap (λ (r : List ℕ). is_there d r book i) (same_reads known) ∙ held_there d old.history.reads book i (is.known known) (is.peaks i at) ∙ sym (is.held known i within) ∙ at;
     begins = λ known. subst (IsOf d) (sym (same_found known)) (is.begins known);
   }
@@ -52,6 +69,8 @@ module _ (d : Descriptor) (old new : DiskState) (book : LookUp) (fresh : IsKnown
   looked_scan unread (Err (NotAStore at found want)) begins is = record {
     within = is.within;
     differ = is.differ;
+    wanted = is.wanted;
+    untouched = λ known. absurd (none_other d old.history.reads at found want (begins known) (is.some known) (is.first known));
     some = λ known. subst (λ (r : List ℕ). 0 < length r) (sym (same_found known)) (is.some known);
     first = λ known. let one = is.first known in let e = sym (same_found known) in record {
       within = one.within;
@@ -61,13 +80,77 @@ module _ (d : Descriptor) (old new : DiskState) (book : LookUp) (fresh : IsKnown
       first = λ k lt. ap (λ (r : List ℕ). get_or r k 0) (sym e) ∙ one.first k lt;
     };
   }
-  looked_scan unread (Err Disk) begins risen = risen
+  looked_scan unread (Err Disk) begins risen = record { risen = risen; compared = λ known. inl (subst (IsOf d) (sym (same_found known)) (begins known)) }
   looked_scan unread (Err Memory) begins is = λ known. subst (IsOf d) (sym (same_found known)) (begins known)
 
 -- as seen from before calls that only read
 pub fresh_after : (old new : DiskState) → KeepsAll old new → (IsKnown old → IsFreshlyAttached old.history) → IsKnown new → IsFreshlyAttached new.history
 fresh_after old new keeps fresh known =
     subst (λ (h : History). IsFreshlyAttached h) (sym keeps.same) (fresh (known_on new old (sym keeps.tells) (sym keeps.honest) known))
+
+-- readings alone, after the attachment
+module _ (d : Descriptor) (old new : DiskState) (fresh : IsKnown old → IsFreshlyAttached old.history) (keeps : KeepsAll old new) where
+  pub fresh_kept : IsKnown old → IsFreshlyAttached new.history
+  fresh_kept known = subst IsFreshlyAttached (sym keeps.same) (fresh known)
+
+  pub found_kept : IsKnown old → new.history.found ≡ old.history.reads
+  found_kept known = ap (λ (h : History). h.found) keeps.same ∙ (fresh known).showed
+
+  pub unwritten_kept : IsUnwritten old new
+  unwritten_kept = record {
+    tells = keeps.tells;
+    honest = keeps.honest;
+    synced = λ known. inl (fresh_kept known);
+    faults = keeps.faults;
+  }
+
+  pub other_kept : (at found want : ℕ) → scan.IsOther d at found want old → IsOther d at found want old new
+  other_kept at found want is = record {
+    within = is.within;
+    differ = is.differ;
+    wanted = is.wanted;
+    some = λ known. subst (λ (r : List ℕ). 0 < length r) (sym (found_kept known)) (is.some known);
+    first = λ known. subst (λ (r : List ℕ). IsDifference r (header d) at found want) (sym (found_kept known)) (is.first known);
+    untouched = fresh_kept;
+  }
+
+  pub refused_kept : HasRisen old.faults new.faults → IsRefused d old new
+  refused_kept risen = record { risen = risen; compared = λ known. inr (fresh_kept known) }
+
+  pub other_probed : (result : Result Probe ProbeFault) (at found want : ℕ) → result ≡ Err (probes.NotAStore at found want) → HasProbed d old new result → IsOther d at found want old new
+  other_probed result at found want is does = other_kept at found want (subst (HasProbed d old new) is does)
+
+  pub refused_probed : (result : Result Probe ProbeFault) → result ≡ Err probes.Disk → HasProbed d old new result → IsRefused d old new
+  refused_probed result is does = refused_kept (subst (HasProbed d old new) is does)
+
+-- as seen from after readings
+pub unwritten_on : (old mid new : DiskState) → IsUnwritten old mid → KeepsAll mid new → IsUnwritten old new
+unwritten_on old mid new is keeps = record {
+  tells = keeps.tells ∙ is.tells;
+  honest = keeps.honest ∙ is.honest;
+  synced = λ known. subst IsSyncedAtMost (sym keeps.same) (is.synced known);
+  faults = omega (arith, is.faults, keeps.faults);
+}
+
+-- an attachment that was refused
+pub unwritten_attached : {E : Type 0} (name : List ℕ) (old new : DiskState) (result : Result (Unit {0}) E) → DoesAttach old name result new → IsUnwritten old new
+unwritten_attached name old new result does = record {
+  tells = does.call.tells;
+  honest = does.call.honest;
+  synced = λ known. inl (freshly_attached name old.history new.history (does.attached known));
+  faults = does.call.cause.later;
+}
+
+-- a file of another, as seen from before calls that keep what is known of the disk
+pub other_since : (d : Descriptor) (old mid new : DiskState) → (IsKnown old → IsKnown mid) → (at found want : ℕ) → IsOther d at found want mid new → IsOther d at found want old new
+other_since d old mid new known_mid at found want is = record {
+  within = is.within;
+  differ = is.differ;
+  wanted = is.wanted;
+  some = λ known. is.some (known_mid known);
+  first = λ known. is.first (known_mid known);
+  untouched = λ known. is.untouched (known_mid known);
+}
 
 -- as seen from before the attachment, or before readings
 module _ (d : Descriptor) (old mid new : DiskState) (book : LookUp) (known_mid : IsKnown old → IsKnown mid) (later : old.faults ≤ mid.faults) where
@@ -79,19 +162,17 @@ module _ (d : Descriptor) (old mid new : DiskState) (book : LookUp) (known_mid :
     there = λ known. is.there (known_mid known);
     begins = λ known. is.begins (known_mid known);
   }
-  looked_later (Err (NotAStore at found want)) is = record {
-    within = is.within;
-    differ = is.differ;
-    some = λ known. is.some (known_mid known);
-    first = λ known. is.first (known_mid known);
+  looked_later (Err (NotAStore at found want)) is = other_since d old mid new known_mid at found want is
+  looked_later (Err Disk) is = record {
+    risen = λ below. let r : mid.faults < new.faults = is.risen below in omega arith;
+    compared = λ known. is.compared (known_mid known);
   }
-  looked_later (Err Disk) risen = λ below. let r : mid.faults < new.faults = risen below in omega arith
   looked_later (Err Memory) is = λ known. is (known_mid known)
 
   pub unwritten_later : mid.tells ≡ old.tells → mid.honest ≡ old.honest → IsUnwritten mid new → IsUnwritten old new
   unwritten_later tells honest is = record {
     tells = is.tells ∙ tells;
     honest = is.honest ∙ honest;
-    same = λ known. is.same (known_mid known);
+    synced = λ known. is.synced (known_mid known);
     faults = omega (arith, is.faults);
   }

@@ -1,19 +1,33 @@
 -- What is known of a peer that is made ready, step by step.
-use Rattle.std.proofs.Common.{◌≡◌, inl, inr, ℕ, zero, suc, ◌≤◌, List, [], ◌∷◌, length, drop, Result, Ok, Err, refl, sym, ◌∙◌, subst, arith}
-use Rattle.pp_terms.specs.Book.{LookUp}
-use Rattle.pp_terms.specs.Descriptor.{Descriptor}
-use Rattle.pp_terms.specs.Disk.{DiskState, History, Epoch, IsImage, WasImage, MayLeaveSince, IsKnown, moment_of}
-use Rattle.pp_terms.specs.Traffic.{LinkState}
+use Rattle.std.proofs.Common.{◌≡◌, inl, inr, ℕ, zero, suc, ◌<◌, ◌≤◌, Option, List, [], ◌∷◌, length, drop, Result, Ok, Err, refl, sym, ◌∙◌, subst, arith}
+use Rattle.pp_terms.specs.tree.Book.{LookUp}
+use Rattle.pp_terms.specs.format.Descriptor.{Descriptor}
+use Rattle.pp_terms.specs.disk.Disk.{DiskState, History, Epoch, IsImage, WasImage, MayLeaveSince, IsKnown, moment_of}
+use Rattle.pp_terms.specs.format.Traffic.{Address, LinkState, GainsAddress}
 use Rattle.pp_terms.proofs.Knowing.{known_on}
-use Rattle.pp_traffic.specs.Keeping.{StandsSince}
+use Rattle.pp_terms.specs.disk.Disk.{Throughout}
+use Rattle.pp_terms.specs.disk.Image.{StandsIn}
+use Rattle.pp_traffic.specs.Keeping.{StoodThroughout, StandsSince}
 use Rattle.pp_store.specs.Keep.{SameAttachment}
 use Rattle.pp_store.specs.Store.{GoesOn}
 use Rattle.pp_core.specs.Standing.{State}
-use Rattle.pp_node.specs.Run.{IsFreshlyAttached}
-use Rattle.pp_node.specs.Preparing.{Lasts, IsReady, HasPrepared}
+use Rattle.pp_terms.specs.disk.Untouched.{IsFreshlyAttached, IsSyncedAtMost}
+use Rattle.pp_terms.specs.disk.Store.{header}
+use Rattle.pp_terms.proofs.Untouched.{synced_at_most}
+use Rattle.pp_scan.specs.Look.{KeepsAll, SyncsAtMost}
+use Rattle.pp_scan.specs.Header.{IsDifference}
+use Rattle.pp_store.specs.Probe.{HasProbed}
+use Rattle.pp_store.specs.declared.findings.ProbeFault.{ProbeFault}
+use Rattle.pp_store.specs.declared.findings.ProbeFault.TheVariants as probes
+use Rattle.pp_core.specs.Opening.{HasOpened}
+use Rattle.pp_core.specs.declared.opening.OpenFault.{OpenFault}
+use Rattle.pp_core.specs.declared.opening.OpenFault.TheVariants as opens
+use Rattle.pp_node.specs.Looking.{IsOf}
+use Rattle.pp_node.specs.Preparing.{Lasts, IsReady, HasPrepared, HasOpenedPeer, LeavesDisk, LeavesLink, fault_of_probe, fault_of_open}
 use Rattle.pp_node.specs.declared.preparing.SeedFault.{SeedFault}
 use Rattle.pp_node.specs.declared.preparing.SeedFault.TheVariants.{NotAStore, Disk, Link, Memory}
 use Rattle.pp_node.specs.declared.preparing.Ready.{Ready}
+use Rattle.pp_node.proofs.Looks.{none_other, fresh_kept, other_kept, other_since}
 use Rattle.pp_node.proofs.Turns.{risen_less}
 
 -- ---- what stood goes on standing
@@ -39,10 +53,70 @@ lasts_fresh d h fresh = lasts_attached d h fresh.started fresh.began
 pub lasts_same : (d : Descriptor) (old new : History) → new ≡ old → Lasts d old → Lasts d new
 lasts_same d old new same lasts = subst (Lasts d) (sym same) lasts
 
+-- what stood in every image at the attachment stands in every image that a crash may leave now
+pub stood_opened : (d : Descriptor) (old new : History) (i : ℕ) → IsFreshlyAttached old → SameAttachment old new → StoodThroughout d new i → Throughout old (moment_of old) (λ image. StandsIn d image i)
+stood_opened d old new i fresh same stood image since =
+    stood image (subst (λ (e : Epoch). IsImage e image) (sym (same.first ∙ fresh.began)) (since_later old (moment_of old) image (omega arith) since))
+
 pub lasts_opened : (d : Descriptor) (old new : History) → IsFreshlyAttached old → SameAttachment old new → GoesOn d old new → Lasts d new
 lasts_opened d old new fresh same on i stood =
     subst (λ (m : ℕ). StandsSince d new m i) (sym (same.start ∙ fresh.started))
-    (on i (λ image since. stood image (subst (λ (e : Epoch). IsImage e image) (sym (same.first ∙ fresh.began)) (since_later old (moment_of old) image (omega arith) since))))
+    (on i (stood_opened d old new i fresh same stood))
+
+-- ---- what is left of the disk and the link
+
+module _ (d : Descriptor) (random : List ℕ) (old new : DiskState) (book : LookUp) (fresh : IsKnown old → IsFreshlyAttached old.history) (keeps : KeepsAll old new) where
+  pub prepared_probe : (seen : LinkState) (fault : ProbeFault) → HasProbed d old new (Err fault) → HasPrepared d random old new seen seen book (Err (fault_of_probe fault))
+  prepared_probe seen (probes.NotAStore at found want) is = other_kept d old new fresh keeps at found want is
+  prepared_probe seen probes.Disk risen = risen
+
+  pub leaves_probe : (fault : ProbeFault) → IsKnown old → LeavesDisk d new.history (Err (fault_of_probe fault))
+  leaves_probe (probes.NotAStore at found want) known = fresh_kept d old new fresh keeps known
+  leaves_probe probes.Disk known = inr (fresh_kept d old new fresh keeps known)
+
+-- the store was refused before the link was asked
+pub unbound_probe : (bound : Option (List Address)) (listen : Address) (fault : ProbeFault) → LeavesLink bound listen bound (Err (fault_of_probe fault))
+unbound_probe bound listen (probes.NotAStore at found want) = inl refl
+unbound_probe bound listen probes.Disk = inl refl
+
+module _ (d : Descriptor) (random : List ℕ) (old new : DiskState) (book : LookUp) (fresh : IsKnown old → IsFreshlyAttached old.history)
+    (attachment : IsKnown old → SameAttachment old.history new.history) (begins : IsKnown old → IsOf d old.history.reads) where
+  pub found_opened : IsKnown old → new.history.found ≡ old.history.reads
+  found_opened known = (attachment known).found ∙ (fresh known).showed
+
+  pub begins_opened : IsKnown old → IsOf d new.history.found
+  begins_opened known = subst (IsOf d) (sym (found_opened known)) (begins known)
+
+  pub opened_fault : (T : Type 0) (fault : OpenFault) → HasOpened {T = T} d old new (Err fault) → HasOpenedPeer d random old new book (Err (fault_of_open fault))
+  opened_fault T (opens.NotAStore at found want) is = record {
+    within = is.within;
+    differ = is.differ;
+    wanted = is.wanted;
+    some = λ known. subst (λ (r : List ℕ). 0 < length r) (sym (found_opened known)) (is.some known);
+    first = λ known. subst (λ (r : List ℕ). IsDifference r (header d) at found want) (sym (found_opened known)) (is.first known);
+    untouched = λ known. absurd (none_other d old.history.reads at found want (begins known) (is.some known) (is.first known));
+  }
+  opened_fault T opens.Disk risen = risen
+  opened_fault T opens.Memory is = begins_opened
+
+  pub leaves_fault : (T : Type 0) (fault : OpenFault) → HasOpened {T = T} d old new (Err fault) → IsKnown old → LeavesDisk d new.history (Err (fault_of_open fault))
+  leaves_fault T (opens.NotAStore at found want) is known = absurd (none_other d old.history.reads at found want (begins known) (is.some known) (is.first known))
+  leaves_fault T opens.Disk risen known = inl (begins_opened known)
+  leaves_fault T opens.Memory is known = subst (λ (s : DiskState). IsFreshlyAttached s.history) (sym is) (fresh known)
+
+  pub unwritten_opened : (IsKnown old → 0 < length old.history.reads → SyncsAtMost old.history new.history)
+      → IsKnown old → 0 < length new.history.found → IsSyncedAtMost new.history
+  unwritten_opened syncs known some =
+      synced_at_most old.history new.history (fresh known) (syncs known (subst (λ (r : List ℕ). 0 < length r) (found_opened known) some))
+
+-- the link was bound
+pub bound_open : (d : Descriptor) (random : List ℕ) (disk disk' : DiskState) (book : LookUp) (old : Option (List Address)) (listen : Address) (new : Option (List Address)) (result : Result Ready SeedFault)
+    → GainsAddress old listen new → HasOpenedPeer d random disk disk' book result → LeavesLink old listen new result
+bound_open d random disk disk' book old listen new (Ok ready) gains is = gains
+bound_open d random disk disk' book old listen new (Err (NotAStore at found want)) gains is = inr gains
+bound_open d random disk disk' book old listen new (Err Disk) gains is = inr gains
+bound_open d random disk disk' book old listen new (Err Link) gains is = absurd is
+bound_open d random disk disk' book old listen new (Err Memory) gains is = gains
 
 -- ---- as seen from before
 
@@ -59,6 +133,7 @@ module _ (d : Descriptor) (random : List ℕ) (old mid new : DiskState) (seen se
     kept = λ known. r.kept (known_mid known);
     begins = λ known. r.begins (known_mid known);
     held = λ known. r.held (known_mid known);
+    taken = λ known. r.taken (known_mid known);
     still = λ known. r.still (known_mid known);
     tells = r.tells ∙ tells;
     honest = r.honest ∙ honest;
@@ -68,7 +143,7 @@ module _ (d : Descriptor) (random : List ℕ) (old mid new : DiskState) (seen se
 
   pub prepared_since : (result : Result Ready SeedFault) → HasPrepared d random mid new seen seen' book result → HasPrepared d random old new seen seen' book result
   prepared_since (Ok ready) r = ready_since ready.peer (length ready.buffer.items) r
-  prepared_since (Err (NotAStore at found want)) o = record { within = o.within; differ = o.differ; some = λ known. o.some (known_mid known); first = λ known. o.first (known_mid known) }
+  prepared_since (Err (NotAStore at found want)) o = other_since d old mid new known_mid at found want o
   prepared_since (Err Disk) risen = risen_less old.faults mid.faults new.faults later risen
   prepared_since (Err Link) both = (both.0, λ known. both.1 (known_mid known))
   prepared_since (Err Memory) begins = λ known. begins (known_mid known)

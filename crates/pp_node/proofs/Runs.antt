@@ -1,16 +1,17 @@
 -- A run of an import, from what the import does.
 use Rattle.std.proofs.Common.{◌≡◌, ◌⊎◌, inl, inr, ℕ, ◌+◌, ◌<◌, List, [], length, Some, Err, sym, ◌∙◌, ap, subst, arith}
-use Rattle.pp_terms.specs.Descriptor.{Descriptor}
-use Rattle.pp_terms.specs.Store.{IsNoStore}
-use Rattle.pp_terms.specs.Disk.{DiskState, History, IsKnown, moment_of}
-use Rattle.pp_terms.specs.Stream.{SourceState, SinkState}
+use Rattle.pp_terms.specs.format.Descriptor.{Descriptor}
+use Rattle.pp_terms.specs.disk.Store.{IsNoStore}
+use Rattle.pp_terms.specs.disk.Disk.{DiskState, IsKnown, moment_of}
+use Rattle.pp_terms.specs.command.Stream.{SourceState, SinkState}
 use Rattle.pp_store.specs.declared.importing.ImportFault.{ImportFault}
 use Rattle.pp_store.specs.declared.importing.ImportFault.TheVariants as fault
 use Rattle.pp_store.specs.Keep.{KeepsDisk}
 use Rattle.pp_store.specs.Import.{most_bytes, HasAnswer, IsUntouched, LeavesWholeStores, TakesAtMost, IsImported}
 use Rattle.pp_node.specs.declared.status.Status.{Status}
 use Rattle.pp_node.specs.declared.status.Status.TheVariants.{NotEmpty, DiskFault}
-use Rattle.pp_node.specs.Run.{IsImportRun, IsFreshlyAttached, Reports}
+use Rattle.pp_terms.specs.disk.Untouched.{IsFreshlyAttached}
+use Rattle.pp_node.specs.Run.{IsImportRun, Reports}
 
 module _ (status : Status) (chunk : ℕ) (source source' : SourceState) (old new : DiskState) (fresh : IsKnown old → IsFreshlyAttached old.history) (keeps : KeepsDisk old new) where
   start_is : IsKnown old → new.history.start ≡ moment_of old.history
@@ -30,7 +31,7 @@ module _ (status : Status) (chunk : ℕ) (source source' : SourceState) (old new
     no_store = λ known empty same. no_store known (sym (found_is known) ∙ empty) (same ∙ start_is known);
     refused = λ known some. refused known (subst (λ (b : List ℕ). 0 < length b) (found_is known) some);
     unwritten = λ known some.
-        ap (λ (h : History). h.reads) (untouched known (subst (λ (b : List ℕ). 0 < length b) (found_is known) some)).unwritten ∙ sym (found_is known);
+        subst IsFreshlyAttached (sym (untouched known (subst (λ (b : List ℕ). 0 < length b) (found_is known) some)).unwritten) (fresh known);
     unread = λ known some. (untouched known (subst (λ (b : List ℕ). 0 < length b) (found_is known) some)).unread;
     takes = takes;
   }

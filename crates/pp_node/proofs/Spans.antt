@@ -1,13 +1,16 @@
 -- The ranges of a set's numbers.
 use Rattle.std.proofs.Common.{◌≡◌, ⊎_elim, ℕ, ◌+◌, ◌-◌, ◌<◌, ◌≤◌, Bool, true, false, ◌||◌, List, [], ◌∷◌, ◌++◌, length, get_or, codes, decimal, refl, sym, ◌∙◌, ap, subst, arith, append_assoc}
-use Rattle.std.proofs.lemmas.Bool.{cases_lt, false≢true}
+use Rattle.std.proofs.lemmas.Bool.{cases_lt, false≢true, false_from_ne_true}
 use Rattle.std.proofs.lemmas.Bool.Decides.{nat_tests}
 use mathlib.Core.Bool.{beq}
 use Rattle.std.specs.Prelude.{Result, Ok, Err, OnOk}
 use Rattle.std.proofs.lemmas.List.{get_or_past, append-nil}
-use Rattle.pp_terms.specs.Range.{Span, within, has, IsRunsFrom}
-use Rattle.pp_terms.specs.Stream.{SinkState, Gains}
-use Rattle.pp_node.specs.Held.{span_text, more_text, HasRanges, HasMore}
+use Rattle.std.proofs.Math.Bool.{or-false, or_assoc}
+use Rattle.pp_terms.specs.tree.Range.{Span, within, has, IsRunsFrom}
+use Rattle.pp_terms.specs.command.Stream.{SinkState, Gains}
+use Rattle.pp_terms.proofs.Within.{within_from}
+use Rattle.pp_node.specs.Held.{HasRanges, HasMore}
+use Rattle.pp_terms.specs.command.Report.{span_text, more_text}
 use Rattle.pp_node.proofs.Written.{gains-nil, gains_more}
 
 -- no range reaches the number before
@@ -29,9 +32,6 @@ within_past x i lt = grind (arith, nat_tests)
 within_low : (x : Span) (i : ℕ) → i < x.first → within x i ≡ false
 within_low x i lt = grind (arith, nat_tests)
 
-within_in : (x : Span) (i : ℕ) → x.first ≤ i → i ≤ x.last → within x i ≡ true
-within_in x i low up = grind (arith, nat_tests)
-
 has_past : (n i : ℕ) (xs : List Span) → AllEnd (n + 1) xs → n ≤ i → has xs i ≡ false
 has_past n i [] h le = refl
 has_past n i (x ∷ xs) h le = let up = h.0 in rw (within_past x i (omega (arith, up))) (has_past n i xs h.1 le)
@@ -43,17 +43,9 @@ has_below from i (x ∷ xs) h lt =
     let up = h.1 in
     rw (within_low x i (omega (arith, at))) (has_below (x.last + 2) i xs h.2 (omega (arith, at, up)))
 
-or_false : (b : Bool) → (b || false) ≡ b
-or_false true = refl
-or_false false = refl
-
 has_more : (xs : List Span) (x : Span) (i : ℕ) → has (xs ++ x ∷ []) i ≡ (has xs i || within x i)
-has_more [] x i = or_false (within x i)
+has_more [] x i = or-false (within x i)
 has_more (y ∷ ys) x i = ap (λ (b : Bool). within y i || b) (has_more ys x i) ∙ sym (or_assoc (within y i) (has ys i) (within x i))
-  where
-    or_assoc : (a b c : Bool) → ((a || b) || c) ≡ (a || (b || c))
-    or_assoc true b c = refl
-    or_assoc false b c = refl
 
 runs_more : (from : ℕ) (xs : List Span) (x : Span) → IsRunsFrom from xs → from ≤ x.first → AllEnd x.first xs → x.first ≤ x.last → IsRunsFrom from (xs ++ x ∷ [])
 runs_more from [] x h low ends order = (low, order, tt)
@@ -92,11 +84,6 @@ put_none set from state within free = record {
   later = omega arith;
 }
 
--- a bit that isn't one is the other
-is_false : (b : Bool) → (b ≡ true → ⊥) → b ≡ false
-is_false true not = absurd (not refl)
-is_false false not = refl
-
 is_true : (b : Bool) → (b ≡ false → ⊥) → b ≡ true
 is_true true not = refl
 is_true false not = absurd (not refl)
@@ -121,11 +108,11 @@ module _ (set : List Bool) (from end first next : ℕ) (old mid new : SinkState)
 
   same_now : (i : ℕ) → from ≤ i → i < next → has (put.ranges ++ (from_to first next) ∷ []) i ≡ get_or set i false
   same_now i from_low lt = has_more put.ranges (from_to first next) i ∙ ⊎_elim
-      (λ (below : i < end). ap (λ (b : Bool). has put.ranges i || b) (within_low (from_to first next) i (omega (arith, above))) ∙ or_false (has put.ranges i) ∙ put.same i from_low below)
+      (λ (below : i < end). ap (λ (b : Bool). has put.ranges i || b) (within_low (from_to first next) i (omega (arith, above))) ∙ or-false (has put.ranges i) ∙ put.same i from_low below)
       (λ past. let none : has put.ranges i ≡ false = has_past end i put.ranges put.ends past in
       ap (λ (b : Bool). b || within (from_to first next) i) none ∙ ⊎_elim
-      (λ (between : i < first). within_low (from_to first next) i between ∙ sym (is_false (get_or set i false) (unheld i past between)))
-      (λ on. within_in (from_to first next) i on (omega arith) ∙ sym (is_true (get_or set i false) (held i on lt)))
+      (λ (between : i < first). within_low (from_to first next) i between ∙ sym (false_from_ne_true (get_or set i false) (unheld i past between)))
+      (λ on. within_from (from_to first next) i on (omega arith) ∙ sym (is_true (get_or set i false) (held i on lt)))
       (cases_lt i first))
       (cases_lt i end)
 
@@ -149,7 +136,7 @@ put_all_of set from end old new put none = record {
   ranges = put.ranges;
   runs = put.runs;
   same = λ i low. ⊎_elim (λ (below : i < end). put.same i low below)
-      (λ past. has_past end i put.ranges put.ends past ∙ ⊎_elim (λ (lt : i < length set). sym (is_false (get_or set i false) (none i past lt))) (λ out. sym (get_or_past set i false out)) (cases_lt i (length set)))
+      (λ past. has_past end i put.ranges put.ends past ∙ ⊎_elim (λ (lt : i < length set). sym (false_from_ne_true (get_or set i false) (none i past lt))) (λ out. sym (get_or_past set i false out)) (cases_lt i (length set)))
       (cases_lt i end);
   gained = put.gained;
 }
@@ -160,7 +147,7 @@ no_ranges set old new none gained = record {
   ranges = [];
   are = record {
     runs = tt;
-    same = λ i. ⊎_elim (λ (lt : i < length set). sym (is_false (get_or set i false) (none i (omega arith) lt))) (λ out. sym (get_or_past set i false out)) (cases_lt i (length set));
+    same = λ i. ⊎_elim (λ (lt : i < length set). sym (false_from_ne_true (get_or set i false) (none i (omega arith) lt))) (λ out. sym (get_or_past set i false out)) (cases_lt i (length set));
   };
   gained = gained;
 }
@@ -182,9 +169,9 @@ all_ranges set first end old mid new unheld order held one more = record {
   where
     same_at : (i : ℕ) → (within (from_to first end) i || has more.ranges i) ≡ get_or set i false
     same_at i = ⊎_elim
-        (λ (below : i < end). ap (λ (b : Bool). within (from_to first end) i || b) (has_below (end + 1) i more.ranges more.runs (omega arith)) ∙ or_false (within (from_to first end) i) ∙ ⊎_elim
-        (λ (before : i < first). within_low (from_to first end) i before ∙ sym (is_false (get_or set i false) (unheld i (omega arith) before)))
-        (λ on. within_in (from_to first end) i on (omega arith) ∙ sym (is_true (get_or set i false) (held i on below)))
+        (λ (below : i < end). ap (λ (b : Bool). within (from_to first end) i || b) (has_below (end + 1) i more.ranges more.runs (omega arith)) ∙ or-false (within (from_to first end) i) ∙ ⊎_elim
+        (λ (before : i < first). within_low (from_to first end) i before ∙ sym (false_from_ne_true (get_or set i false) (unheld i (omega arith) before)))
+        (λ on. within_from (from_to first end) i on (omega arith) ∙ sym (is_true (get_or set i false) (held i on below)))
         (cases_lt i first))
         (λ past. ap (λ (b : Bool). b || has more.ranges i) (within_past (from_to first end) i (omega arith)) ∙ more.same i past)
         (cases_lt i end)

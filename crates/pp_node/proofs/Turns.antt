@@ -3,17 +3,17 @@ use Rattle.std.proofs.Common.{◌≡◌, ◌⊎◌, inl, inr, ⊎_elim, ℕ, zer
 use Rattle.std.specs.Prelude.{slice_index_or}
 use Rattle.std.specs.List.{AllByRecursion, list_any}
 use Rattle.std.proofs.lemmas.List.{length-take-le, take-take}
-use Rattle.pp_terms.specs.Book.{LookUp}
-use Rattle.pp_terms.specs.Count.{HasRisen}
-use Rattle.pp_terms.specs.Descriptor.{Descriptor, chunks_of}
-use Rattle.pp_terms.specs.Disk.{DiskState, History, moment_of}
-use Rattle.pp_terms.specs.Traffic as traffic
-use Rattle.pp_terms.specs.Traffic.{LinkState, Record, Received, Sent, GainsRecords}
+use Rattle.pp_terms.specs.tree.Book.{LookUp}
+use Rattle.pp_terms.specs.Count.{HasRisen, capped}
+use Rattle.pp_terms.specs.format.Descriptor.{Descriptor, chunks_of}
+use Rattle.pp_terms.specs.disk.Disk.{DiskState, History, IsKnown, moment_of}
+use Rattle.pp_terms.specs.format.Traffic as traffic
+use Rattle.pp_terms.specs.format.Traffic.{LinkState, Record, Received, Sent, GainsRecords}
 use Rattle.pp_terms.proofs.Knowing.{known_on}
 use Rattle.pp_traffic.specs.Past.{is_event}
-use Rattle.pp_traffic.specs.Flight.{fewer_than_two}
 use Rattle.pp_traffic.specs.Prompt.{LetsInFirst, ServesAsked}
-use Rattle.pp_traffic.specs.Turns.{AtTurnEndsBut, AtEndsBut}
+use Rattle.pp_traffic.specs.Serving.{window_of}
+use Rattle.pp_traffic.specs.Turns.{AtTurnEndsBut, AtEndsOfTurnsBut, events}
 use Rattle.pp_outside.specs.Outside.{address_of, record_of, size_of, FitsIn}
 use Rattle.pp_outside.specs.Arrivals.{IsEvent}
 use Rattle.pp_outside.specs.declared.link.Event.{Event}
@@ -21,16 +21,16 @@ use Rattle.pp_outside.specs.declared.link.Event.TheVariants.{Datagram, Quiet}
 use Rattle.pp_tree.specs.Book.{BookState, entry}
 use Rattle.pp_scan.specs.Holding.{is_there}
 use Rattle.pp_core.specs.Events.{after_event}
-use Rattle.pp_core.specs.Sends.{IsOurs, replies_on, OwesNone, Sends}
+use Rattle.pp_core.specs.Sends.{IsOurs, WasDamaged, replies_on, OwesNone, Sends}
 use Rattle.pp_core.specs.Serving.{HasPaths}
-use Rattle.pp_core.specs.Standing.{State, IsWhole, capped, StandsFor}
-use Rattle.pp_core.proofs.Counted.{CountsTurn, event_counted, event_refusals, refusal_counted, sent_turns, sent_refusals, sent_full, sent_whole}
+use Rattle.pp_core.specs.Standing.{State, IsWhole, StandsFor}
+use Rattle.pp_core.proofs.Counted.{CountsTurn, event_counted, event_refusals, refusal_counted, sent_turns, sent_refusals, sent_sound, sent_whole}
 use Rattle.pp_core.proofs.Prompts.{lets_event, serves_turn}
 use Rattle.pp_core.proofs.Relations.{gains_twice, gains_nothing, all_both, reads_twice}
 use Rattle.pp_core.proofs.Servings.{reads_nothing}
 use Rattle.pp_core.proofs.Staying.{event_descriptor, event_committed, paths_kept}
 use Rattle.pp_core.proofs.Turning.{stands_event, stands_refused}
-use Rattle.pp_node.specs.Turning.{Flushes, Waits, took, missed, TakesTurn, waits, IsCalm, IsSmooth, ServesHeld, TakesTurns}
+use Rattle.pp_node.specs.Turning.{Flushes, Waits, took, missed, TakesTurn, IsCalm, IsSmooth, ServesHeld, AreThere, TakesTurns}
 
 -- ---- the event in the buffer
 
@@ -59,7 +59,7 @@ risen_less a b c le risen below = let lt = risen below in omega (arith, lt, le)
 
 -- ---- ends of turns
 
-ends_none : (P : List Record → Type 0) (past : List Record) → AtEndsBut 0 P past → P past × AtTurnEndsBut 0 P past
+ends_none : (P : List Record → Type 0) (past : List Record) → AtEndsOfTurnsBut 0 P past → P past × AtTurnEndsBut 0 P past
 ends_none P past (inl both) = both
 ends_none P past (inr other) = absurd (let never : 0 ≡ suc other.0 = other.1 in omega (arith, never))
 
@@ -73,11 +73,11 @@ ends_sent P (Received at sender bytes ∷ sent) past all e = absurd (let never :
 ends_sent P (traffic.Quiet at ∷ sent) past all e = absurd (let never : true ≡ false = all.0 in cc)
 ends_sent P (Sent moment receiver bytes ∷ sent) past all e = ends_sent P sent past all.1 e
 
-waits_sent : (sent past : List Record) → AllByRecursion (λ r. is_event r ≡ false) sent → waits (sent ++ past) ≡ waits past
-waits_sent [] past all = refl
-waits_sent (Received at sender bytes ∷ sent) past all = absurd (let never : true ≡ false = all.0 in cc)
-waits_sent (traffic.Quiet at ∷ sent) past all = absurd (let never : true ≡ false = all.0 in cc)
-waits_sent (Sent moment receiver bytes ∷ sent) past all = waits_sent sent past all.1
+events_sent : (sent past : List Record) → AllByRecursion (λ r. is_event r ≡ false) sent → events (sent ++ past) ≡ events past
+events_sent [] past all = refl
+events_sent (Received at sender bytes ∷ sent) past all = absurd (let never : true ≡ false = all.0 in cc)
+events_sent (traffic.Quiet at ∷ sent) past all = absurd (let never : true ≡ false = all.0 in cc)
+events_sent (Sent moment receiver bytes ∷ sent) past all = events_sent sent past all.1
 
 -- ---- one wait
 
@@ -86,7 +86,7 @@ record Took (seen mid : LinkState) (s taken : State) : Type 1 where
   came : List Record
   gained : GainsRecords seen.traffic came mid.traffic
   refusals : ℕ
-  all : (past : List Record) → waits (came ++ past) + refusals ≡ waits past + 1
+  all : (past : List Record) → events (came ++ past) + refusals ≡ events past + 1
   refused : (refusals ≡ 0) ⊎ HasRisen seen.faults mid.faults
   descriptor : taken.descriptor ≡ s.descriptor
   committed : taken.committed ≡ s.committed
@@ -99,9 +99,9 @@ record Took (seen mid : LinkState) (s taken : State) : Type 1 where
       → LetsInFirst s.descriptor (sent ++ (came ++ past))
   ends : (P : List Record → Type 0) (past : List Record) → IsCalm seen.faults mid.faults → P past → AtTurnEndsBut 0 P past → AtTurnEndsBut 0 P (came ++ past)
 
-event_waits : (event : Event) (bytes : List ℕ) (past : List Record) → waits (record_of event bytes ∷ past) + 0 ≡ waits past + 1
-event_waits (Datagram sender len at) bytes past = omega arith
-event_waits (Quiet at) bytes past = omega arith
+event_counts : (event : Event) (bytes : List ℕ) (past : List Record) → events (record_of event bytes ∷ past) + 0 ≡ events past + 1
+event_counts (Datagram sender len at) bytes past = omega arith
+event_counts (Quiet at) bytes past = omega arith
 
 event_ours : (d : Descriptor) (held : List Bool) (book : LookUp) (event : Event) (bytes : List ℕ) → IsOurs d held book (record_of event bytes)
 event_ours d held book (Datagram sender len at) bytes = tt
@@ -113,7 +113,7 @@ took_wait seen mid s taken (took event bytes is gained now_is) =
       came = record_of event bytes ∷ [];
       gained = gained;
       refusals = 0;
-      all = event_waits event bytes;
+      all = event_counts event bytes;
       refused = inl refl;
       descriptor = event_descriptor s event bytes;
       committed = event_committed s event bytes;
@@ -149,6 +149,7 @@ turns_none book disk seen s = record {
   gained = gains_nothing seen.traffic seen.traffic refl;
   nexts = λ some. absurd (omega (arith, some));
   unmoved = λ e. refl;
+  bound = refl;
   later = omega arith;
   reads = reads_nothing disk;
   descriptor = refl;
@@ -159,11 +160,12 @@ turns_none book disk seen s = record {
   refused = inl refl;
   turns = λ before e. omega (arith, e);
   receive_faults = λ before e. omega (arith, e);
-  full = λ e. e;
+  named = inl refl;
+  sound = λ known there. refl;
   stands = λ since le st. st;
-  whole = λ smooth none w. w;
+  whole = λ smooth w. w;
   lets = λ calm since le st. inl (λ after r before is. absurd (no_split after r before is), tt);
-  serves = λ smooth none since le st w. inl (λ i within held life plain heard asks. absurd (let never : false ≡ true = heard in cc), tt);
+  serves = λ smooth since le st w. inl (λ i within held life plain heard few asks. absurd (let never : false ≡ true = heard in cc), tt);
 }
   where
     no_split : (after : List Record) (r : Record) (before : List Record) → [] ≡ after ++ r ∷ before → ⊥
@@ -224,24 +226,35 @@ module _ (book : LookUp) (n : ℕ) (disk half disk' : DiskState) (seen seen1 see
     there = smooth.there;
   }
 
-  -- no list ran over before
-  full_taken : u.counts.full ≡ 0 → p.taken.counts.full ≡ 0
-  full_taken none = sym (sent_full p.taken.descriptor p.taken.committed book half disk' p.mid seen' p.taken.counts u.counts p.flushed.causes) ∙ none
+  known_half : IsKnown disk → IsKnown half
+  known_half known = known_on disk half q.reads.tells q.reads.honest known
 
-  full_before : u.counts.full ≡ 0 → t.counts.full ≡ 0
-  full_before none = w.counted.full (full_taken none)
+  there_half : AreThere s.descriptor s.committed book disk → AreThere p.taken.descriptor p.taken.committed book half
+  there_half there i e =
+      subst (λ (d : Descriptor). is_there d half.history.reads book i ≡ true) (sym taken_descriptor)
+      (subst (λ (h : History). is_there s.descriptor h.reads book i ≡ true) (sym q.reads.same)
+      (there i (subst (λ (set : List Bool). slice_index_or set i false ≡ true) taken_committed e)))
 
-  whole_now : IsSmooth s.descriptor s.committed book disk disk' seen seen' → u.counts.full ≡ 0 → IsWhole s.counts → IsWhole u.counts
-  whole_now smooth none whole =
+  whole_now : IsSmooth s.descriptor s.committed book disk disk' seen seen' → IsWhole s.counts → IsWhole u.counts
+  whole_now smooth whole =
       sent_whole p.taken.descriptor p.taken.committed book half disk' p.mid seen' p.taken.counts u.counts p.flushed.causes (calm_send smooth.link)
       (λ risen. smooth.reads (risen_less disk.faults half.faults disk'.faults q.reads.later risen))
-      (known_on disk half q.reads.tells q.reads.honest smooth.known)
-      (λ i e. subst (λ (d : Descriptor). is_there d half.history.reads book i ≡ true) (sym taken_descriptor)
-      (subst (λ (h : History). is_there s.descriptor h.reads book i ≡ true) (sym q.reads.same)
-      (smooth.there i (subst (λ (set : List Bool). slice_index_or set i false ≡ true) taken_committed e))))
-      (w.counted.whole (full_taken none) (q.whole (smooth_before smooth) (full_before none) whole))
+      (known_half smooth.known) (there_half smooth.there)
+      (w.counted.whole (q.whole (smooth_before smooth) whole))
 
-  lets_now : IsCalm seen.faults seen'.faults → (since : ℕ) → since ≤ moment_of disk.history → StandsFor book since s [] → AtEndsBut 0 (LetsInFirst s.descriptor) all_added
+  named_now : (u.counts.damaged ≡ s.counts.damaged) ⊎ WasDamaged s.descriptor s.committed book
+  named_now = ⊎_elim
+      (λ same. ⊎_elim (λ before. inl (same ∙ w.counted.damaged ∙ before)) (λ was. inr was) q.named)
+      (λ was. inr (subst (λ (d : Descriptor). WasDamaged d s.committed book) taken_descriptor
+      (subst (λ (set : List Bool). WasDamaged p.taken.descriptor set book) taken_committed was)))
+      p.flushed.causes.named
+
+  sound_now : IsKnown disk → AreThere s.descriptor s.committed book disk → u.counts.damaged ≡ s.counts.damaged
+  sound_now known there =
+      sent_sound p.taken.descriptor p.taken.committed book half disk' p.mid seen' p.taken.counts u.counts p.flushed.causes (known_half known) (there_half there)
+      ∙ w.counted.damaged ∙ q.sound known there
+
+  lets_now : IsCalm seen.faults seen'.faults → (since : ℕ) → since ≤ moment_of disk.history → StandsFor book since s [] → AtEndsOfTurnsBut 0 (LetsInFirst s.descriptor) all_added
   lets_now calm since le st =
       let before = ends_none (LetsInFirst s.descriptor) q.added (q.lets (calm_before calm) since le st) in
       let done : OwesNone u = ⊎_elim (λ none. none) (λ risen. absurd (calm_send calm risen)) p.flushed.replied in
@@ -257,23 +270,23 @@ module _ (book : LookUp) (n : ℕ) (disk half disk' : DiskState) (seen seen1 see
   committed_now : u.committed ≡ s.committed
   committed_now = sends.core.committed ∙ taken_committed
 
-  serves_here : IsSmooth s.descriptor s.committed book disk disk' seen seen' → u.counts.full ≡ 0 → (since : ℕ) → since ≤ moment_of disk.history → StandsFor book since s [] → IsWhole s.counts
+  serves_here : IsSmooth s.descriptor s.committed book disk disk' seen seen' → (since : ℕ) → since ≤ moment_of disk.history → StandsFor book since s [] → IsWhole s.counts
       → ServesHeld s.descriptor s.committed all_added
-  serves_here smooth none since le st whole i within held =
-      subst (λ (d : Descriptor). ServesAsked d fewer_than_two i all_added) descriptor_now
+  serves_here smooth since le st whole i within held =
+      subst (λ (d : Descriptor). ServesAsked d (window_of d) i all_added) descriptor_now
       (serves_turn book since u i all_added (stands_now since le st)
       (record {
         within = subst (λ (d : Descriptor). i < chunks_of d) (sym descriptor_now) within;
         committed = subst (λ (set : List Bool). slice_index_or set i false ≡ true) (sym committed_now) held;
-        whole = whole_now smooth none whole;
+        whole = whole_now smooth whole;
       }) p.flushed.served)
 
-  serves_now : IsSmooth s.descriptor s.committed book disk disk' seen seen' → u.counts.full ≡ 0 → (since : ℕ) → since ≤ moment_of disk.history → StandsFor book since s [] → IsWhole s.counts
-      → AtEndsBut 0 (ServesHeld s.descriptor s.committed) all_added
-  serves_now smooth none since le st whole =
-      let before = ends_none (ServesHeld s.descriptor s.committed) q.added (q.serves (smooth_before smooth) (full_before none) since le st whole) in
+  serves_now : IsSmooth s.descriptor s.committed book disk disk' seen seen' → (since : ℕ) → since ≤ moment_of disk.history → StandsFor book since s [] → IsWhole s.counts
+      → AtEndsOfTurnsBut 0 (ServesHeld s.descriptor s.committed) all_added
+  serves_now smooth since le st whole =
+      let before = ends_none (ServesHeld s.descriptor s.committed) q.added (q.serves (smooth_before smooth) since le st whole) in
       inl (
-        serves_here smooth none since le st whole,
+        serves_here smooth since le st whole,
         ends_sent (ServesHeld s.descriptor s.committed) sends.added (w.came ++ q.added) sends.all_sent (w.ends (ServesHeld s.descriptor s.committed) q.added (calm_wait smooth.link) before.0 before.1),
       )
 
@@ -283,6 +296,7 @@ module _ (book : LookUp) (n : ℕ) (disk half disk' : DiskState) (seen seen1 see
     gained = gains_twice seen.traffic p.mid.traffic seen'.traffic (w.came ++ q.added) sends.added (gains_twice seen.traffic seen1.traffic p.mid.traffic q.added w.came q.gained w.gained) sends.gained;
     nexts = λ some. sends.nexts ∙ next_step n seen.nexts seen1.nexts p.mid.nexts q.nexts q.unmoved p.nexts;
     unmoved = λ none. absurd (omega (arith, none));
+    bound = sends.bound ∙ p.bound ∙ q.bound;
     later = omega (arith, q.later, p.later, sends.later);
     reads = reads_twice disk half disk' q.reads p.flushed.reads;
     descriptor = descriptor_now;
@@ -290,7 +304,7 @@ module _ (book : LookUp) (n : ℕ) (disk half disk' : DiskState) (seen seen1 see
     ours = all_both (IsOurs s.descriptor s.committed book) sends.added (w.came ++ q.added) (ours_as s.descriptor p.taken.descriptor s.committed p.taken.committed book sends.added taken_descriptor taken_committed sends.shaped)
         (all_both (IsOurs s.descriptor s.committed book) w.came q.added (w.ours s.descriptor s.committed book) q.ours);
     refusals = q.refusals + w.refusals;
-    all = let sent = waits_sent sends.added (w.came ++ q.added) sends.all_sent in let came = w.all q.added in omega (arith, sent, came, q.all);
+    all = let sent = events_sent sends.added (w.came ++ q.added) sends.all_sent in let came = w.all q.added in omega (arith, sent, came, q.all);
     refused = refused_twice q.refusals w.refusals seen.faults seen1.faults seen'.faults q.later (omega (arith, p.later, sends.later)) q.refused
         (⊎_elim (λ e. inl e) (λ risen. inr (risen_more seen1.faults p.mid.faults seen'.faults sends.later risen)) w.refused);
     turns = λ before e.
@@ -302,17 +316,18 @@ module _ (book : LookUp) (n : ℕ) (disk half disk' : DiskState) (seen seen1 see
         let h1 = sent_refusals p.taken.descriptor p.taken.committed book half disk' p.mid seen' p.taken.counts u.counts p.flushed.causes in
         let h2 = w.receive_faults (before + q.refusals) (q.receive_faults before e) in
         omega (arith, h1, h2);
-    full = λ none. q.full (full_before none);
+    named = named_now;
+    sound = sound_now;
     stands = stands_now;
     whole = whole_now;
     lets = lets_now;
     serves = serves_now;
   }
 
-pub turn_of : (book : LookUp) (disk half disk' : DiskState) (seen mid seen' : LinkState) (s taken new : State) → half ≡ disk → Waits seen mid s taken → mid.nexts ≡ capped (seen.nexts + 1) → seen.faults ≤ mid.faults
-    → Flushes book half disk' mid seen' taken new → TakesTurn book disk disk' seen seen' s new
-turn_of book disk half disk' seen mid seen' s taken new same waited nexts later flushed =
-    record { mid = mid; taken = taken; waited = waited; nexts = nexts; later = later; flushed = subst (λ (x : DiskState). Flushes book x disk' mid seen' taken new) same flushed }
+pub turn_of : (book : LookUp) (disk half disk' : DiskState) (seen mid seen' : LinkState) (s taken new : State) → half ≡ disk → Waits seen mid s taken → mid.nexts ≡ capped (seen.nexts + 1) → mid.bound ≡ seen.bound
+    → seen.faults ≤ mid.faults → Flushes book half disk' mid seen' taken new → TakesTurn book disk disk' seen seen' s new
+turn_of book disk half disk' seen mid seen' s taken new same waited nexts bound later flushed =
+    record { mid = mid; taken = taken; waited = waited; nexts = nexts; bound = bound; later = later; flushed = subst (λ (x : DiskState). Flushes book x disk' mid seen' taken new) same flushed }
 
 -- ---- the loop
 

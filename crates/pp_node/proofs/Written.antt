@@ -2,7 +2,7 @@
 use Rattle.std.proofs.Common.{◌≡◌, ℕ, ◌+◌, ◌-◌, ◌<◌, ◌≤◌, Option, Some, None, List, [], ◌++◌, length, take, drop, Ok, refl, sym, ◌∙◌, ap, subst, arith, append_assoc}
 use Rattle.std.proofs.Math.Seq.{take-add}
 use Rattle.std.proofs.lemmas.List.{take_all, append-nil, length-drop}
-use Rattle.pp_terms.specs.Stream.{SinkState, DoesGive, Gains}
+use Rattle.pp_terms.specs.command.Stream.{SinkState, DoesGive, Gains}
 
 -- the sink has taken the first bytes
 pub record IsWritten (old new : SinkState) (bytes : List ℕ) (written : ℕ) : Type 0 where

@@ -1,6 +1,6 @@
 -- The commands that are built.
 use Rattle.std.specs.Prelude.{List, [], ◌∷◌}
-use Rattle.pp_terms.specs.CommandLine.{Shape, import_shape, seed_shape, check_shape, export_shape}
+use Rattle.pp_terms.specs.command.CommandLine.{Shape, import_shape, seed_shape, check_shape, export_shape}
 
 abbrev pub built : List Shape
 built =

@@ -1,18 +1,21 @@
 -- What a run of `export STORE DESCRIPTOR` does. `found` of the disk's history is what reads gave when the store was attached.
 use Rattle.std.specs.Prelude.{◌≡◌, ◌⊎◌, ℕ, ◌+◌, ◌*◌, ◌<◌, ◌≤◌, min, true, false, List, length, take, is_some, Result, Ok, Err}
 use Rattle.pp_terms.specs.Count.{HasRisen}
-use Rattle.pp_terms.specs.Content.{chunk_of, chunk_length}
-use Rattle.pp_terms.specs.Book.{LookUp, IsRooted, IsBacked}
-use Rattle.pp_terms.specs.Descriptor.{Descriptor, chunks_of}
-use Rattle.pp_terms.specs.Store.{chunk_place}
-use Rattle.pp_terms.specs.Image.{holds}
-use Rattle.pp_terms.specs.Disk.{DiskState, IsKnown, IsRead}
-use Rattle.pp_terms.specs.Stream.{SourceState, SinkState, Gains}
+use Rattle.pp_terms.specs.tree.Content.{chunk_of, chunk_length}
+use Rattle.pp_terms.specs.tree.Book.{LookUp, IsRooted, IsBacked}
+use Rattle.pp_terms.specs.format.Descriptor.{Descriptor, chunks_of}
+use Rattle.pp_terms.specs.disk.Store.{chunk_place}
+use Rattle.pp_terms.specs.disk.Image.{is_found}
+use Rattle.pp_terms.specs.disk.Disk.{DiskState, IsKnown, GainsName, IsRead}
+use Rattle.pp_terms.specs.command.Stream.{SinkState, Gains}
+use Rattle.pp_tree.specs.Book.{entry, IsBookOf}
 use Rattle.pp_scan.specs.declared.scanning.ScanFault.{ScanFault}
 use Rattle.pp_scan.specs.declared.scanning.ScanFault.TheVariants as scans
 use Rattle.pp_scan.specs.Holding.{is_there}
 use Rattle.pp_store.specs.ReadChunk as store
-use Rattle.pp_node.specs.Looking.{IsOf, IsOther, IsUnwritten}
+use Rattle.pp_node.specs.Looking.{IsOf, IsRefused, IsUnwritten}
+use Rattle.pp_node.specs.Outside.{Outside}
+use Rattle.pp_node.specs.Faults.{Faults}
 use Rattle.pp_node.specs.Text.{GainsPart}
 use Rattle.pp_node.specs.Status.{number_of}
 use Rattle.pp_node.specs.declared.exporting.PutFault.{PutFault}
@@ -32,57 +35,49 @@ pub record AreChunks (d : Descriptor) (disk disk' : DiskState) (book : LookUp) (
   pub each : (i : ℕ) → i < n → IsChunk d disk disk' book i (chunk_of bytes d.chunk i)
 
 -- The sink gained the first n chunks and no more.
-pub record HasPut (d : Descriptor) (sink sink' : SinkState) (disk disk' : DiskState) (book : LookUp) (n : ℕ) : Type 0 where
+pub record HasPut (d : Descriptor) (old new : Outside) (n : ℕ) : Type 0 where
   pub bytes : List ℕ
-  pub chunks : AreChunks d disk disk' book n bytes
-  pub gained : Gains sink.taken bytes sink'.taken
+  pub chunks : AreChunks d old.disk new.disk (entry new.book) n bytes
+  pub gained : Gains old.sink.taken bytes new.sink.taken
 
 -- The file begins with the header and holds every chunk.
 pub record IsWhole (d : Descriptor) (disk disk' : DiskState) : Type 0 where
   pub begins : IsKnown disk → IsOf d disk'.history.found
-  pub holding : IsKnown disk → (i : ℕ) → i < chunks_of d → holds d disk'.history.found i ≡ true
+  pub holding : IsKnown disk → (i : ℕ) → i < chunks_of d → is_found d disk'.history.found i ≡ true
 
 -- Done: the sink gained the whole content.
-pub record IsExported (d : Descriptor) (sink sink' : SinkState) (disk disk' : DiskState) (book : LookUp) : Type 0 where
-  pub whole : IsWhole d disk disk'
+pub record IsExported (d : Descriptor) (old new : Outside) : Type 0 where
+  pub whole : IsWhole d old.disk new.disk
   pub content : List ℕ
   pub size : length content ≡ d.size
-  pub each : (i : ℕ) → i < chunks_of d → IsChunk d disk disk' book i (chunk_of content d.chunk i)
-  pub gained : Gains sink.taken content sink'.taken
-
--- The file is another's.
-pub record IsNotAStore (d : Descriptor) (sink sink' : SinkState) (disk disk' : DiskState) : Type 0 where
-  pub at : ℕ
-  pub found : ℕ
-  pub want : ℕ
-  pub other : IsOther d at found want disk disk'
-  pub silent : sink' ≡ sink
+  pub each : (i : ℕ) → i < chunks_of d → IsChunk d old.disk new.disk (entry new.book) i (chunk_of content d.chunk i)
+  pub gained : Gains old.sink.taken content new.sink.taken
 
 -- Some chunk isn't held.
-pub record IsIncomplete (d : Descriptor) (sink sink' : SinkState) (disk disk' : DiskState) : Type 0 where
-  pub begins : IsKnown disk → IsOf d disk'.history.found
-  pub absent : IsKnown disk → (i : ℕ) × (i < chunks_of d) × (holds d disk'.history.found i ≡ false)
-  pub silent : sink' ≡ sink
+pub record IsIncomplete (d : Descriptor) (old new : Outside) : Type 0 where
+  pub begins : IsKnown old.disk → IsOf d new.disk.history.found
+  pub absent : IsKnown old.disk → (i : ℕ) × (i < chunks_of d) × (is_found d new.disk.history.found i ≡ false)
+  pub silent : new.sink ≡ old.sink
 
 -- The disk refused a call: before any chunk was written, or the reading of chunk n.
-pub record IsDiskFault (d : Descriptor) (sink sink' : SinkState) (disk disk' : DiskState) (book : LookUp) : Type 0 where
-  pub risen : HasRisen disk.faults disk'.faults
-  pub stopped : (sink' ≡ sink) ⊎ ((n : ℕ) × (n < chunks_of d) × HasPut d sink sink' disk disk' book n × IsWhole d disk disk')
+pub record IsDiskFault (d : Descriptor) (old new : Outside) : Type 0 where
+  pub refused : IsRefused d old.disk new.disk
+  pub stopped : (new.sink ≡ old.sink) ⊎ ((n : ℕ) × (n < chunks_of d) × HasPut d old new n × IsWhole d old.disk new.disk)
 
 -- The sink refused a piece of chunk n, and took the chunks before it and what it took of this one.
-pub record IsSinkFault (d : Descriptor) (sink sink' : SinkState) (disk disk' : DiskState) (book : LookUp) : Type 0 where
-  pub risen : HasRisen sink.faults sink'.faults
-  pub whole : IsWhole d disk disk'
+pub record IsSinkFault (d : Descriptor) (old new : Outside) : Type 0 where
+  pub risen : HasRisen old.sink.faults new.sink.faults
+  pub whole : IsWhole d old.disk new.disk
   pub n : ℕ
   pub count : ℕ
   pub bytes : List ℕ
-  pub chunks : AreChunks d disk disk' book (n + 1) bytes
+  pub chunks : AreChunks d old.disk new.disk (entry new.book) (n + 1) bytes
   pub least : n * d.chunk ≤ count
   pub short : count < length bytes
-  pub gained : Gains sink.taken (take count bytes) sink'.taken
+  pub gained : Gains old.sink.taken (take count bytes) new.sink.taken
 
--- Chunk n was read back, and what was read has another digest than the book's: both are named. Over a disk that is honest and
--- tells that never happens.
+-- Bytes that were read at chunk n have another digest than the book's: both are named. Over a disk that is honest and tells
+-- that never happens.
 pub record IsDamagedChunk (d : Descriptor) (disk : DiskState) (book : LookUp) (n : ℕ) : Type 0 where
   pub bytes : List ℕ
   pub found : List ℕ
@@ -92,26 +87,22 @@ pub record IsDamagedChunk (d : Descriptor) (disk : DiskState) (book : LookUp) (n
   pub never : IsKnown disk → ⊥
 
 -- Chunk n was damaged, and the sink gained the chunks before it and no more.
-pub record IsDamaged (d : Descriptor) (sink sink' : SinkState) (disk disk' : DiskState) (book : LookUp) : Type 0 where
+pub record IsDamaged (d : Descriptor) (old new : Outside) : Type 0 where
   pub n : ℕ
   pub within : n < chunks_of d
-  pub put : HasPut d sink sink' disk disk' book n
-  pub damaged : IsDamagedChunk d disk book n
-
-pub record IsMemory (d : Descriptor) (sink sink' : SinkState) (disk disk' : DiskState) : Type 0 where
-  pub begins : IsKnown disk → IsOf d disk'.history.found
-  pub silent : sink' ≡ sink
+  pub put : HasPut d old new n
+  pub damaged : IsDamagedChunk d old.disk (entry new.book) n
 
 -- When each status comes, and what the sink gained.
-abbrev pub ExportsIn : Status → Descriptor → SinkState → SinkState → DiskState → DiskState → LookUp → Type 0
-ExportsIn Done d sink sink' disk disk' book = IsExported d sink sink' disk disk' book
-ExportsIn NotAStore d sink sink' disk disk' book = IsNotAStore d sink sink' disk disk'
-ExportsIn Incomplete d sink sink' disk disk' book = IsIncomplete d sink sink' disk disk'
-ExportsIn DiskFault d sink sink' disk disk' book = IsDiskFault d sink sink' disk disk' book
-ExportsIn SinkFault d sink sink' disk disk' book = IsSinkFault d sink sink' disk disk' book
-ExportsIn Memory d sink sink' disk disk' book = IsMemory d sink sink' disk disk'
-ExportsIn Damaged d sink sink' disk disk' book = IsDamaged d sink sink' disk disk' book
-ExportsIn _ d sink sink' disk disk' book = ⊥
+abbrev pub ExportsIn : Status → Descriptor → Outside → Outside → Type 0
+ExportsIn Done d old new = IsExported d old new
+ExportsIn NotAStore d old new = Faults false NotAStore d old new
+ExportsIn Incomplete d old new = IsIncomplete d old new
+ExportsIn DiskFault d old new = IsDiskFault d old new
+ExportsIn SinkFault d old new = IsSinkFault d old new
+ExportsIn Memory d old new = Faults false Memory d old new
+ExportsIn Damaged d old new = IsDamaged d old new
+ExportsIn _ d old new = ⊥
 
 -- the status that stands for a fault of the scan
 abbrev pub status_of_scan : ScanFault → Status
@@ -129,7 +120,7 @@ abbrev pub status_of_put : Result (Unit {0}) PutFault → Status
 status_of_put (Ok _) = Done
 status_of_put (Err fault) = status_of_fault fault
 
--- Every chunk was found at the scan, and nothing was written since the attachment.
+-- Every chunk was found at the scan, and reads give what they gave at the attachment.
 pub record IsReadable (d : Descriptor) (disk : DiskState) (book : LookUp) : Type 0 where
   pub rooted : IsRooted d book
   pub whole : IsWhole d disk disk
@@ -145,11 +136,13 @@ PutsChunk d i sink sink' disk disk' book (Err puts.Sink) =
     HasRisen sink.faults sink'.faults × (bytes : List ℕ) × IsChunk d disk disk' book i bytes × GainsPart bytes sink sink'
 PutsChunk d i sink sink' disk disk' book (Err puts.Damaged) = IsDamagedChunk d disk book i × (sink' ≡ sink)
 
--- A run of `export`, by the number that it answers. It writes nothing to the disk, prints no line and doesn't read the source.
-pub record ExportEnds (result : ℕ) (d : Descriptor) (source source' : SourceState) (sink sink' : SinkState) (disk disk' : DiskState) (book book' : LookUp) : Type 0 where
+-- A run of `export`, by the number that it answers. The store was attached by its name. Since then nothing was written to it,
+-- with one sync at the most. No line is printed, and the source isn't read.
+pub record ExportEnds (result : ℕ) (store : List ℕ) (d : Descriptor) (old new : Outside) : Type 0 where
   pub status : Status
   pub number : result ≡ number_of status
-  pub ends : ExportsIn status d sink sink' disk disk' book'
-  pub unwritten : IsUnwritten disk disk'
-  pub unread : source' ≡ source
-  pub rooted : (book' ≡ book) ⊎ IsRooted d book'
+  pub ends : ExportsIn status d old new
+  pub named : IsKnown old.disk → GainsName old.disk.history.names store new.disk.history.names
+  pub unwritten : IsUnwritten old.disk new.disk
+  pub unread : new.source ≡ old.source
+  pub rooted : (new.book ≡ old.book) ⊎ IsBookOf d new.book

@@ -1,11 +1,12 @@
 pub mod Text
 pub mod Status
 pub mod Built
+pub mod Outside
+pub mod Looking
+pub mod Faults
 pub mod Run
 pub mod Turning
 pub mod Preparing
-pub mod Counting
-pub mod Looking
 pub mod Held
 pub mod Checking
 pub mod Seeding

@@ -1,11 +1,12 @@
 -- What is found and done before the first turn of a peer that seeds.
-use Rattle.std.specs.Prelude.{◌≡◌, ℕ, ◌<◌, ◌≤◌, true, false, List, [], length, slice_index_or, Result, Ok, Err}
-use Rattle.pp_terms.specs.Book.{LookUp}
+use Rattle.std.specs.Prelude.{◌≡◌, ◌⊎◌, ℕ, ◌<◌, ◌≤◌, true, false, List, [], length, slice_index_or, Option, Result, Ok, Err}
+use Rattle.pp_terms.specs.tree.Book.{LookUp}
 use Rattle.pp_terms.specs.Count.{HasRisen}
-use Rattle.pp_terms.specs.Descriptor.{Descriptor, chunks_of}
-use Rattle.pp_terms.specs.Disk.{DiskState, History, IsKnown, moment_of}
-use Rattle.pp_terms.specs.Image.{holds}
-use Rattle.pp_terms.specs.Traffic.{LinkState}
+use Rattle.pp_terms.specs.format.Descriptor.{Descriptor, chunks_of}
+use Rattle.pp_terms.specs.disk.Disk.{DiskState, History, IsKnown, moment_of}
+use Rattle.pp_terms.specs.disk.Image.{is_found}
+use Rattle.pp_terms.specs.disk.Untouched.{IsFreshlyAttached, IsSyncedAtMost}
+use Rattle.pp_terms.specs.format.Traffic.{Address, LinkState, GainsAddress}
 use Rattle.pp_traffic.specs.Keeping.{StoodThroughout, StandsSince}
 use Rattle.pp_scan.specs.Holding.{is_there}
 use Rattle.pp_store.specs.Store.{AllStand}
@@ -48,9 +49,11 @@ pub record IsReady (d : Descriptor) (random : List ℕ) (disk disk' : DiskState)
   pub there : IsKnown disk → (i : ℕ) → slice_index_or s.committed i false ≡ true → is_there d disk'.history.reads book i ≡ true
   pub kept : IsKnown disk → AllStand d s.committed disk'.history
   pub begins : IsKnown disk → IsOf d disk'.history.found
-  -- exactly the chunks are committed that were held at the attachment; a file that wasn't empty is read as it was
-  pub held : IsKnown disk → (i : ℕ) → i < chunks_of d → slice_index_or s.committed i false ≡ holds d disk'.history.found i
-  pub still : IsKnown disk → 0 < length disk'.history.found → disk'.history.reads ≡ disk'.history.found
+  -- exactly the chunks are committed that were found at the attachment, and each that stood in every image then; to a file
+  -- that wasn't empty nothing was written since, and it was synced once at the most
+  pub held : IsKnown disk → (i : ℕ) → i < chunks_of d → slice_index_or s.committed i false ≡ is_found d disk'.history.found i
+  pub taken : IsKnown disk → (i : ℕ) → StoodThroughout d disk'.history i → slice_index_or s.committed i false ≡ true
+  pub still : IsKnown disk → 0 < length disk'.history.found → IsSyncedAtMost disk'.history
   pub tells : disk'.tells ≡ disk.tells
   pub honest : disk'.honest ≡ disk.honest
   pub later : disk.faults ≤ disk'.faults
@@ -71,3 +74,20 @@ HasOpenedPeer d random disk disk' book (Err (NotAStore at found want)) = IsOther
 HasOpenedPeer d random disk disk' book (Err Disk) = HasRisen disk.faults disk'.faults
 HasOpenedPeer d random disk disk' book (Err Link) = ⊥
 HasOpenedPeer d random disk disk' book (Err Memory) = IsKnown disk → IsOf d disk'.history.found
+
+-- What was done on the disk since the attachment, where no peer was made ready. Nothing was with a file of another, a refusal
+-- to listen or no memory; and with a refusal of the disk only where the file was empty or the descriptor's.
+abbrev pub LeavesDisk : Descriptor → History → Result Ready SeedFault → Type 0
+LeavesDisk d h (Ok ready) = Unit {0}
+LeavesDisk d h (Err (NotAStore at found want)) = IsFreshlyAttached h
+LeavesDisk d h (Err Disk) = IsOf d h.found ⊎ IsFreshlyAttached h
+LeavesDisk d h (Err Link) = IsFreshlyAttached h
+LeavesDisk d h (Err Memory) = IsFreshlyAttached h
+
+-- The link was bound to that address, unless it refused, or the store was refused before.
+abbrev pub LeavesLink : Option (List Address) → Address → Option (List Address) → Result Ready SeedFault → Type 0
+LeavesLink old listen new (Ok ready) = GainsAddress old listen new
+LeavesLink old listen new (Err (NotAStore at found want)) = (new ≡ old) ⊎ GainsAddress old listen new
+LeavesLink old listen new (Err Disk) = (new ≡ old) ⊎ GainsAddress old listen new
+LeavesLink old listen new (Err Link) = new ≡ old
+LeavesLink old listen new (Err Memory) = GainsAddress old listen new

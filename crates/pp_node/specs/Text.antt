@@ -1,7 +1,7 @@
 -- What a sink is told.
 use Rattle.std.specs.Prelude.{◌⊎◌, ℕ, ◌<◌, List, length, take}
 use Rattle.pp_terms.specs.Count.{HasRisen}
-use Rattle.pp_terms.specs.Stream.{SinkState, Gains}
+use Rattle.pp_terms.specs.command.Stream.{SinkState, Gains}
 
 -- The sink gained this text, or it refused a write.
 abbrev pub Says : List ℕ → SinkState → SinkState → Type 0

@@ -1,11 +1,13 @@
 // The command `check STORE DESCRIPTOR`.
 ghost use Rattle.std.specs.Prelude.{◌≡◌, ◌⊎◌, OnOk};
 ghost use Rattle.pp_terms.specs.Count.{HasCause};
-ghost use Rattle.pp_terms.specs.Stream.{Gains};
-ghost use Rattle.pp_terms.specs.Book.{IsRooted};
-ghost use Rattle.pp_tree.specs.Book.{entry, empty_book};
+ghost use Rattle.pp_terms.specs.command.Stream.{SourceState, Gains};
+ghost use Rattle.pp_terms.specs.format.Traffic.{LinkState};
+ghost use Rattle.pp_terms.specs.disk.Disk.{IsKnown, GainsName};
+ghost use Rattle.pp_tree.specs.Book.{empty_book, IsBookOf};
+ghost use Rattle.pp_node.specs.Outside.{outside};
 ghost use Rattle.pp_node.specs.Looking.{IsUnwritten};
-ghost use Rattle.pp_node.specs.Held.{not_a_store_line};
+ghost use Rattle.pp_terms.specs.command.Report.{not_a_store_line};
 ghost use Rattle.pp_node.specs.Checking.{ChecksIn, ReportsScan};
 
 use crate::looking::look;
@@ -27,9 +29,13 @@ pub(crate) fn check<D: Disk, K: Sink>(
     book: &mut Book,
 ) -> Status
     requires { book.old ≡ empty_book }
-    ensures ends { ChecksIn result descriptor.now (K.state sink.old) (K.state sink.new) (D.state disk.old) (D.state disk.new) }
+    ensures ends { (link : LinkState) (source : SourceState)
+        → ChecksIn result descriptor.now (outside (D.state disk.old) link source (K.state sink.old) book.old)
+        (outside (D.state disk.new) link source (K.state sink.new) book.new) }
     ensures unwritten { IsUnwritten (D.state disk.old) (D.state disk.new) }
-    ensures rooted { (book.new ≡ book.old) ⊎ IsRooted descriptor.now (entry book.new) }
+    ensures named { IsKnown (D.state disk.old)
+        → GainsName (D.state disk.old).history.names store.now (D.state disk.new).history.names }
+    ensures rooted { (book.new ≡ book.old) ⊎ IsBookOf descriptor.now book.new }
 {
     match look(alloc, store, descriptor, disk, book) {
         Ok(set) => match put_held(&set, descriptor.chunks(), sink) {

@@ -1,8 +1,9 @@
 // The lines of a peer's counts.
 ghost use Rattle.std.specs.Prelude.{◌≡◌, ◌++◌, OnOk};
 ghost use Rattle.pp_terms.specs.Count.{HasCause};
-ghost use Rattle.pp_terms.specs.Stream.{Gains};
-ghost use Rattle.pp_node.specs.Counting.{first_counts, other_counts, counts_text};
+ghost use Rattle.pp_terms.specs.command.Stream.{Gains};
+ghost use Rattle.pp_core.specs.Counting.{tally_of};
+ghost use Rattle.pp_terms.specs.command.Tally.{first_lines, other_lines, tally_text};
 
 use crate::printing::put_counted;
 use pp_core::Counts;
@@ -10,7 +11,7 @@ use pp_outside::{Sink, SinkFault};
 
 /// Prints a line for each count.
 pub(crate) fn put_counts<K: Sink>(counts: &Counts, sink: &mut K) -> Result<(), SinkFault>
-    ensures gained { OnOk result (Gains (K.state sink.old).taken (counts_text counts.now) (K.state sink.new).taken) }
+    ensures gained { OnOk result (Gains (K.state sink.old).taken (tally_text (tally_of counts.now)) (K.state sink.new).taken) }
     ensures cause { HasCause (K.state sink.old).faults (K.state sink.new).faults result }
 {
     put_first(counts, sink)?;
@@ -19,7 +20,7 @@ pub(crate) fn put_counts<K: Sink>(counts: &Counts, sink: &mut K) -> Result<(), S
 
 // What came and went.
 fn put_first<K: Sink>(counts: &Counts, sink: &mut K) -> Result<(), SinkFault>
-    ensures gained { OnOk result (Gains (K.state sink.old).taken (first_counts counts.now) (K.state sink.new).taken) }
+    ensures gained { OnOk result (Gains (K.state sink.old).taken (first_lines (tally_of counts.now)) (K.state sink.new).taken) }
     ensures cause { HasCause (K.state sink.old).faults (K.state sink.new).faults result }
 {
     put_counted(sink, b"turns ", counts.turns, b"\n")?;
@@ -42,7 +43,7 @@ fn put_first<K: Sink>(counts: &Counts, sink: &mut K) -> Result<(), SinkFault>
 
 // What came to nothing.
 fn put_others<K: Sink>(counts: &Counts, sink: &mut K) -> Result<(), SinkFault>
-    ensures gained { OnOk result (Gains (K.state sink.old).taken (other_counts counts.now) (K.state sink.new).taken) }
+    ensures gained { OnOk result (Gains (K.state sink.old).taken (other_lines (tally_of counts.now)) (K.state sink.new).taken) }
     ensures cause { HasCause (K.state sink.old).faults (K.state sink.new).faults result }
 {
     put_counted(sink, b"not_a_node ", counts.not_a_node, b"\n")?;

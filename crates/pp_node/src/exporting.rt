@@ -1,9 +1,12 @@
 // The command `export STORE DESCRIPTOR`.
 ghost use Rattle.std.specs.Prelude.{◌≡◌, ◌⊎◌, ◌<◌, ◌≤◌, length};
-ghost use Rattle.pp_terms.specs.Book.{IsRooted};
-ghost use Rattle.pp_terms.specs.Descriptor.{IsDescriptor, chunks_of};
-ghost use Rattle.pp_terms.specs.Disk.{IsKnown};
-ghost use Rattle.pp_tree.specs.Book.{entry, empty_book};
+ghost use Rattle.pp_terms.specs.tree.Book.{IsRooted};
+ghost use Rattle.pp_terms.specs.format.Descriptor.{IsDescriptor, chunks_of};
+ghost use Rattle.pp_terms.specs.disk.Disk.{IsKnown, GainsName};
+ghost use Rattle.pp_terms.specs.command.Stream.{SourceState};
+ghost use Rattle.pp_terms.specs.format.Traffic.{LinkState};
+ghost use Rattle.pp_tree.specs.Book.{BookState, entry, empty_book, IsBookOf};
+ghost use Rattle.pp_node.specs.Outside.{outside};
 ghost use Rattle.pp_scan.specs.Look.{KeepsAll};
 ghost use Rattle.pp_node.specs.Looking.{IsFound, IsUnwritten};
 ghost use Rattle.pp_node.specs.Exporting.{ExportsIn, IsReadable, PutsChunk, status_of_scan, status_of_fault, status_of_put};
@@ -52,9 +55,13 @@ pub(crate) fn export<D: Disk, K: Sink>(
     book: &mut Book,
 ) -> Status
     requires { book.old ≡ empty_book }
-    ensures ends { ExportsIn result descriptor.now (K.state sink.old) (K.state sink.new) (D.state disk.old) (D.state disk.new) (entry book.new) }
+    ensures ends { (link : LinkState) (source : SourceState)
+        → ExportsIn result descriptor.now (outside (D.state disk.old) link source (K.state sink.old) book.old)
+        (outside (D.state disk.new) link source (K.state sink.new) book.new) }
     ensures unwritten { IsUnwritten (D.state disk.old) (D.state disk.new) }
-    ensures rooted { (book.new ≡ book.old) ⊎ IsRooted descriptor.now (entry book.new) }
+    ensures named { IsKnown (D.state disk.old)
+        → GainsName (D.state disk.old).history.names store.now (D.state disk.new).history.names }
+    ensures rooted { (book.new ≡ book.old) ⊎ IsBookOf descriptor.now book.new }
 {
     match look(alloc, store, descriptor, disk, book) {
         Ok(set) => put_found(&set, descriptor, disk, sink, book),
@@ -83,7 +90,9 @@ fn put_found<D: Disk, K: Sink>(
     requires found { IsFound descriptor.now (D.state disk.old) (D.state disk.old) (entry book.now) set.now }
     requires same { IsKnown (D.state disk.old) → (D.state disk.old).history.reads ≡ (D.state disk.old).history.found }
     requires rooted { IsRooted descriptor.now (entry book.now) }
-    ensures ends { ExportsIn result descriptor.now (K.state sink.old) (K.state sink.new) (D.state disk.old) (D.state disk.new) (entry book.now) }
+    ensures ends { (link : LinkState) (source : SourceState) (before : BookState)
+        → ExportsIn result descriptor.now (outside (D.state disk.old) link source (K.state sink.old) before)
+        (outside (D.state disk.new) link source (K.state sink.new) book.now) }
     ensures looks { KeepsAll (D.state disk.old) (D.state disk.new) }
 {
     match set.first_absent() {
@@ -103,7 +112,9 @@ fn put_chunks<D: Disk, K: Sink>(
     book: &Book,
 ) -> Result<(), PutFault>
     requires { IsReadable descriptor.now (D.state disk.old) (entry book.now) }
-    ensures ends { ExportsIn (status_of_put result) descriptor.now (K.state sink.old) (K.state sink.new) (D.state disk.old) (D.state disk.new) (entry book.now) }
+    ensures ends { (link : LinkState) (source : SourceState) (before : BookState)
+        → ExportsIn (status_of_put result) descriptor.now (outside (D.state disk.old) link source (K.state sink.old) before)
+        (outside (D.state disk.new) link source (K.state sink.new) book.now) }
     ensures looks { KeepsAll (D.state disk.old) (D.state disk.new) }
 {
     let mut buffer = [0u8; ROOM];

@@ -1,11 +1,15 @@
 // The command `import STORE CHUNK`.
 ghost use Rattle.std.specs.Prelude.{◌≡◌, ◌⊎◌, OnOk};
-ghost use Rattle.pp_terms.specs.Content.{IsChunkSize};
-ghost use Rattle.pp_terms.specs.Disk.{IsKnown};
-ghost use Rattle.pp_terms.specs.Report.{descriptor_line};
-ghost use Rattle.pp_terms.specs.Stream.{Gains};
+ghost use Rattle.pp_terms.specs.tree.Content.{IsChunkSize};
+ghost use Rattle.pp_terms.specs.disk.Disk.{IsKnown, GainsName};
+ghost use Rattle.pp_terms.specs.command.Report.{descriptor_line};
+ghost use Rattle.pp_terms.specs.command.Stream.{Gains};
+ghost use Rattle.pp_terms.specs.format.Traffic.{LinkState};
+ghost use Rattle.pp_tree.specs.Book.{BookState};
+ghost use Rattle.pp_node.specs.Outside.{outside};
 ghost use Rattle.pp_terms.specs.Count.{HasCause, HasRisen};
-ghost use Rattle.pp_node.specs.Run.{EndsIn, IsImportRun, IsFreshlyAttached, Reports};
+ghost use Rattle.pp_terms.specs.disk.Untouched.{IsFreshlyAttached};
+ghost use Rattle.pp_node.specs.Run.{ImportsIn, IsImportRun, Reports};
 
 use crate::printing::{put_all, put_counted};
 use crate::status::Status;
@@ -22,9 +26,12 @@ pub(crate) fn import<D: Disk, S: Source, K: Sink>(
     sink: &mut K,
 ) -> Status
     requires { IsChunkSize chunk }
-    ensures ends { EndsIn result chunk (S.state source.old) (S.state source.new)
-        (K.state sink.old) (K.state sink.new) (D.state disk.old) (D.state disk.new) }
+    ensures ends { (link : LinkState) (book : BookState)
+        → ImportsIn result chunk (outside (D.state disk.old) link (S.state source.old) (K.state sink.old) book)
+        (outside (D.state disk.new) link (S.state source.new) (K.state sink.new) book) }
     ensures run { IsImportRun result chunk (S.state source.old) (S.state source.new) (D.state disk.old) (D.state disk.new) }
+    ensures named { IsKnown (D.state disk.old)
+        → GainsName (D.state disk.old).history.names store.now (D.state disk.new).history.names }
 {
     match disk.attach(store) {
         Ok(()) => import_attached(chunk, disk, source, sink),
@@ -40,9 +47,11 @@ fn import_attached<D: Disk, S: Source, K: Sink>(
 ) -> Status
     requires size { IsChunkSize chunk }
     requires attached { IsKnown (D.state disk.old) → IsFreshlyAttached (D.state disk.old).history }
-    ensures ends { EndsIn result chunk (S.state source.old) (S.state source.new)
-        (K.state sink.old) (K.state sink.new) (D.state disk.old) (D.state disk.new) }
+    ensures ends { (link : LinkState) (book : BookState)
+        → ImportsIn result chunk (outside (D.state disk.old) link (S.state source.old) (K.state sink.old) book)
+        (outside (D.state disk.new) link (S.state source.new) (K.state sink.new) book) }
     ensures run { IsImportRun result chunk (S.state source.old) (S.state source.new) (D.state disk.old) (D.state disk.new) }
+    ensures names { IsKnown (D.state disk.old) → (D.state disk.new).history.names ≡ (D.state disk.old).history.names }
 {
     match pp_store::import(chunk, source, disk) {
         Ok(descriptor) => match print(&descriptor, sink) {

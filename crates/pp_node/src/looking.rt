@@ -1,9 +1,8 @@
 // A store is attached and scanned.
 ghost use Rattle.std.specs.Prelude.{◌≡◌, ◌⊎◌, OnOk};
-ghost use Rattle.pp_terms.specs.Book.{IsRooted};
-ghost use Rattle.pp_terms.specs.Disk.{IsKnown};
-ghost use Rattle.pp_tree.specs.Book.{entry, empty_book};
-ghost use Rattle.pp_node.specs.Run.{IsFreshlyAttached};
+ghost use Rattle.pp_terms.specs.disk.Disk.{IsKnown, GainsName};
+ghost use Rattle.pp_tree.specs.Book.{entry, empty_book, IsBookOf};
+ghost use Rattle.pp_terms.specs.disk.Untouched.{IsFreshlyAttached};
 ghost use Rattle.pp_node.specs.Looking.{HasLooked, IsOf, IsUnwritten};
 
 use pp_outside::Disk;
@@ -23,8 +22,10 @@ pub(crate) fn look<D: Disk>(
     requires { book.old ≡ empty_book }
     ensures looked { HasLooked descriptor.now (D.state disk.old) (D.state disk.new) (entry book.new) result }
     ensures unwritten { IsUnwritten (D.state disk.old) (D.state disk.new) }
-    ensures rooted { (book.new ≡ book.old) ⊎ IsRooted descriptor.now (entry book.new) }
-    ensures found { OnOk result (IsRooted descriptor.now (entry book.new)) }
+    ensures named { IsKnown (D.state disk.old)
+        → GainsName (D.state disk.old).history.names store.now (D.state disk.new).history.names }
+    ensures rooted { (book.new ≡ book.old) ⊎ IsBookOf descriptor.now book.new }
+    ensures found { OnOk result (IsBookOf descriptor.now book.new) }
 {
     match disk.attach(store) {
         Ok(()) => look_attached(alloc, descriptor, disk, book),
@@ -42,8 +43,9 @@ fn look_attached<D: Disk>(
     requires attached { IsKnown (D.state disk.old) → IsFreshlyAttached (D.state disk.old).history }
     ensures looked { HasLooked descriptor.now (D.state disk.old) (D.state disk.new) (entry book.new) result }
     ensures unwritten { IsUnwritten (D.state disk.old) (D.state disk.new) }
-    ensures rooted { (book.new ≡ book.old) ⊎ IsRooted descriptor.now (entry book.new) }
-    ensures found { OnOk result (IsRooted descriptor.now (entry book.new)) }
+    ensures names { IsKnown (D.state disk.old) → (D.state disk.new).history.names ≡ (D.state disk.old).history.names }
+    ensures rooted { (book.new ≡ book.old) ⊎ IsBookOf descriptor.now book.new }
+    ensures found { OnOk result (IsBookOf descriptor.now book.new) }
 {
     match probe(descriptor, disk) {
         Ok(_) => look_into(alloc, descriptor, disk, book),
@@ -66,8 +68,9 @@ fn look_into<D: Disk>(
     requires begins { IsKnown (D.state disk.old) → IsOf descriptor.now (D.state disk.old).history.reads }
     ensures looked { HasLooked descriptor.now (D.state disk.old) (D.state disk.new) (entry book.new) result }
     ensures unwritten { IsUnwritten (D.state disk.old) (D.state disk.new) }
-    ensures rooted { (book.new ≡ book.old) ⊎ IsRooted descriptor.now (entry book.new) }
-    ensures found { OnOk result (IsRooted descriptor.now (entry book.new)) }
+    ensures names { IsKnown (D.state disk.old) → (D.state disk.new).history.names ≡ (D.state disk.old).history.names }
+    ensures rooted { (book.new ≡ book.old) ⊎ IsBookOf descriptor.now book.new }
+    ensures found { OnOk result (IsBookOf descriptor.now book.new) }
 {
     match book.prepare(alloc, descriptor) {
         Ok(()) => scan(alloc, descriptor, disk, book),

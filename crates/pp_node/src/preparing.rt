@@ -1,11 +1,11 @@
 // A peer is made ready to seed.
-ghost use Rattle.std.specs.Prelude.{◌≡◌, ◌⊎◌, length, IfOk};
-ghost use Rattle.pp_terms.specs.Book.{IsRooted};
-ghost use Rattle.pp_terms.specs.Disk.{IsKnown};
-ghost use Rattle.pp_tree.specs.Book.{entry, empty_book};
-ghost use Rattle.pp_node.specs.Run.{IsFreshlyAttached};
+ghost use Rattle.std.specs.Prelude.{◌≡◌, ◌⊎◌, ◌<◌, length, IfOk, OnOk};
+ghost use Rattle.pp_terms.specs.disk.Disk.{IsKnown, GainsName};
+ghost use Rattle.pp_outside.specs.Outside.{address_of};
+ghost use Rattle.pp_tree.specs.Book.{entry, empty_book, IsBookOf};
+ghost use Rattle.pp_terms.specs.disk.Untouched.{IsFreshlyAttached, IsSyncedAtMost};
 ghost use Rattle.pp_node.specs.Looking.{IsOf};
-ghost use Rattle.pp_node.specs.Preparing.{IsUnsent, Lasts, HasPrepared, HasOpenedPeer, fault_of_probe, fault_of_open};
+ghost use Rattle.pp_node.specs.Preparing.{IsUnsent, Lasts, HasPrepared, HasOpenedPeer, LeavesDisk, LeavesLink, fault_of_probe, fault_of_open};
 
 use pp_core::{OpenFault, Peer};
 use pp_outside::{Address, Disk, Link};
@@ -71,8 +71,16 @@ pub(crate) fn prepare<D: Disk, L: Link>(
     requires empty { book.old ≡ empty_book }
     ensures prepared { HasPrepared descriptor.now random (D.state disk.old) (D.state disk.new) (L.seen link.old) (L.seen link.new) (entry book.new) result }
     ensures lasts { IsKnown (D.state disk.old) → Lasts descriptor.now (D.state disk.new).history }
+    // A file that wasn't empty is not written to, whatever it answers.
+    ensures unwritten { IsKnown (D.state disk.old) → 0 < length (D.state disk.new).history.found
+        → IsSyncedAtMost (D.state disk.new).history }
+    ensures disk { IsKnown (D.state disk.old) → LeavesDisk descriptor.now (D.state disk.new).history result }
+    ensures named { IsKnown (D.state disk.old)
+        → GainsName (D.state disk.old).history.names store.now (D.state disk.new).history.names }
+    ensures link { LeavesLink (L.seen link.old).bound (address_of listen.now) (L.seen link.new).bound result }
     ensures unsent { IsUnsent (L.seen link.old) (L.seen link.new) }
-    ensures book { (book.new ≡ empty_book) ⊎ IsRooted descriptor.now (entry book.new) }
+    ensures book { (book.new ≡ empty_book) ⊎ IsBookOf descriptor.now book.new }
+    ensures filled { OnOk result (IsBookOf descriptor.now book.new) }
 {
     match disk.attach(store) {
         Ok(()) => prepare_attached(alloc, descriptor, listen, random, disk, link, book),
@@ -93,8 +101,14 @@ fn prepare_attached<D: Disk, L: Link>(
     requires attached { IsKnown (D.state disk.old) → IsFreshlyAttached (D.state disk.old).history }
     ensures prepared { HasPrepared descriptor.now random (D.state disk.old) (D.state disk.new) (L.seen link.old) (L.seen link.new) (entry book.new) result }
     ensures lasts { IsKnown (D.state disk.old) → Lasts descriptor.now (D.state disk.new).history }
+    ensures unwritten { IsKnown (D.state disk.old) → 0 < length (D.state disk.new).history.found
+        → IsSyncedAtMost (D.state disk.new).history }
+    ensures disk { IsKnown (D.state disk.old) → LeavesDisk descriptor.now (D.state disk.new).history result }
+    ensures names { IsKnown (D.state disk.old) → (D.state disk.new).history.names ≡ (D.state disk.old).history.names }
+    ensures link { LeavesLink (L.seen link.old).bound (address_of listen.now) (L.seen link.new).bound result }
     ensures unsent { IsUnsent (L.seen link.old) (L.seen link.new) }
-    ensures book { (book.new ≡ empty_book) ⊎ IsRooted descriptor.now (entry book.new) }
+    ensures book { (book.new ≡ empty_book) ⊎ IsBookOf descriptor.now book.new }
+    ensures filled { OnOk result (IsBookOf descriptor.now book.new) }
 {
     match probe(descriptor, disk) {
         Ok(_) => listen_and_open(alloc, descriptor, listen, random, disk, link, book),
@@ -117,8 +131,14 @@ fn listen_and_open<D: Disk, L: Link>(
     requires begins { IsKnown (D.state disk.old) → IsOf descriptor.now (D.state disk.old).history.reads }
     ensures prepared { HasPrepared descriptor.now random (D.state disk.old) (D.state disk.new) (L.seen link.old) (L.seen link.new) (entry book.new) result }
     ensures lasts { IsKnown (D.state disk.old) → Lasts descriptor.now (D.state disk.new).history }
+    ensures unwritten { IsKnown (D.state disk.old) → 0 < length (D.state disk.new).history.found
+        → IsSyncedAtMost (D.state disk.new).history }
+    ensures disk { IsKnown (D.state disk.old) → LeavesDisk descriptor.now (D.state disk.new).history result }
+    ensures names { IsKnown (D.state disk.old) → (D.state disk.new).history.names ≡ (D.state disk.old).history.names }
+    ensures link { LeavesLink (L.seen link.old).bound (address_of listen.now) (L.seen link.new).bound result }
     ensures unsent { IsUnsent (L.seen link.old) (L.seen link.new) }
-    ensures book { (book.new ≡ empty_book) ⊎ IsRooted descriptor.now (entry book.new) }
+    ensures book { (book.new ≡ empty_book) ⊎ IsBookOf descriptor.now book.new }
+    ensures filled { OnOk result (IsBookOf descriptor.now book.new) }
 {
     match link.bind(listen) {
         Ok(()) => open(alloc, descriptor, random, disk, book),
@@ -144,7 +164,12 @@ fn open<D: Disk>(
     requires begins { IsKnown (D.state disk.old) → IsOf descriptor.now (D.state disk.old).history.reads }
     ensures opened { HasOpenedPeer descriptor.now random (D.state disk.old) (D.state disk.new) (entry book.new) result }
     ensures lasts { IsKnown (D.state disk.old) → Lasts descriptor.now (D.state disk.new).history }
-    ensures book { (book.new ≡ empty_book) ⊎ IsRooted descriptor.now (entry book.new) }
+    ensures unwritten { IsKnown (D.state disk.old) → 0 < length (D.state disk.new).history.found
+        → IsSyncedAtMost (D.state disk.new).history }
+    ensures disk { IsKnown (D.state disk.old) → LeavesDisk descriptor.now (D.state disk.new).history result }
+    ensures names { IsKnown (D.state disk.old) → (D.state disk.new).history.names ≡ (D.state disk.old).history.names }
+    ensures book { (book.new ≡ empty_book) ⊎ IsBookOf descriptor.now book.new }
+    ensures filled { OnOk result (IsBookOf descriptor.now book.new) }
 {
     let Ok(buffer) = room(alloc) else {
         return Err(SeedFault::Memory);

@@ -1,7 +1,7 @@
 // Lines for the sink.
 ghost use Rattle.std.specs.Prelude.{◌≡◌, ℕ, ◌++◌, ◌≤◌, decimal, OnOk, OnErr};
 ghost use Rattle.pp_terms.specs.Count.{HasCause};
-ghost use Rattle.pp_terms.specs.Stream.{Gains};
+ghost use Rattle.pp_terms.specs.command.Stream.{Gains};
 ghost use Rattle.pp_node.specs.Text.{GainsPart};
 
 use itoa::Buffer;

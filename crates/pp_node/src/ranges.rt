@@ -1,8 +1,9 @@
 // The line of the chunks that are held.
 ghost use Rattle.std.specs.Prelude.{◌≡◌, ℕ, ◌-◌, ◌<◌, ◌≤◌, true, false, ◌++◌, length, decimal, slice_index_or, codes, OnOk};
 ghost use Rattle.pp_terms.specs.Count.{HasCause};
-ghost use Rattle.pp_terms.specs.Stream.{Gains};
-ghost use Rattle.pp_node.specs.Held.{SaysHeld, HasRanges, HasMore};
+ghost use Rattle.pp_terms.specs.command.Stream.{Gains};
+ghost use Rattle.pp_node.specs.Held.{HasRanges, HasMore};
+ghost use Rattle.pp_terms.specs.command.Report.{SaysHeld};
 
 use crate::printing::{put_all, put_counted};
 use pp_outside::{Sink, SinkFault};

@@ -1,8 +1,8 @@
 // Words that are no command.
 ghost use Rattle.std.specs.Prelude.{◌≡◌, [], ◌∷◌, ◌++◌, OnOk};
 ghost use Rattle.pp_terms.specs.Count.{HasCause};
-ghost use Rattle.pp_terms.specs.Stream.{Gains};
-ghost use Rattle.pp_terms.specs.Usage.{kind_text, usage_line};
+ghost use Rattle.pp_terms.specs.command.Stream.{Gains};
+ghost use Rattle.pp_terms.specs.command.Usage.{kind_text, usage_line};
 ghost use Rattle.pp_words.specs.Views.{kind_of, usage_of};
 ghost use Rattle.pp_node.specs.Text.{Says};
 

@@ -1,11 +1,16 @@
 // The command `seed STORE DESCRIPTOR LISTEN TURNS`.
 ghost use Rattle.std.specs.Prelude.{◌≡◌, ◌⊎◌, true, length, OnOk};
 ghost use Rattle.pp_terms.specs.Count.{HasCause};
-ghost use Rattle.pp_terms.specs.Book.{IsRooted};
+ghost use Rattle.pp_terms.specs.command.Stream.{SourceState};
+ghost use Rattle.pp_outside.specs.Outside.{address_of};
 ghost use Rattle.pp_tree.specs.Book.{entry, empty_book};
+ghost use Rattle.pp_core.specs.Counting.{tally_of};
 ghost use Rattle.pp_core.specs.Serving.{HasPaths, ReadsAlone};
-ghost use Rattle.pp_node.specs.Promising.{SeedPromises};
-ghost use Rattle.pp_node.specs.Seeding.{SeedsIn, SaysReport, ReportsSeed, Serves};
+ghost use Rattle.pp_node.specs.Promising.{SeedEnds};
+ghost use Rattle.pp_node.specs.Outside.{outside};
+ghost use Rattle.pp_node.specs.Status.{number_of};
+ghost use Rattle.pp_node.specs.Seeding.{ReportsSeed, Serves};
+ghost use Rattle.pp_terms.specs.command.Report.{SaysReport};
 
 use crate::checking::put_not_a_store;
 use crate::counting::put_counts;
@@ -36,11 +41,10 @@ pub fn seed<D: Disk, L: Link, K: Sink>(
     book: &mut Book,
 ) -> Status
     requires empty { book.old ≡ empty_book }
-    ensures ends { SeedsIn result descriptor.now random turns (K.state sink.old) (K.state sink.new) (D.state disk.old) (D.state disk.new)
-        (L.seen link.old) (L.seen link.new) (entry book.new) }
-    ensures promises { SeedPromises result descriptor.now turns (K.state sink.old) (K.state sink.new) (D.state disk.old) (D.state disk.new)
-        (L.seen link.old) (L.seen link.new) (entry book.new) }
-    ensures rooted { (book.new ≡ book.old) ⊎ IsRooted descriptor.now (entry book.new) }
+    ensures ends { (source : SourceState)
+        → SeedEnds (number_of result) (record { store = store.now; descriptor = descriptor.now; listen = address_of listen.now; turns = turns })
+        (outside (D.state disk.old) (L.seen link.old) source (K.state sink.old) book.old)
+        (outside (D.state disk.new) (L.seen link.new) source (K.state sink.new) book.new) }
 {
     match prepare(alloc, store, descriptor, listen, random, disk, link, book) {
         Ok(ready) => serve(ready, turns, descriptor.chunks(), disk, link, sink, book),
@@ -82,7 +86,7 @@ fn serve<D: Disk, L: Link, K: Sink>(
 
 fn put_report<K: Sink>(peer: &Peer, chunks: u32, sink: &mut K) -> Result<(), SinkFault>
     requires { chunks ≡ length peer.now.committed }
-    ensures said { OnOk result (SaysReport peer.now.committed peer.now.counts (K.state sink.old) (K.state sink.new)) }
+    ensures said { OnOk result (SaysReport peer.now.committed (tally_of peer.now.counts) (K.state sink.old) (K.state sink.new)) }
     ensures cause { HasCause (K.state sink.old).faults (K.state sink.new).faults result }
 {
     put_held(peer.committed(), chunks, sink)?;

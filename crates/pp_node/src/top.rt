@@ -1,19 +1,20 @@
 // The top call.
 ghost use Rattle.std.specs.Prelude.{◌≡◌, ◌↔◌, ℕ, List, codes};
-ghost use Rattle.pp_terms.specs.Commands as terms;
-ghost use Rattle.pp_terms.specs.CommandLine.{Spells, IsImport, IsSeed, IsOnStore, IsOneOf, IsFirstWrong};
-ghost use Rattle.pp_terms.specs.Descriptor.{Descriptor};
-ghost use Rattle.pp_terms.specs.Traffic.{Address};
-ghost use Rattle.pp_terms.specs.Usage as wrong;
-ghost use Rattle.pp_terms.specs.Usage.{usage_line};
-ghost use Rattle.pp_tree.specs.Book.{entry, empty_book};
+ghost use Rattle.pp_terms.specs.command.Commands as terms;
+ghost use Rattle.pp_terms.specs.command.CommandLine.{Spells, IsImport, IsSeed, IsOnStore, IsOneOf, IsFirstWrong};
+ghost use Rattle.pp_terms.specs.format.Descriptor.{Descriptor};
+ghost use Rattle.pp_terms.specs.command.Usage as wrong;
+ghost use Rattle.pp_terms.specs.command.Usage.{usage_line};
+ghost use Rattle.pp_tree.specs.Book.{empty_book};
 ghost use Rattle.pp_words.specs.Views.{texts, command_of};
 ghost use Rattle.pp_node.specs.Built.{built};
 ghost use Rattle.pp_node.specs.Text.{Says};
 ghost use Rattle.pp_node.specs.Run.{ImportEnds};
 ghost use Rattle.pp_node.specs.Checking.{CheckEnds};
 ghost use Rattle.pp_node.specs.Exporting.{ExportEnds};
-ghost use Rattle.pp_node.specs.Promising.{SeedEnds};
+ghost use Rattle.pp_node.specs.Promising.{SeedWords, SeedEnds};
+ghost use Rattle.pp_node.specs.Outside.{outside};
+ghost use Rattle.pp_node.specs.Status.{number_of};
 ghost use Rattle.pp_node.specs.Commanding.{FillsBook, UsesLink, HasEnded};
 
 use crate::built::read_built;
@@ -56,20 +57,20 @@ pub fn run<D: Disk, L: Link, S: Source, K: Sink>(
     ensures source { result ≡ 1 → S.state source.new ≡ S.state source.old }
 
     ensures import { (store : List ℕ) (chunk : ℕ) → IsImport (texts words.now) store chunk
-        → ImportEnds result chunk (S.state source.old) (S.state source.new) (K.state sink.old) (K.state sink.new)
-        (D.state disk.old) (D.state disk.new) }
+        → ImportEnds result store chunk (outside (D.state disk.old) (L.seen link.old) (S.state source.old) (K.state sink.old) book.old)
+        (outside (D.state disk.new) (L.seen link.new) (S.state source.new) (K.state sink.new) book.new) }
 
-    ensures seed { (store : List ℕ) (descriptor : Descriptor) (listen : Address) (turns : ℕ) → IsSeed (texts words.now) store descriptor listen turns
-        → SeedEnds result descriptor random turns (S.state source.old) (S.state source.new) (K.state sink.old) (K.state sink.new)
-        (D.state disk.old) (D.state disk.new) (L.seen link.old) (L.seen link.new) (entry book.old) (entry book.new) }
+    ensures seed { (w : SeedWords) → IsSeed (texts words.now) w.store w.descriptor w.listen w.turns
+        → SeedEnds result w (outside (D.state disk.old) (L.seen link.old) (S.state source.old) (K.state sink.old) book.old)
+        (outside (D.state disk.new) (L.seen link.new) (S.state source.new) (K.state sink.new) book.new) }
 
     ensures check { (store : List ℕ) (descriptor : Descriptor) → IsOnStore (codes "check") (texts words.now) store descriptor
-        → CheckEnds result descriptor (S.state source.old) (S.state source.new) (K.state sink.old) (K.state sink.new)
-        (D.state disk.old) (D.state disk.new) (entry book.old) (entry book.new) }
+        → CheckEnds result store descriptor (outside (D.state disk.old) (L.seen link.old) (S.state source.old) (K.state sink.old) book.old)
+        (outside (D.state disk.new) (L.seen link.new) (S.state source.new) (K.state sink.new) book.new) }
 
     ensures export { (store : List ℕ) (descriptor : Descriptor) → IsOnStore (codes "export") (texts words.now) store descriptor
-        → ExportEnds result descriptor (S.state source.old) (S.state source.new) (K.state sink.old) (K.state sink.new)
-        (D.state disk.old) (D.state disk.new) (entry book.old) (entry book.new) }
+        → ExportEnds result store descriptor (outside (D.state disk.old) (L.seen link.old) (S.state source.old) (K.state sink.old) book.old)
+        (outside (D.state disk.new) (L.seen link.new) (S.state source.new) (K.state sink.new) book.new) }
 
     // Only `seed` uses the link, and only it, `check` and `export` fill the book.
     ensures link { ((c : terms.Command) → Spells (texts words.now) c → UsesLink c → ⊥) → L.seen link.new ≡ L.seen link.old }
@@ -95,8 +96,9 @@ fn obey<D: Disk, L: Link, S: Source, K: Sink>(
     requires empty { book.old ≡ empty_book }
     requires spelled { (words : List (List ℕ)) × Spells words (command_of command.now) }
     requires built { IsOneOf built (command_of command.now) }
-    ensures ended { HasEnded (command_of command.now) result random (S.state source.old) (S.state source.new) (K.state sink.old) (K.state sink.new)
-        (D.state disk.old) (D.state disk.new) (L.seen link.old) (L.seen link.new) (entry book.old) (entry book.new) }
+    ensures ended { HasEnded (command_of command.now) (number_of result)
+        (outside (D.state disk.old) (L.seen link.old) (S.state source.old) (K.state sink.old) book.old)
+        (outside (D.state disk.new) (L.seen link.new) (S.state source.new) (K.state sink.new) book.new) }
     ensures link { (UsesLink (command_of command.now) → ⊥) → L.seen link.new ≡ L.seen link.old }
     ensures book { (FillsBook (command_of command.now) → ⊥) → book.new ≡ book.old }
 {

@@ -2,7 +2,7 @@
 ghost use Rattle.std.specs.Prelude.{◌≡◌, ◌+◌, ◌≤◌, true, length, IsOk};
 ghost use Rattle.pp_tree.specs.Book.{entry};
 ghost use Rattle.pp_core.specs.Serving.{HasPaths};
-ghost use Rattle.pp_core.specs.Standing.{capped};
+ghost use Rattle.pp_terms.specs.Count.{capped};
 ghost use Rattle.pp_outside.specs.Outside.{size_of};
 ghost use Rattle.pp_node.specs.Turning.{Waits, TakesTurn, TakesTurns};
 
@@ -72,6 +72,7 @@ fn wait<D: Disk, L: Link>(
     ensures done { IsOk result }
     ensures waits { Waits (L.seen link.old) (L.seen link.new) peer.old peer.new }
     ensures nexts { (L.seen link.new).nexts ≡ capped ((L.seen link.old).nexts + 1) }
+    ensures bound { (L.seen link.new).bound ≡ (L.seen link.old).bound }
     ensures later { (L.seen link.old).faults ≤ (L.seen link.new).faults }
     ensures live { peer.new.is_live ≡ true }
     ensures disk { D.state disk.new ≡ D.state disk.old }

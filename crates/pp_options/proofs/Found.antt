@@ -1,8 +1,8 @@
 -- What was read, as a spelling.
 use Rattle.std.proofs.Common.{◌≡◌, ℕ, ◌++◌, List, length, sym, ap, ◌∙◌, Result, Ok, Err}
 use Rattle.std.specs.Prelude.{IfOk}
-use Rattle.pp_terms.specs.Options as plain
-use Rattle.pp_terms.specs.Options.{IsSpelling, read_options, IsBytes}
+use Rattle.pp_terms.specs.format.Options as plain
+use Rattle.pp_terms.specs.format.Options.{IsSpelling, read_options, IsBytes}
 use Rattle.pp_terms.proofs.Spellings.{read_is_spelled, spelled_is_read}
 use Rattle.pp_options.specs.declared.value.Options.{Options}
 use Rattle.pp_options.specs.declared.value.OptionFault.{OptionFault}

@@ -1,23 +1,20 @@
 -- Options read one after the other, as a loop does.
-use Rattle.std.proofs.Common.{◌≡◌, ℕ, zero, suc, ◌+◌, ◌-◌, ◌≤◌, ◌<◌, false, eqb, List, ◌∷◌, length, get_or, drop, Option, Some, None, Result, Ok, Err, sym, ap, ◌∙◌, add-one, arith, ◌≢◌}
-use Rattle.std.proofs.lemmas.Bool.Decides.{nat_tests}
+use Rattle.std.proofs.Common.{◌≡◌, ℕ, zero, suc, ◌+◌, ◌-◌, ◌≤◌, ◌<◌, List, ◌∷◌, length, get_or, drop, Option, Some, None, Result, Ok, Err, sym, ap, ◌∙◌, add-one, arith, ◌≢◌}
 use Rattle.std.proofs.lemmas.List.{drop_all, drop-drop}
 use Rattle.std.proofs.Math.Seq.{drop-cons}
-use Rattle.pp_terms.specs.Options.{Options, OptionFault, Short, fault_at, unless, value_length, option_of, with_option, read_from}
+use Rattle.std.proofs.lemmas.Bool.{ne_eqb}
+use Rattle.pp_terms.specs.format.Options.{Options, OptionFault, Short, fault_at, unless, value_length, option_of, with_option, read_from}
 use Rattle.pp_terms.proofs.Spellings.{pass, unless_none}
 
 first_and_rest : (bytes : List ℕ) (at : ℕ) → at < length bytes → drop at bytes ≡ get_or bytes at 0 ∷ drop (at + 1) bytes
 first_and_rest bytes at lt = drop-cons bytes at 0 lt ∙ ap (λ (k : ℕ). get_or bytes at 0 ∷ drop k bytes) (sym (add-one at))
-
-other : (a b : ℕ) → a ≢ b → eqb a b ≡ false
-other a b ne = grind (arith, nat_tests)
 
 -- one option is read, of a code that isn't the last
 step : (n : ℕ) (seen : Options) (at code : ℕ) (rest : List ℕ) → code ≢ 255
     → read_from (suc n) seen at (code ∷ rest) ≡ unless (fault_at seen at code rest)
     (read_from n (with_option (option_of code rest) seen) (at + (1 + value_length code rest)) (drop (value_length code rest) rest))
 unfolding read_from
-step n seen at code rest ne = pass _ _ (other code 255 ne)
+step n seen at code rest ne = pass _ _ (ne_eqb code 255 ne)
 
 pub ends_here : (n : ℕ) (seen : Options) (at : ℕ) (bytes : List ℕ) (total : Result (Options × ℕ) OptionFault) → at < length bytes
     → length bytes - at ≤ n → get_or bytes at 0 ≡ 255 → read_from n seen at (drop at bytes) ≡ total → Ok (seen, at + 1) ≡ total

@@ -2,7 +2,7 @@
 use Rattle.std.proofs.Common.{◌≡◌, ℕ, ◌+◌, ◌≤◌, List, [], ◌∷◌, ◌++◌, length, take, drop, Option, Some, None, refl, sym, ap, ◌∙◌, arith}
 use Rattle.std.proofs.lemmas.List.{append-nil, take-append-drop, length-append}
 use Rattle.pp_terms.specs.Place.{placed}
-use Rattle.pp_terms.specs.Options.{Options, Version, Minimum, Swarm, Integrity, Hash, Addressing, Messages, Chunk, spelled_if, spelling_of}
+use Rattle.pp_terms.specs.format.Options.{Options, Version, Minimum, Swarm, Integrity, Hash, Addressing, Messages, Chunk, spelled_if, spelling_of}
 use Rattle.pp_terms.proofs.Placing.{placed-twice}
 use Rattle.pp_options.specs.Views.{number_field, HasWritten}
 

@@ -1,7 +1,7 @@
 -- Options and faults, seen as the plain data that they mean.
 use Rattle.std.specs.Prelude.{◌≡◌, ℕ, ◌+◌, ◌^◌, ◌<◌, ◌≤◌, List, length, take, [], ◌∷◌, Option, Some, None, IfSome, option_copied, Result, Ok, Err}
 use Rattle.pp_terms.specs.Place.{placed}
-use Rattle.pp_terms.specs.Options as plain
+use Rattle.pp_terms.specs.format.Options as plain
 use Rattle.pp_options.specs.declared.value.Options.{Options}
 use Rattle.pp_options.specs.declared.value.OptionFault.{OptionFault}
 use Rattle.pp_options.specs.declared.value.OptionFault.TheVariants.{Short, Unknown, Twice, BadLength}

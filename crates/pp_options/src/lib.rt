@@ -1,9 +1,9 @@
 //! The options of a handshake (RFC 7574, section 7), read and written. Nothing here takes memory.
 #![tactic(auto)]
 
-ghost use Rattle.pp_terms.specs.Mismatch.{NoneDiffers};
-ghost use Rattle.pp_terms.specs.OptionLaw.{ReadsSpellings, OneSpelling, WrittenIsRead};
-ghost use Rattle.pp_terms.specs.HandshakeExample.{OptionExamples};
+ghost use Rattle.pp_terms.specs.format.Mismatch.{NoneDiffers};
+ghost use Rattle.pp_terms.specs.format.OptionLaw.{ReadsSpellings, OneSpelling, WrittenIsRead};
+ghost use Rattle.pp_terms.specs.format.HandshakeExample.{OptionExamples};
 
 mod reading;
 mod value;

@@ -1,7 +1,7 @@
 //! Options read from the bytes of a datagram.
 
 ghost use Rattle.std.specs.Prelude.{◌≡◌, ℕ, ◌≤◌, List, ◌++◌, length, take, slice_index, option_map, IfOk, IsTrue, Ok};
-ghost use Rattle.pp_terms.specs.Options.{Options as PlainOptions, IsSpelling, is_known, is_given, value_length, option_of, with_option, fault_at, read_options};
+ghost use Rattle.pp_terms.specs.format.Options.{Options as PlainOptions, IsSpelling, is_known, is_given, value_length, option_of, with_option, fault_at, read_options};
 ghost use Rattle.pp_options.specs.Views.{options_of, fault_of, read_of, IsSpelledBy};
 
 use crate::value::{OptionFault, Options};
@@ -60,7 +60,7 @@ fn value_length(code: u8, rest: &[u8]) -> usize
     }
 }
 
-#[tactic(auto, unfolding(pp_terms::specs::Options::fault_at))]
+#[tactic(auto, unfolding(pp_terms::specs::format::Options::fault_at))]
 fn fault_at(seen: &Options, at: usize, code: u8, rest: &[u8]) -> Option<OptionFault>
     ensures { option_map fault_of result ≡ fault_at (options_of seen.now) at code rest.now }
 {

@@ -2,7 +2,7 @@
 
 ghost use Rattle.std.specs.Prelude.{◌≡◌, ◌+◌, ◌≤◌, ◌<◌, ◌^◌, ◌↔◌, List, length, option_copied, IfSome, IfOk, OnErr, IsErr};
 ghost use Rattle.pp_terms.specs.Place.{placed};
-ghost use Rattle.pp_terms.specs.Options.{Swarm, Messages, Chunk, FitOptions, IsSpelling, spelled_if, spelling_of};
+ghost use Rattle.pp_terms.specs.format.Options.{Swarm, Messages, Chunk, FitOptions, IsSpelling, spelled_if, spelling_of};
 ghost use Rattle.pp_options.specs.Views.{options_of, number_field, HasSpelling, HasWritten};
 
 use crate::value::{NoRoom, Options};

@@ -3,8 +3,8 @@ use Rattle.std.proofs.Common.{◌≡◌, ◌⊎◌, inl, inr, ℕ, ◌+◌, ◌-
 use Rattle.std.specs.Prelude.{reverse, All}
 use Rattle.std.proofs.lemmas.List.{take_all, drop-map, length-map, get_or-map}
 use Rattle.std.proofs.lemmas.List.Elements.{All-drop}
-use Rattle.pp_terms.specs.Disk.{History, Write}
-use Rattle.pp_terms.specs.Calls.{Did, crash_from, crash_image}
+use Rattle.pp_terms.specs.disk.Disk.{History, Write}
+use Rattle.pp_terms.specs.disk.Calls.{Did, crash_from, crash_image}
 use Rattle.pp_outside.specs.Steps.{did_of, writes_of, IsPlaced}
 use Rattle.pp_outside.specs.Log.{IsLog}
 use Rattle.pp_outside.specs.declared.log.Step.{Step}

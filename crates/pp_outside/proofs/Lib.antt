@@ -1,3 +1,4 @@
+pub mod Attachings
 pub mod Crashes
 pub mod Possible
 pub mod Replays

@@ -2,9 +2,9 @@
 use Rattle.std.proofs.Common.{◌≡◌, inl, inr, ℕ, zero, suc, ◌+◌, ◌-◌, ◌<◌, ◌≤◌, List, [], ◌∷◌, length, get_or, replicate, refl, sym, ◌∙◌, subst, arith}
 use Rattle.std.specs.Prelude.{reverse, All}
 use Rattle.std.proofs.lemmas.List.{length-replicate, length-reverse, get_or-reverse}
-use Rattle.pp_terms.specs.Store.{IsWithin}
-use Rattle.pp_terms.specs.Disk.{History, Write, Epoch, IsPending, end_of, IsImage, written, settled}
-use Rattle.pp_terms.specs.Calls.{Fate, Dropped, Done, Filled, fate, suffer, crash_from, crash_image}
+use Rattle.pp_terms.specs.disk.Store.{IsWithin}
+use Rattle.pp_terms.specs.disk.Disk.{History, Write, Epoch, IsPending, end_of, IsImage, written, settled}
+use Rattle.pp_terms.specs.disk.Calls.{Tear, Dropped, Done, Filled, tear, suffer, crash_from, crash_image}
 use Rattle.pp_terms.proofs.Images.{length-written, written_outside}
 
 -- a write lies in the pending ranges
@@ -36,7 +36,7 @@ write_keeps epoch image place bytes lies is =
       stays = λ k lt none. written_outside image place bytes k (λ w. none (lies.covered k w)) ∙ is.stays k lt none;
     }
 
-suffer_keeps : (which : Fate) (epoch : Epoch) (w : Write) (image : List ℕ) → Lies epoch.pending w → IsImage epoch image → IsImage epoch (suffer which w image)
+suffer_keeps : (which : Tear) (epoch : Epoch) (w : Write) (image : List ℕ) → Lies epoch.pending w → IsImage epoch image → IsImage epoch (suffer which w image)
 suffer_keeps Dropped epoch w image lies is = is
 suffer_keeps Done epoch w image lies is = write_keeps epoch image w.place w.bytes lies is
 suffer_keeps Filled epoch w image lies is =
@@ -46,8 +46,8 @@ suffer_keeps Filled epoch w image lies is =
 crash_keeps : (pick number : ℕ) (ws : List Write) (epoch : Epoch) (image : List ℕ) → All (Lies epoch.pending) ws → IsImage epoch image → IsImage epoch (crash_from pick number ws image)
 crash_keeps pick number [] epoch image lies is = is
 crash_keeps pick number (w ∷ ws) epoch image lies is =
-    crash_keeps pick (number + 1) ws epoch (suffer (fate pick number) w image) (λ k d lt. lies (suc k) d (omega arith))
-    (suffer_keeps (fate pick number) epoch w image (lies 0 w (omega arith)) is)
+    crash_keeps pick (number + 1) ws epoch (suffer (tear pick number) w image) (λ k d lt. lies (suc k) d (omega arith))
+    (suffer_keeps (tear pick number) epoch w image (lies 0 w (omega arith)) is)
 
 pub crash_possible : (pick : ℕ) (epoch : Epoch) → IsImage epoch (crash_image pick epoch)
 crash_possible pick epoch =

@@ -3,8 +3,8 @@ use Rattle.std.proofs.Common.{◌≡◌, ℕ, ◌+◌, ◌^◌, ◌≤◌, List,
 use Rattle.std.specs.Prelude.{reverse, All}
 use Rattle.std.proofs.lemmas.List.{reverse-append, map-append, drop-append-le, take-append-le, drop_all}
 use Rattle.std.proofs.lemmas.List.Elements.{All-push}
-use Rattle.pp_terms.specs.Disk.{History, Write, fresh, after_write, pends, settled, written}
-use Rattle.pp_terms.specs.Calls.{Did, Calls, Wrote, Refused, Synced, Crashed, after_call, replay, attached, history_of}
+use Rattle.pp_terms.specs.disk.Disk.{History, Write, fresh, after_write, pends, settled, written}
+use Rattle.pp_terms.specs.disk.Calls.{Did, Calls, Wrote, Refused, Synced, Crashed, after_call, replay, attached, history_of}
 use Rattle.pp_outside.specs.Steps.{did_of, writes_of, IsPlaced}
 use Rattle.pp_outside.specs.Log.{IsLog}
 use Rattle.pp_outside.specs.declared.log.Step.{Step}

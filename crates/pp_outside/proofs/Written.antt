@@ -2,7 +2,7 @@
 use Rattle.std.proofs.Common.{◌≡◌, ℕ, ◌+◌, ◌-◌, ◌<◌, List, ◌++◌, length, take, drop, replicate, ◌∙◌, ap, arith}
 use Rattle.std.proofs.lemmas.List.{places, drop_all, take_all, append-nil}
 use Rattle.std.proofs.lemmas.Grind.{same_number_lists}
-use Rattle.pp_terms.specs.Disk.{written}
+use Rattle.pp_terms.specs.disk.Disk.{written}
 use Rattle.pp_terms.proofs.Images.{length-written}
 
 -- zeros up to its end, put there first, change nothing

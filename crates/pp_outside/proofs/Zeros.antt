@@ -1,7 +1,7 @@
 -- A read of a source of zeros.
 use Rattle.std.proofs.Common.{◌≡◌, ℕ, ◌+◌, ◌-◌, min, Some, List, ◌++◌, length, replicate, sym, ◌∙◌, ap, arith}
 use Rattle.std.proofs.lemmas.List.{length-append, length-replicate, take-append-le, take_all, take-replicate, drop-replicate}
-use Rattle.pp_terms.specs.Stream.{GivesUp}
+use Rattle.pp_terms.specs.command.Stream.{GivesUp}
 use Rattle.pp_outside.specs.ZeroSource.{zeros}
 
 pub gives_zeros : (left n : ℕ) (filled rest : List ℕ) → n ≡ min (length filled + length rest) left → filled ≡ replicate n 0 → GivesUp (Some (zeros left)) n (filled ++ rest) (Some (zeros (left - n)))

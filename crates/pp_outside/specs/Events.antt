@@ -1,6 +1,6 @@
 -- The events of a link in memory, as what is still to be handed out.
 use Rattle.std.specs.Prelude.{◌≤◌, length, drop, map, All}
-use Rattle.pp_terms.specs.Traffic.{Record}
+use Rattle.pp_terms.specs.format.Traffic.{Record}
 use Rattle.pp_outside.specs.Outside.{record_of}
 use Rattle.pp_outside.specs.Arrivals.{Arrivals, IsEvent}
 use Rattle.pp_outside.specs.declared.events.Coming.{Coming}

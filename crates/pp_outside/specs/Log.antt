@@ -1,7 +1,7 @@
 -- A log, as all the calls of its disk.
 use Rattle.std.specs.Prelude.{◌≡◌, ℕ, ◌≤◌, List, length, drop, map, reverse, All}
-use Rattle.pp_terms.specs.Disk.{History, fresh}
-use Rattle.pp_terms.specs.Calls.{Did, Calls, replay}
+use Rattle.pp_terms.specs.disk.Disk.{History, fresh}
+use Rattle.pp_terms.specs.disk.Calls.{Did, Calls, replay}
 use Rattle.pp_outside.specs.Steps.{did_of, writes_of, IsPlaced}
 use Rattle.pp_outside.specs.declared.log.Log.TheInside.{Inside}
 

@@ -1,6 +1,6 @@
 -- A disk that lies about one byte: it tells nothing and promises nothing.
 use Rattle.std.specs.Prelude.{◌≡◌, ℕ, ◌+◌, ◌-◌, ◌<◌, Bool, false, ◌&&◌, ◌==◌, nat_le, nat_lt, if◌then◌else◌, bit_xor, [], List, length, slice_index, IsTrue}
-use Rattle.pp_terms.specs.Disk.{DiskState, IsRead, fresh}
+use Rattle.pp_terms.specs.disk.Disk.{DiskState, IsRead, fresh}
 use Rattle.pp_outside.specs.MemoryDisk as memory_disk
 use Rattle.pp_outside.specs.declared.memory_disk.MemoryDisk.{MemoryDisk}
 use Rattle.pp_outside.specs.declared.lying_disk.LyingDisk.{LyingDisk}

@@ -1,7 +1,7 @@
 -- A disk in memory: its meaning, the calls that it is ordered to refuse, and whether memory ran out.
 use Rattle.std.specs.Prelude.{◌≡◌, ◌⊎◌, ◌≢◌, ◌↔◌, ℕ, Bool, true, false, ◌&&◌, if◌then◌else◌, List, length, Result, IsTrue, IsErr, IfOk, OnOk, OnErr}
-use Rattle.pp_terms.specs.Disk.{History, DiskState, IsRead, pends, after_write, settled}
-use Rattle.pp_terms.specs.Calls.{history_of, attached}
+use Rattle.pp_terms.specs.disk.Disk.{History, DiskState, IsRead, pends, after_write, settled}
+use Rattle.pp_terms.specs.disk.Calls.{history_of, attached}
 use Rattle.pp_outside.specs.Faults.{counted}
 use Rattle.pp_outside.specs.Orders.{has_order, is_disk_call}
 use Rattle.pp_outside.specs.declared.call.Call.{Call}

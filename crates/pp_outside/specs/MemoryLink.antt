@@ -1,7 +1,7 @@
 -- A link in memory: its meaning, what it is still to hand out, the calls that it is ordered to refuse, and whether
 -- memory ran out.
-use Rattle.std.specs.Prelude.{◌≡◌, ◌⊎◌, ◌≢◌, Bool, false, ◌&&◌, Some, List, reverse, Result, IsTrue, IsErr, OnOk}
-use Rattle.pp_terms.specs.Traffic.{Record, LinkState}
+use Rattle.std.specs.Prelude.{◌≡◌, ◌⊎◌, ◌≢◌, Bool, false, ◌&&◌, None, Some, List, reverse, Result, IsTrue, IsErr, OnOk}
+use Rattle.pp_terms.specs.format.Traffic.{Record, LinkState}
 use Rattle.pp_outside.specs.Faults.{counted}
 use Rattle.pp_outside.specs.Orders.{has_order, is_link_call}
 use Rattle.pp_outside.specs.Arrivals.{Arrivals}
@@ -18,6 +18,7 @@ state_of link = record {
   traffic = Some (reverse (in_order link));
   faults = link.faults;
   nexts = link.nexts;
+  bound = None;
 }
 
 -- what it is still to hand out

@@ -1,6 +1,6 @@
 -- A sink in memory: the bytes that it took, and whether it is to refuse the next write.
 use Rattle.std.specs.Prelude.{Bool, Some}
-use Rattle.pp_terms.specs.Stream.{SinkState}
+use Rattle.pp_terms.specs.command.Stream.{SinkState}
 use Rattle.pp_outside.specs.declared.memory_sink.MemorySink.{MemorySink}
 
 abbrev pub state_of : MemorySink → SinkState

@@ -1,6 +1,6 @@
 -- A source in memory: the bytes still to come, and whether it fails at their end.
 use Rattle.std.specs.Prelude.{ℕ, Bool, Some, List}
-use Rattle.pp_terms.specs.Stream.{SourceState}
+use Rattle.pp_terms.specs.command.Stream.{SourceState}
 use Rattle.pp_outside.specs.declared.memory_source.MemorySource.{MemorySource}
 
 -- the bytes still to come

@@ -1,6 +1,6 @@
 -- A disk that keeps only its length: it tells nothing and promises nothing.
 use Rattle.std.specs.Prelude.{ℕ, false, []}
-use Rattle.pp_terms.specs.Disk.{DiskState, fresh}
+use Rattle.pp_terms.specs.disk.Disk.{DiskState, fresh}
 use Rattle.pp_outside.specs.declared.null_disk.NullDisk.{NullDisk}
 
 abbrev pub state_of : NullDisk → DiskState

@@ -1,8 +1,8 @@
 -- What the calls of a link mean, in the words on traffic.
 use Rattle.std.specs.Prelude.{◌≡◌, ℕ, ◌+◌, ◌-◌, ◌^◌, ◌≤◌, min, Bool, [], ◌∷◌, List, length, take, Result, IfOk, OnOk, OnErr}
 use Rattle.pp_terms.specs.Count.{HasCause}
-use Rattle.pp_terms.specs.Traffic as traffic
-use Rattle.pp_terms.specs.Traffic.{Record, Received, Sent, LinkState, GainsRecords}
+use Rattle.pp_terms.specs.format.Traffic as traffic
+use Rattle.pp_terms.specs.format.Traffic.{Record, Received, Sent, LinkState, GainsRecords, GainsAddress}
 use Rattle.pp_outside.specs.declared.link.Address.{Address}
 use Rattle.pp_outside.specs.declared.link.Address.TheVariants.{V4, V6}
 use Rattle.pp_outside.specs.declared.link.Event.{Event}
@@ -32,9 +32,11 @@ abbrev pub size_of : Event → ℕ
 size_of (Datagram sender len at) = len
 size_of (Quiet at) = 0
 
-pub record DoesBind {E : Type 0} (old : LinkState) (result : Result (Unit {0}) E) (new : LinkState) : Type 0 where
+pub record DoesBind {E : Type 0} (old : LinkState) (listen : Address) (result : Result (Unit {0}) E) (new : LinkState) : Type 0 where
   pub traffic : new.traffic ≡ old.traffic
   pub nexts : new.nexts ≡ old.nexts
+  pub bound : OnOk result (GainsAddress old.bound (address_of listen) new.bound)
+  pub refused : OnErr result (new.bound ≡ old.bound)
   pub cause : HasCause old.faults new.faults result
 
 pub record DoesNext {E : Type 0} (old : LinkState) (buffer : List ℕ) (result : Result Event E) (new : LinkState) : Type 0 where
@@ -42,6 +44,7 @@ pub record DoesNext {E : Type 0} (old : LinkState) (buffer : List ℕ) (result :
   pub gained : IfOk result (λ event. GainsRecords old.traffic (record_of event buffer ∷ []) new.traffic)
   pub refused : OnErr result (new.traffic ≡ old.traffic)
   pub nexts : new.nexts ≡ min (old.nexts + 1) (2 ^ 64 - 1)
+  pub bound : new.bound ≡ old.bound
   pub cause : HasCause old.faults new.faults result
 
 -- The record carries the disk's moment when the call was made.
@@ -49,4 +52,5 @@ pub record DoesSend {E : Type 0} (old : LinkState) (moment : ℕ) (receiver : Ad
   pub gained : OnOk result (GainsRecords old.traffic (Sent moment (address_of receiver) bytes ∷ []) new.traffic)
   pub refused : OnErr result (new.traffic ≡ old.traffic)
   pub nexts : new.nexts ≡ old.nexts
+  pub bound : new.bound ≡ old.bound
   pub cause : HasCause old.faults new.faults result

@@ -1,7 +1,7 @@
 -- The records of a link in memory, as traffic.
 use Rattle.std.specs.Prelude.{ℕ, List, [], ◌∷◌, map}
-use Rattle.pp_terms.specs.Traffic as traffic
-use Rattle.pp_terms.specs.Traffic.{Record}
+use Rattle.pp_terms.specs.format.Traffic as traffic
+use Rattle.pp_terms.specs.format.Traffic.{Record}
 use Rattle.pp_outside.specs.Outside.{address_of}
 use Rattle.pp_outside.specs.declared.records.Mark.{Mark}
 use Rattle.pp_outside.specs.declared.records.Mark.TheVariants.{Received, Quiet, Sent}

@@ -1,13 +1,13 @@
 -- The steps of a log as calls of a disk.
 use Rattle.std.specs.Prelude.{◌+◌, ◌^◌, ◌≤◌, List, [], ◌∷◌, length}
-use Rattle.pp_terms.specs.Disk.{Write}
-use Rattle.pp_terms.specs.Calls as calls
-use Rattle.pp_terms.specs.Calls.{Did}
+use Rattle.pp_terms.specs.disk.Disk.{Write}
+use Rattle.pp_terms.specs.disk.Calls as calls
+use Rattle.pp_terms.specs.disk.Calls.{Did}
 use Rattle.pp_outside.specs.declared.log.Piece.{Piece}
 use Rattle.pp_outside.specs.declared.log.Step.{Step}
 use Rattle.pp_outside.specs.declared.log.Step.TheVariants.{Wrote, Refused, Synced, Crashed}
-use Rattle.pp_outside.specs.declared.log.Fate.{Fate}
-use Rattle.pp_outside.specs.declared.log.Fate.TheVariants.{Dropped, Done, Filled}
+use Rattle.pp_outside.specs.declared.log.Tear.{Tear}
+use Rattle.pp_outside.specs.declared.log.Tear.TheVariants.{Dropped, Done, Filled}
 
 abbrev pub write_of : Piece → Write
 write_of piece = record { place = piece.place; bytes = piece.bytes.items }
@@ -18,10 +18,10 @@ did_of (Refused piece) = calls.Refused piece.place piece.bytes.items
 did_of Synced = calls.Synced
 did_of (Crashed image) = calls.Crashed image.items
 
-abbrev pub fate_of : Fate → calls.Fate
-fate_of Dropped = calls.Dropped
-fate_of Done = calls.Done
-fate_of Filled = calls.Filled
+abbrev pub tear_of : Tear → calls.Tear
+tear_of Dropped = calls.Dropped
+tear_of Done = calls.Done
+tear_of Filled = calls.Filled
 
 -- the writes of some calls, done and refused, the oldest first
 abbrev pub writes_of : List Did → List Write

@@ -1,8 +1,8 @@
 -- What reads give of a disk in memory is one of its images, at each moment.
 use Rattle.std.specs.Prelude.{List, [], ◌∷◌}
 use Rattle.std.proofs.Common.{inl, inr, ◌∙◌, arith}
-use Rattle.pp_terms.specs.Disk.{History, IsImage, fresh}
-use Rattle.pp_terms.specs.Calls.{Did, Wrote, Refused, Synced, Crashed, Calls, after_call, replay, history_of}
+use Rattle.pp_terms.specs.disk.Disk.{History, IsImage, fresh}
+use Rattle.pp_terms.specs.disk.Calls.{Did, Wrote, Refused, Synced, Crashed, Calls, after_call, replay, history_of}
 use Rattle.pp_terms.proofs.Images.{length-written, written_outside, is_sole}
 
 whole_call : (h : History) (call : Did) → IsImage h.epoch h.reads → IsImage (after_call h call).epoch (after_call h call).reads

@@ -1,6 +1,6 @@
 -- A source of zeros.
 use Rattle.std.specs.Prelude.{ℕ, Some, List, replicate}
-use Rattle.pp_terms.specs.Stream.{SourceState}
+use Rattle.pp_terms.specs.command.Stream.{SourceState}
 use Rattle.pp_outside.specs.declared.zero_source.ZeroSource.{ZeroSource}
 
 -- how many zeros are still to come

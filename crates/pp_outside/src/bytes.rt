@@ -1,6 +1,6 @@
 // Writes into bytes in memory.
 ghost use Rattle.std.specs.Prelude.{◌≡◌, ◌+◌, ◌^◌, ◌<◌, ◌≤◌, length, OnOk, OnErr};
-ghost use Rattle.pp_terms.specs.Disk.{written};
+ghost use Rattle.pp_terms.specs.disk.Disk.{written};
 
 use std::alloc::AllocError;
 

@@ -1,6 +1,6 @@
 // A disk that keeps one store.
 ghost use Rattle.std.specs.Prelude.{◌≡◌, ◌+◌, ◌^◌, ◌≤◌, length};
-ghost use Rattle.pp_terms.specs.Disk.{DiskState, DoesAttach, DoesLen, DoesRead, DoesWrite, DoesSync, IsKnown, IsImage, moment_of};
+ghost use Rattle.pp_terms.specs.disk.Disk.{DiskState, DoesAttach, DoesLen, DoesRead, DoesWrite, DoesSync, IsKnown, IsImage, moment_of};
 
 /// A call of a disk was refused.
 #[derive(Clone, Copy, Debug, PartialEq, Eq)]
@@ -18,7 +18,7 @@ pub trait Disk {
     /// Makes the named store the current one, and makes an empty one where there is none. Afterwards the disk may
     /// show any image.
     fn attach(&mut self, name: &str) -> Result<(), DiskFault>
-        ensures { DoesAttach (state self.old) result (state self.new) };
+        ensures { DoesAttach (state self.old) name.now result (state self.new) };
 
     /// The length of the file in bytes.
     fn len(&mut self) -> Result<u64, DiskFault>

@@ -1,7 +1,7 @@
 // A link that carries datagrams.
 ghost use Rattle.std.specs.Prelude.{◌≡◌, ◌≤◌, length};
-ghost use Rattle.pp_terms.specs.Traffic.{LinkState};
-ghost use Rattle.pp_terms.specs.Disk.{moment_of};
+ghost use Rattle.pp_terms.specs.format.Traffic.{LinkState};
+ghost use Rattle.pp_terms.specs.disk.Disk.{moment_of};
 
 use crate::{Disk, Mark};
 
@@ -13,7 +13,7 @@ pub enum Address {
 }
 
 impl Address {
-    ghost use Rattle.pp_terms.specs.Traffic.{same_address};
+    ghost use Rattle.pp_terms.specs.format.Traffic.{same_address};
     ghost use Rattle.pp_outside.specs.Outside.{address_of};
 
     /// Whether two addresses are one: of the same family, with the same bytes and the same port.
@@ -79,13 +79,13 @@ pub struct LinkFault;
 pub trait Link {
     ghost use Rattle.pp_outside.specs.Outside.{DoesBind, DoesNext, DoesSend};
 
-    /// The records of what came and went, where it tells them; how often it refused a call; and how many calls of
-    /// `next` have returned.
+    /// The records of what came and went, where it tells them; how often it refused a call; how many calls of `next`
+    /// have returned; and the addresses to which it was bound, where it tells them.
     ghost seen: { Self → LinkState };
 
     /// Begins to listen at an address.
     fn bind(&mut self, listen: &Address) -> Result<(), LinkFault>
-        ensures { DoesBind (seen self.old) result (seen self.new) };
+        ensures { DoesBind (seen self.old) listen.now result (seen self.new) };
 
     /// Waits for a datagram, for about `limit_us` microseconds at most, and puts it at the front of the buffer,
     /// which has at least 65,536 bytes.

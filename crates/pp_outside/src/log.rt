@@ -1,9 +1,9 @@
 // A disk in memory as the list of its calls, so that it answers for every moment.
 ghost use Rattle.std.specs.Prelude.{◌≡◌, ◌+◌, ◌^◌, ◌≤◌, [], length, map, All, IfOk, OnOk, OnErr};
-ghost use Rattle.pp_terms.specs.Calls.{history_of, crash_image, crash_from, attached};
-ghost use Rattle.pp_terms.specs.Calls as calls;
-ghost use Rattle.pp_terms.specs.Disk.{after_write, settled, pends, moment_of};
-ghost use Rattle.pp_outside.specs.Steps.{did_of, write_of, fate_of, writes_of, IsPlaced};
+ghost use Rattle.pp_terms.specs.disk.Calls.{history_of, crash_image, crash_from, attached};
+ghost use Rattle.pp_terms.specs.disk.Calls as calls;
+ghost use Rattle.pp_terms.specs.disk.Disk.{after_write, settled, pends, moment_of};
+ghost use Rattle.pp_outside.specs.Steps.{did_of, write_of, tear_of, writes_of, IsPlaced};
 
 use crate::bytes::write_over;
 use std::alloc::{AllocError, Global};
@@ -27,7 +27,7 @@ enum Step {
 
 // What a crash does to a pending write: a filled one has a5 in its whole range.
 #[derive(Clone, Copy)]
-enum Fate {
+enum Tear {
     Dropped,
     Done,
     Filled,
@@ -48,7 +48,7 @@ pub(crate) struct Log {
 }
 
 impl Model for Log {
-    ghost use Rattle.pp_terms.specs.Calls.{Calls};
+    ghost use Rattle.pp_terms.specs.disk.Calls.{Calls};
 
     ghost Value = { Calls };
 
@@ -167,39 +167,39 @@ fn crashed(alloc: Global, durable: &[u8], steps: &[Step], pick: u64) -> Result<V
     let mut number = 0;
     for step in steps {
         if let Step::Wrote(piece) | Step::Refused(piece) = step {
-            suffer(alloc, &mut image, fate_at(pick, number), piece)?;
+            suffer(alloc, &mut image, tear_at(pick, number), piece)?;
             number += 1;
         }
     }
     Ok(image)
 }
 
-// The fate of the pending write of this number.
-fn fate_at(pick: u64, number: u64) -> Fate
-    ensures { fate_of result ≡ calls.fate pick number }
+// What is done to the pending write of this number.
+fn tear_at(pick: u64, number: u64) -> Tear
+    ensures { tear_of result ≡ calls.tear pick number }
 {
     if pick == 0 {
-        return Fate::Dropped;
+        return Tear::Dropped;
     }
     if pick == 1 {
-        return Fate::Done;
+        return Tear::Done;
     }
     match (pick % 3 + number % 3) % 3 {
-        0 => Fate::Dropped,
-        1 => Fate::Done,
-        _ => Fate::Filled,
+        0 => Tear::Dropped,
+        1 => Tear::Done,
+        _ => Tear::Filled,
     }
 }
 
-fn suffer(alloc: Global, image: &mut Vec<u8>, fate: Fate, piece: &Piece) -> Result<(), AllocError>
+fn suffer(alloc: Global, image: &mut Vec<u8>, tear: Tear, piece: &Piece) -> Result<(), AllocError>
     requires { piece.now.place + length piece.now.bytes.items ≤ 2 ^ 40 }
-    ensures ok { OnOk result (image.new.items ≡ calls.suffer (fate_of fate) (write_of piece.now) image.old.items) }
+    ensures ok { OnOk result (image.new.items ≡ calls.suffer (tear_of tear) (write_of piece.now) image.old.items) }
     ensures err { OnErr result (image.new.items ≡ image.old.items) }
 {
-    match fate {
-        Fate::Dropped => Ok(()),
-        Fate::Done => write_over(image, piece.place, &piece.bytes),
-        Fate::Filled => {
+    match tear {
+        Tear::Dropped => Ok(()),
+        Tear::Done => write_over(image, piece.place, &piece.bytes),
+        Tear::Filled => {
             let fill = vec![in alloc; 0xa5; piece.bytes.len()]?;
             write_over(image, piece.place, &fill)
         }

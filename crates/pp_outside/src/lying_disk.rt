@@ -1,6 +1,6 @@
 // A disk in memory that lies about one byte.
 ghost use Rattle.std.specs.Prelude.{◌≡◌, ◌+◌, ◌^◌, ◌≤◌, ◌&&◌, ◌==◌, [], length, OnOk, OnErr};
-ghost use Rattle.pp_terms.specs.Disk.{DoesAttach, DoesLen, DoesRead, DoesWrite, DoesSync};
+ghost use Rattle.pp_terms.specs.disk.Disk.{DoesAttach, DoesLen, DoesRead, DoesWrite, DoesSync};
 
 use crate::{Disk, DiskFault, MemoryDisk};
 
@@ -59,7 +59,7 @@ impl Disk for LyingDisk {
     ghost whole = { λ disk known. is_sole [] };
 
     fn attach(&mut self, name: &str) -> Result<(), DiskFault>
-        ensures does { DoesAttach (state_of self.old) result (state_of self.new) }
+        ensures does { DoesAttach (state_of self.old) name.now result (state_of self.new) }
         ensures inner { Attaches (inner_of self.old) result (inner_of self.new) }
         ensures lies_on { LiesOn self.old self.new }
         ensures passes { passes_of self.new ≡ passes_of self.old }

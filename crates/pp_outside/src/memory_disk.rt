@@ -1,14 +1,15 @@
 // A disk in memory, which fails and crashes on order.
 ghost use Rattle.std.specs.Prelude.{◌≡◌, ◌⊎◌, ◌≢◌, ◌+◌, ◌^◌, ◌<◌, ◌≤◌, ◌↔◌, true, false, length, IsTrue, IsErr, IfOk, OnOk, OnErr};
-ghost use Rattle.pp_terms.specs.Disk.{DoesAttach, DoesLen, DoesRead, DoesWrite, DoesSync, IsRead, MayLeave, fresh, settled, moment_of};
-ghost use Rattle.pp_terms.specs.Calls.{attached, crash_image};
+ghost use Rattle.pp_terms.specs.disk.Disk.{DoesAttach, DoesLen, DoesRead, DoesWrite, DoesSync, IsRead, MayLeave, fresh, settled, moment_of};
+ghost use Rattle.pp_terms.specs.disk.Calls.{attached, crash_image};
 
 use crate::log::Log;
 use crate::orders::Orders;
 use crate::{Call, Disk, DiskFault};
 use std::alloc::{AllocError, Global};
 
-/// A disk in memory. It keeps all its calls, so that its history answers for every moment.
+/// A disk in memory. It keeps all its calls, so that its history answers for every moment. It doesn't tell the names of
+/// the stores that were attached.
 ///
 /// A write that is refused on order is pending all the same: a crash may do it.
 #[derive(Drop)]
@@ -116,7 +117,7 @@ impl Disk for MemoryDisk {
     ghost whole = { λ disk known. reads_are_image disk.log };
 
     fn attach(&mut self, _name: &str) -> Result<(), DiskFault>
-        ensures does { DoesAttach (state_of self.old) result (state_of self.new) }
+        ensures does { DoesAttach (state_of self.old) _name.now result (state_of self.new) }
         ensures exactly { Attaches self.old result self.new }
     {
         self.log.attach();

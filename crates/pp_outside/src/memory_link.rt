@@ -1,6 +1,6 @@
 // A link in memory.
-ghost use Rattle.std.specs.Prelude.{◌≡◌, ◌≢◌, ◌+◌, ◌-◌, ◌^◌, ◌<◌, ◌≤◌, ◌++◌, ◌↔◌, min, true, false, [], ◌∷◌, Some, length, drop, map, slice_get, IsTrue, IsOk, IsErr, IfOk, OnOk, OnErr};
-ghost use Rattle.pp_terms.specs.Disk.{moment_of};
+ghost use Rattle.std.specs.Prelude.{◌≡◌, ◌≢◌, ◌+◌, ◌-◌, ◌^◌, ◌<◌, ◌≤◌, ◌++◌, ◌↔◌, min, true, false, [], ◌∷◌, None, Some, length, drop, map, slice_get, IsTrue, IsOk, IsErr, IfOk, OnOk, OnErr};
+ghost use Rattle.pp_terms.specs.disk.Disk.{moment_of};
 
 use crate::events::Events;
 use crate::orders::Orders;
@@ -9,7 +9,7 @@ use crate::{Address, Call, Disk, Event, Link, LinkFault, Mark};
 use std::alloc::{AllocError, Global};
 
 /// A link in memory. It hands out the events that were added, in order, and then answers that none came, at the last
-/// moment that it handed out, or 0.
+/// moment that it handed out, or 0. It tells its records, and not the addresses to which it was bound.
 #[derive(Drop)]
 pub struct MemoryLink {
     events: Events,
@@ -31,7 +31,7 @@ impl MemoryLink {
     /// A link with no events and no records. It takes no memory yet.
     pub fn new(alloc: Global) -> Result<MemoryLink, AllocError>
         ensures ok { IsOk result }
-        ensures state { IfOk result (λ link. state_of link ≡ record { traffic = Some []; faults = 0; nexts = 0 }) }
+        ensures state { IfOk result (λ link. state_of link ≡ record { traffic = Some []; faults = 0; nexts = 0; bound = None }) }
         ensures no_events { IfOk result (λ link. arrivals_of link ≡ record { coming = []; last = 0 }) }
         ensures nothing_ordered { IfOk result (λ link. (call : _) → is_ordered link call ≡ false) }
         ensures not_short { IfOk result (λ link. is_short link ≡ false) }
@@ -149,7 +149,7 @@ impl Link for MemoryLink {
     ghost seen = { state_of };
 
     fn bind(&mut self, _listen: &Address) -> Result<(), LinkFault>
-        ensures does { DoesBind (state_of self.old) result (state_of self.new) }
+        ensures does { DoesBind (state_of self.old) _listen.now result (state_of self.new) }
         ensures exact { IsErr result ↔ IsTrue (is_ordered self.old Call.Bind) }
         ensures events { arrivals_of self.new ≡ arrivals_of self.old }
         ensures short { is_short self.new ≡ is_short self.old }

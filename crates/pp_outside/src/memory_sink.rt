@@ -1,6 +1,6 @@
 // A sink for bytes in memory.
 ghost use Rattle.std.specs.Prelude.{◌≡◌, true, false, [], Some, length, IsTrue, IsErr, IfOk};
-ghost use Rattle.pp_terms.specs.Stream.{DoesGive};
+ghost use Rattle.pp_terms.specs.command.Stream.{DoesGive};
 
 use crate::{Sink, SinkFault};
 use std::alloc::Global;

@@ -1,6 +1,6 @@
 // A source of bytes in memory.
 ghost use Rattle.std.specs.Prelude.{◌≡◌, ◌<◌, ◌↔◌, min, true, false, [], Some, length, drop, IsTrue, IsErr, IfOk, OnErr};
-ghost use Rattle.pp_terms.specs.Stream.{DoesTake};
+ghost use Rattle.pp_terms.specs.command.Stream.{DoesTake};
 
 use crate::{Source, SourceFault};
 

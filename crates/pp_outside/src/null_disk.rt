@@ -1,6 +1,6 @@
 // A disk that keeps nothing but its length.
 ghost use Rattle.std.specs.Prelude.{◌≡◌, ◌+◌, ◌^◌, ◌≤◌, max, false, length, replicate, [], Ok, IsOk};
-ghost use Rattle.pp_terms.specs.Disk.{DoesAttach, DoesLen, DoesRead, DoesWrite, DoesSync, fresh};
+ghost use Rattle.pp_terms.specs.disk.Disk.{DoesAttach, DoesLen, DoesRead, DoesWrite, DoesSync, fresh};
 
 use crate::{Disk, DiskFault};
 
@@ -31,7 +31,7 @@ impl Disk for NullDisk {
     ghost whole = { λ disk known. is_sole [] };
 
     fn attach(&mut self, _name: &str) -> Result<(), DiskFault>
-        ensures does { DoesAttach (state_of self.old) result (state_of self.new) }
+        ensures does { DoesAttach (state_of self.old) _name.now result (state_of self.new) }
         ensures ok { IsOk result }
         ensures same { self.new ≡ self.old }
     {

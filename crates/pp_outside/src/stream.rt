@@ -1,6 +1,6 @@
 // Where bytes come from, and where they go.
 ghost use Rattle.std.specs.Prelude.{◌≡◌};
-ghost use Rattle.pp_terms.specs.Stream.{SourceState, SinkState, DoesTake, DoesGive};
+ghost use Rattle.pp_terms.specs.command.Stream.{SourceState, SinkState, DoesTake, DoesGive};
 
 /// A read of a source was refused.
 #[derive(Clone, Copy, Debug, PartialEq, Eq)]

@@ -1,6 +1,6 @@
 // A source of zeros.
 ghost use Rattle.std.specs.Prelude.{◌≡◌, ◌-◌, min, Some, length, drop, replicate, ◌++◌, Ok};
-ghost use Rattle.pp_terms.specs.Stream.{DoesTake};
+ghost use Rattle.pp_terms.specs.command.Stream.{DoesTake};
 
 use crate::{Source, SourceFault};
 

@@ -5,9 +5,10 @@ use Rattle.std.specs.Option.{option_or}
 use Rattle.std.proofs.lemmas.Bool.{cases_eq}
 use Rattle.std.proofs.lemmas.Bool.Decides.{nat_tests}
 use Rattle.sha2.specs.Sha256.{sha256}
-use Rattle.pp_terms.specs.Book.{LookUp}
-use Rattle.pp_terms.specs.Descriptor.{height_of}
-use Rattle.pp_terms.specs.Proves.{sibling, joined}
+use Rattle.pp_terms.specs.tree.Book.{LookUp}
+use Rattle.pp_terms.specs.format.Descriptor.{height_of}
+use Rattle.pp_terms.specs.tree.Proves.{joined}
+use Rattle.pp_terms.specs.tree.Bins.{sibling}
 use Rattle.pp_tree.specs.Book.{IsAdopted}
 use Rattle.pp_tree.specs.declared.node.Node.{Node}
 use Rattle.pp_tree.proofs.Rootedness.{same_node, some_same}

@@ -1,8 +1,9 @@
 -- The steps of a climb.
 use Rattle.std.proofs.Common.{◌≡◌, ℕ, zero, suc, ◌+◌, ◌-◌, ◌/◌, ◌<◌, Option, Some, None, List, refl, sym, ◌∙◌, ap, arith}
 use Rattle.sha2.specs.Sha256.{sha256}
-use Rattle.pp_terms.specs.Book.{LookUp}
-use Rattle.pp_terms.specs.Proves.{sibling, joined}
+use Rattle.pp_terms.specs.tree.Book.{LookUp}
+use Rattle.pp_terms.specs.tree.Proves.{joined}
+use Rattle.pp_terms.specs.tree.Bins.{sibling}
 use Rattle.pp_paths.specs.declared.climbing.Climb.TheVariants.{Reached, Lacks}
 use Rattle.pp_paths.specs.Climb.{node_at, or_else, ends_or, lacks_or, climb}
 

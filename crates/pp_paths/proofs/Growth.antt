@@ -4,10 +4,13 @@ use Rattle.std.specs.Option.{option_or}
 use Rattle.std.proofs.lemmas.Bool.{cases_eq}
 use Rattle.std.proofs.lemmas.Bool.Decides.{nat_tests}
 use Rattle.sha2.specs.Sha256.{sha256}
-use Rattle.pp_terms.specs.Book.{LookUp, IsJoined, IsRooted}
-use Rattle.pp_terms.specs.Descriptor.{Descriptor, height_of}
-use Rattle.pp_terms.specs.Proves.{sibling, joined}
-use Rattle.pp_tree.proofs.Rootedness.{same_node, which_child}
+use Rattle.pp_terms.specs.tree.Book.{LookUp, IsJoined, IsRooted}
+use Rattle.pp_terms.specs.format.Descriptor.{Descriptor, height_of}
+use Rattle.pp_terms.specs.tree.Proves.{joined}
+use Rattle.pp_terms.specs.tree.Bins.{sibling}
+use Rattle.pp_tree.proofs.Rootedness.{same_node}
+use Rattle.pp_terms.proofs.Nodes.{hung}
+use Rattle.pp_terms.proofs.Facts.{which_half}
 use Rattle.pp_paths.specs.Climb.{or_else, climb, IsFit, path}
 use Rattle.pp_paths.proofs.Climbs.{climb_ends, climb_stops, climb_lacks, climb_on}
 
@@ -29,18 +32,10 @@ sibling_half j = elim (cases_eq (j % 2) 0) [
   | inr odd ↦ ap (λ i. i / 2) (odd_sibling j odd) ∙ omega arith
 ]
 
--- where an entry hangs, below the root
-pub hung : (d : Descriptor) (book : LookUp) (k n j : ℕ) (x : List ℕ) → IsRooted d book → k + suc n ≡ height_of d
-    → book k j ≡ Some x → (a : List ℕ) × (b : List ℕ) × IsJoined book k (j / 2) a b
-hung d book k n j x rooted low at = elim (rooted.hangs k j x at) [
-  | inl (top, first) ↦ absurd (omega arith)
-  | inr pair ↦ pair
-]
-
 -- a child of a node that has both is there
 pub child_there : (book : LookUp) (k i j : ℕ) (a b : List ℕ) → IsJoined book k i a b → j / 2 ≡ i
     → (x : List ℕ) × (book k j ≡ Some x)
-child_there book k i j a b joined half = elim (which_child j i half) [
+child_there book k i j a b joined half = elim (which_half j i half) [
   | inl e ↦ (a, ap (λ n. book k n) e ∙ joined.left_is)
   | inr e ↦ (b, ap (λ n. book k n) e ∙ joined.right_is)
 ]

@@ -5,5 +5,7 @@ pub mod Adoptions
 pub mod PeakNodes
 pub mod Verdicts
 pub mod SettledPeaks
+pub mod Followed
 pub mod ProvenChunks
 pub mod ProvenClashes
+pub mod MetNodes

@@ -11,16 +11,17 @@ use Rattle.std.proofs.lemmas.Nat.{pow_pos}
 use Rattle.std.proofs.Math.Nat.{div-eq_of_lt, div-lt_iff_lt-mul}
 use Rattle.std.proofs.Math.Pow.{pow_mono, pow-lt}
 use Rattle.sha2.specs.Sha256.{sha256}
-use Rattle.pp_terms.specs.Tree as tree
-use Rattle.pp_terms.specs.Tree.{above, peaks_below, peaks, empty_hash}
-use Rattle.pp_terms.specs.Book.{LookUp, IsRooted}
-use Rattle.pp_terms.specs.Descriptor.{Descriptor, chunks_of, height_of}
-use Rattle.pp_terms.specs.Proves.{first_absent, last_layer, peak_offset, filled}
+use Rattle.pp_terms.specs.tree.Tree as tree
+use Rattle.pp_terms.specs.tree.Tree.{above, peaks_below, peaks, empty_hash}
+use Rattle.pp_terms.specs.tree.Book.{LookUp, IsRooted}
+use Rattle.pp_terms.specs.format.Descriptor.{Descriptor, chunks_of, height_of}
+use Rattle.pp_terms.specs.tree.Proves.{first_absent, last_layer, peak_offset, filled}
 use Rattle.pp_terms.proofs.Heights.{height_is}
+use Rattle.pp_terms.proofs.Nodes.{hung}
 use Rattle.pp_tree.specs.Node.{node_of}
 use Rattle.pp_tree.specs.declared.node.Node.{Node}
-use Rattle.pp_tree.proofs.Halving.{above_is}
-use Rattle.pp_paths.proofs.Growth.{option_cases, hung}
+use Rattle.pp_terms.proofs.Peaks.{above_is}
+use Rattle.pp_paths.proofs.Growth.{option_cases}
 
 -- whether the look-up lacks a node
 abbrev lacks : LookUp → tree.Node → Bool

@@ -7,21 +7,24 @@ use Rattle.std.proofs.lemmas.Bool.Decides.{nat_tests}
 use Rattle.std.proofs.lemmas.Nat.{pow_pos, pow-add}
 use Rattle.std.proofs.Math.Nat.{div-eq_of_lt, mul-le-mul_left}
 use Rattle.sha2.specs.Sha256.{sha256}
-use Rattle.pp_terms.specs.Tree as tree
-use Rattle.pp_terms.specs.Tree.{above, height}
-use Rattle.pp_terms.specs.Book.{LookUp, IsRooted}
-use Rattle.pp_terms.specs.Descriptor.{Descriptor, chunks_of, height_of, IsDescriptor}
-use Rattle.pp_terms.specs.Proves.{sibling, joined, climbed, filled, first_absent, last_layer, peak_offset}
+use Rattle.pp_terms.specs.tree.Tree as tree
+use Rattle.pp_terms.specs.tree.Tree.{above, height}
+use Rattle.pp_terms.specs.tree.Book.{LookUp, IsRooted}
+use Rattle.pp_terms.specs.format.Descriptor.{Descriptor, chunks_of, height_of, IsDescriptor}
+use Rattle.pp_terms.specs.tree.Proves.{joined, climbed, filled, first_absent, last_layer, peak_offset, Proves}
+use Rattle.pp_terms.specs.tree.Bins.{sibling}
 use Rattle.pp_terms.proofs.Heights.{height_is}
 use Rattle.pp_tree.specs.declared.node.Node.{Node}
-use Rattle.pp_tree.proofs.Halving.{above_is}
+use Rattle.pp_terms.proofs.Peaks.{above_is}
 use Rattle.pp_tree.proofs.Sizes.{chunk_count_range, chunk_size_range}
 use Rattle.pp_paths.specs.declared.climbing.Climb.{Climb}
 use Rattle.pp_paths.specs.declared.climbing.Climb.TheVariants.{Reached}
 use Rattle.pp_paths.specs.declared.settling.Settled.TheVariants.{Known, Wrong}
+use Rattle.pp_paths.specs.declared.judging.Verdict.TheVariants.{Fits}
+use Rattle.pp_paths.specs.Judge.{judged}
 use Rattle.pp_paths.specs.Climb.{node_at, or_else, climb, path, AddsPath}
-use Rattle.pp_paths.specs.Settle.{last_digest, climb_of_peaks, path_of_peaks, missing_or, settled_of, known_or}
-use Rattle.pp_paths.specs.Law.{Follows, ProvenIsSettled, ProvenFits}
+use Rattle.pp_paths.specs.Settle.{last_digest, climb_of_peaks, path_of_peaks, missing_or, settled, settled_of, known_or}
+use Rattle.pp_paths.proofs.Followed.{Follows, HasNoOther}
 use Rattle.pp_paths.proofs.Climbs.{climb_ends, climb_on}
 use Rattle.pp_paths.proofs.Growth.{option_cases, sibling_absent, odd_sibling, path_first, path_here, path_rest, or_none}
 use Rattle.pp_paths.proofs.PeakNodes.{IsLast, last_is, layer_within, at_most_one, peak_known, peaks_known, peaks_there}
@@ -33,7 +36,7 @@ pub above_half : (n j : ℕ) → above n (j / 2) ≡ above (suc n) j
 above_half zero j = refl
 above_half (suc n) j = ap (λ (m : ℕ). m / 2) (above_half n j)
 
-above_twice : (a b c m : ℕ) → m ≡ a + b → above m c ≡ above a (above b c)
+pub above_twice : (a b c m : ℕ) → m ≡ a + b → above m c ≡ above a (above b c)
 above_twice zero b c m e = ap (λ (n : ℕ). above n c) (omega arith)
 above_twice (suc a) b c zero e = absurd (omega arith)
 above_twice (suc a) b c (suc m) e = ap (λ (n : ℕ). n / 2) (above_twice a b c m (omega arith))
@@ -148,8 +151,9 @@ tree_cases : (o : Option tree.Node) → (o ≡ None) ⊎ ((x : tree.Node) × (o 
 tree_cases None = inl refl
 tree_cases (Some x) = inr (x, refl)
 
-pub proven_is_settled : ProvenIsSettled
-proven_is_settled d book claims i bytes proof is rooted follows =
+pub followed_is_settled : (d : Descriptor) (book claims : LookUp) (i : ℕ) (bytes : List ℕ) (proof : Proves d claims i bytes)
+    → IsDescriptor d → IsRooted d book → HasNoOther d book claims i bytes proof → settled (chunks_of d) book claims ≡ Known
+followed_is_settled d book claims i bytes proof is rooted follows =
     elim (tree_cases (first_absent book (chunks_of d))) [
       | inl all ↦ sym (settled_known (chunks_of d) book claims all)
       | inr (at, absent) ↦
@@ -376,8 +380,11 @@ module _ (d : Descriptor) (book peaked claims : LookUp) (rooted : IsRooted d boo
         ]
       ]
 
-pub proven_fits : ProvenFits
-proven_fits d book peaked claims i bytes proof is rooted follows added rooted' =
+pub followed_fits : (d : Descriptor) (book peaked claims : LookUp) (i : ℕ) (bytes : List ℕ) (proof : Proves d claims i bytes)
+    → IsDescriptor d → IsRooted d book → HasNoOther d book claims i bytes proof
+    → AddsPath (path_of_peaks (chunks_of d) book claims) book peaked → IsRooted d peaked
+    → judged d peaked claims i bytes ≡ Fits
+followed_fits d book peaked claims i bytes proof is rooted follows added rooted' =
     as_fits d peaked claims i bytes (record {
       whole = proof.whole;
       peaks_known = all_peaks;

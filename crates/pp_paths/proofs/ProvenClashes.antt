@@ -1,38 +1,26 @@
 -- Claims that prove a chunk agree with a rooted book, or two texts have one digest.
-use Rattle.std.proofs.Common.{◌≡◌, ◌⊎◌, ℕ, zero, suc, ◌+◌, ◌-◌, ◌*◌, ◌/◌, ◌%◌, ◌^◌, ◌≤◌, ◌<◌, ◌==◌, true, false, cond, Option, Some, None, List, ◌++◌, length, take, drop, refl, sym, ◌∙◌, ap, subst, inl, inr, arith, nat_lt}
+use Rattle.std.proofs.Common.{◌≡◌, ◌⊎◌, ℕ, zero, suc, ◌+◌, ◌-◌, ◌*◌, ◌/◌, ◌%◌, ◌^◌, ◌≤◌, ◌<◌, ◌==◌, true, false, cond, Option, Some, None, List, ◌++◌, length, refl, sym, ◌∙◌, ap, subst, inl, inr, arith, nat_lt}
 use Rattle.std.specs.Prelude.{option_and_then, IfSome}
-use Rattle.std.proofs.Math.Seq.{take-append_seam, drop-append_seam}
 use Rattle.std.proofs.lemmas.Bool.{cases_eq, cases_lt, cases_Bool}
 use Rattle.std.proofs.lemmas.Bool.Decides.{nat_tests}
 use Rattle.std.proofs.lemmas.List.{length-replicate}
 use Rattle.sha2.specs.Sha256.{sha256}
 use Rattle.sha2.proofs.Facts256.{length-sha256}
-use Rattle.pp_terms.specs.Tree.{above, empty_hash}
-use Rattle.pp_terms.specs.Book.{LookUp, IsJoined, IsRooted}
-use Rattle.pp_terms.specs.Descriptor.{Descriptor, chunks_of, height_of}
-use Rattle.pp_terms.specs.Proves.{sibling, joined, climbed, filled, last_layer, peak_offset}
-use Rattle.pp_paths.specs.Claims.{AreDigests}
+use Rattle.pp_terms.specs.tree.Tree.{above, empty_hash}
+use Rattle.pp_terms.specs.tree.Book.{LookUp, AreDigests, IsJoined, IsRooted}
+use Rattle.pp_terms.specs.format.Descriptor.{Descriptor, chunks_of, height_of, IsDescriptor}
+use Rattle.pp_terms.specs.tree.Proves.{joined, climbed, filled, last_layer, peak_offset, Proves}
+use Rattle.pp_terms.specs.tree.Bins.{sibling}
 use Rattle.pp_paths.specs.Judge.{same}
-use Rattle.pp_paths.specs.Law.{Follows, ClimbClashes, ProvenOrClash}
-use Rattle.pp_paths.proofs.Growth.{option_cases, even_sibling, odd_sibling, hung, sibling_absent}
+use Rattle.pp_paths.specs.Law.{ClimbClashes, ProofClashes}
+use Rattle.pp_paths.proofs.Followed.{Follows, IsFollowed}
+use Rattle.pp_paths.proofs.Growth.{option_cases, even_sibling, odd_sibling, sibling_absent}
 use Rattle.pp_paths.proofs.Verdicts.{same_bytes, other_bytes}
 use Rattle.pp_paths.proofs.ProvenChunks.{Counted, counted, climbed_on, above_half, past_full, last_there, covered}
 use Rattle.pp_paths.proofs.PeakNodes.{layer_within, peak_known}
 use Rattle.pp_terms.proofs.Heights.{height_is}
-
-bytes_cases : (xs ys : List ℕ) → (xs ≡ ys) ⊎ (xs ≡ ys → ⊥)
-bytes_cases xs ys = elim (cases_Bool (same xs ys)) [
-  | inl t ↦ inl (same_bytes xs ys t)
-  | inr f ↦ inr (other_bytes xs ys f)
-]
-
-left_same : (a b c d : List ℕ) → length a ≡ length c → a ++ b ≡ c ++ d → a ≡ c
-left_same a b c d long e =
-    sym (take-append_seam a b) ∙ ap (λ xs. take (length a) xs) e ∙ ap (λ n. take n (c ++ d)) long ∙ take-append_seam c d
-
-right_same : (a b c d : List ℕ) → length a ≡ length c → a ++ b ≡ c ++ d → b ≡ d
-right_same a b c d long e =
-    sym (drop-append_seam a b) ∙ ap (λ xs. drop (length a) xs) e ∙ ap (λ n. drop n (c ++ d)) long ∙ drop-append_seam c d
+use Rattle.pp_terms.proofs.Nodes.{hung}
+use Rattle.pp_terms.proofs.Facts.{front_same, back_same, bytes_cases}
 
 -- The book follows the climb, the siblings included.
 abbrev FollowsAll : LookUp → LookUp → ℕ → ℕ → ℕ → List ℕ → Type 0
@@ -61,8 +49,8 @@ halves_same book k j digest other a b is long long' long_a e = elim (cases_eq (j
   | inl even ↦
       let test : (j % 2 == 0) ≡ true = grind (arith, nat_tests) in
       let e' : digest ++ other ≡ a ++ b = sym (ap (λ t. cond t (digest ++ other) (other ++ digest)) test) ∙ e in
-      let left = left_same digest other a b (long ∙ sym long_a) e' in
-      let right = right_same digest other a b (long ∙ sym long_a) e' in
+      let left = front_same digest other a b (long ∙ sym long_a) e' in
+      let right = back_same digest other a b (long ∙ sym long_a) e' in
       let here : j ≡ 2 * (j / 2) = omega arith in
       let next : j + 1 ≡ 2 * (j / 2) + 1 = omega arith in (
         ap (λ i. book k i) here ∙ is.left_is ∙ ap (λ x. Some x) (sym left),
@@ -71,8 +59,8 @@ halves_same book k j digest other a b is long long' long_a e = elim (cases_eq (j
   | inr odd ↦
       let test : (j % 2 == 0) ≡ false = grind (arith, nat_tests) in
       let e' : other ++ digest ≡ a ++ b = sym (ap (λ t. cond t (digest ++ other) (other ++ digest)) test) ∙ e in
-      let left = left_same other digest a b (long' ∙ sym long_a) e' in
-      let right = right_same other digest a b (long' ∙ sym long_a) e' in
+      let left = front_same other digest a b (long' ∙ sym long_a) e' in
+      let right = back_same other digest a b (long' ∙ sym long_a) e' in
       let here : j ≡ 2 * (j / 2) + 1 = omega arith in
       let before : j - 1 ≡ 2 * (j / 2) = omega arith in (
         ap (λ i. book k i) here ∙ is.right_is ∙ ap (λ x. Some x) (sym right),
@@ -206,8 +194,10 @@ peak_followed d book claims top x r count below odd last_is peak_is rise follows
       ]
     ]
 
-pub proven_or_clash : ProvenOrClash
-proven_or_clash d book claims i bytes proof is rooted digests =
+pub followed_or_clash : (d : Descriptor) (book claims : LookUp) (i : ℕ) (bytes : List ℕ) (proof : Proves d claims i bytes)
+    → IsDescriptor d → IsRooted d book → IsFollowed d book claims i bytes proof ⊎ ProofClashes d book claims i bytes proof
+followed_or_clash d book claims i bytes proof is rooted =
+    let digests = proof.digests in
     let n = chunks_of d in
     let last = last_layer n in
     let off = peak_offset last n in
@@ -234,11 +224,14 @@ proven_or_clash d book claims i bytes proof is rooted digests =
           (peak_followed d book claims proof.top x r count below odd there peak rise up)) [
             | inr clash ↦ inr (inl clash)
             | inl follows ↦ inl (record {
-              to_peak = all_follows book claims proof.top 0 i (sha256 bytes) follows;
-              to_root = λ digest at.
-                  let e : x ≡ digest = cc in
-                  subst (λ y. Follows book (filled n claims) (height_of d - last) last off y) e
-                  (all_follows book (filled n claims) (height_of d - last) last off x up);
+              climbs = record {
+                to_peak = all_follows book claims proof.top 0 i (sha256 bytes) follows;
+                to_root = λ digest at.
+                    let e : x ≡ digest = cc in
+                    subst (λ y. Follows book (filled n claims) (height_of d - last) last off y) e
+                    (all_follows book (filled n claims) (height_of d - last) last off x up);
+              };
+              peaks = λ k y under odd' at. peak_followed d book claims k x y count under odd' there at rise up;
             })
           ]
     ]

@@ -3,11 +3,11 @@ use Rattle.std.proofs.Common.{◌≡◌, ◌⊎◌, ℕ, ◌+◌, ◌-◌, ◌^�
 use Rattle.std.specs.Prelude.{IsSome, is_some, unwrap_or}
 use Rattle.std.specs.Option.{option_map, option_or}
 use Rattle.std.proofs.lemmas.Bool.{cases_lt}
-use Rattle.pp_terms.specs.Tree as tree
-use Rattle.pp_terms.specs.Tree.{above, height, IsHeight}
-use Rattle.pp_terms.specs.Book.{LookUp, IsRooted}
-use Rattle.pp_terms.specs.Descriptor.{Descriptor, chunks_of, height_of}
-use Rattle.pp_terms.specs.Proves.{first_absent, last_layer, peak_offset, filled}
+use Rattle.pp_terms.specs.tree.Tree as tree
+use Rattle.pp_terms.specs.tree.Tree.{above, height, IsHeight}
+use Rattle.pp_terms.specs.tree.Book.{LookUp, IsRooted}
+use Rattle.pp_terms.specs.format.Descriptor.{Descriptor, chunks_of, height_of}
+use Rattle.pp_terms.specs.tree.Proves.{first_absent, last_layer, peak_offset, filled}
 use Rattle.pp_terms.proofs.Heights.{height_is}
 use Rattle.pp_tree.specs.Node.{node_of}
 use Rattle.pp_tree.specs.declared.node.Node.{Node}

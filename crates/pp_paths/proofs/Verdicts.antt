@@ -3,15 +3,15 @@ use Rattle.std.proofs.Common.{◌≡◌, ℕ, ◌-◌, ◌<◌, ◌==◌, Bool, 
 use Rattle.std.proofs.lemmas.Bool.{cases_Bool}
 use Rattle.std.proofs.lemmas.Bool.Decides.{nat_tests}
 use Rattle.sha2.specs.Sha256.{sha256}
-use Rattle.pp_terms.specs.Content.{chunk_length}
-use Rattle.pp_terms.specs.Book.{LookUp, IsRooted, IsBacked}
-use Rattle.pp_terms.specs.Descriptor.{Descriptor, chunks_of, height_of}
-use Rattle.pp_terms.specs.Proves.{first_absent}
+use Rattle.pp_terms.specs.tree.Content.{chunk_length}
+use Rattle.pp_terms.specs.tree.Book.{LookUp, IsRooted, IsBacked}
+use Rattle.pp_terms.specs.format.Descriptor.{Descriptor, chunks_of, height_of}
+use Rattle.pp_terms.specs.tree.Proves.{first_absent}
 use Rattle.pp_paths.specs.declared.judging.Verdict.TheVariants.{Fits, Wrong, Length}
 use Rattle.pp_paths.specs.declared.climbing.Climb.{Climb}
 use Rattle.pp_paths.specs.declared.climbing.Climb.TheVariants.{Reached, Lacks}
 use Rattle.pp_tree.specs.declared.node.Node.{Node}
-use Rattle.pp_terms.specs.Tree as tree
+use Rattle.pp_terms.specs.tree.Tree as tree
 use Rattle.std.proofs.lemmas.Slice.Eq.{bytes_eq-Decides}
 use Rattle.pp_paths.specs.Climb.{climb, or_else, path, IsFit, AddsPath}
 use Rattle.pp_paths.specs.Judge.{judged, same, missing_or, verdict_of, FitsAs}

@@ -2,9 +2,10 @@
 use Rattle.std.specs.Prelude.{◌≡◌, ℕ, zero, suc, ◌/◌, ◌==◌, ◌&&◌, cond, Option, Some, None, option_and_then, List}
 use Rattle.std.specs.Option.{option_or}
 use Rattle.sha2.specs.Sha256.{sha256}
-use Rattle.pp_terms.specs.Book.{LookUp, IsRooted}
-use Rattle.pp_terms.specs.Descriptor.{Descriptor, height_of}
-use Rattle.pp_terms.specs.Proves.{sibling, joined}
+use Rattle.pp_terms.specs.tree.Book.{LookUp, IsRooted}
+use Rattle.pp_terms.specs.format.Descriptor.{Descriptor, height_of}
+use Rattle.pp_terms.specs.tree.Proves.{joined}
+use Rattle.pp_terms.specs.tree.Bins.{sibling}
 use Rattle.pp_tree.specs.declared.node.Node.{Node}
 use Rattle.pp_paths.specs.declared.climbing.Climb.{Climb}
 use Rattle.pp_paths.specs.declared.climbing.Climb.TheVariants.{Reached, Lacks}

@@ -2,11 +2,11 @@
 use Rattle.std.specs.Prelude.{◌≡◌, ℕ, ◌==◌, Bool, cond, Option, Some, None, nat_eq, List, length}
 use Rattle.std.specs.Cmp.Lexicographic.{pointwise}
 use Rattle.sha2.specs.Sha256.{sha256}
-use Rattle.pp_terms.specs.Content.{chunk_length}
-use Rattle.pp_terms.specs.Tree as tree
-use Rattle.pp_terms.specs.Book.{LookUp}
-use Rattle.pp_terms.specs.Descriptor.{Descriptor, chunks_of, height_of}
-use Rattle.pp_terms.specs.Proves.{first_absent}
+use Rattle.pp_terms.specs.tree.Content.{chunk_length}
+use Rattle.pp_terms.specs.tree.Tree as tree
+use Rattle.pp_terms.specs.tree.Book.{LookUp}
+use Rattle.pp_terms.specs.format.Descriptor.{Descriptor, chunks_of, height_of}
+use Rattle.pp_terms.specs.tree.Proves.{first_absent}
 use Rattle.pp_tree.specs.declared.node.Node.{Node}
 use Rattle.pp_paths.specs.declared.climbing.Climb.{Climb}
 use Rattle.pp_paths.specs.declared.climbing.Climb.TheVariants.{Reached, Lacks}

@@ -1,30 +1,16 @@
 -- Claims that prove a chunk are enough.
-use Rattle.std.specs.Prelude.{◌≡◌, ◌⊎◌, ℕ, zero, suc, ◌-◌, ◌/◌, Some, IfSome, List, ◌++◌}
+use Rattle.std.specs.Prelude.{◌≡◌, ◌⊎◌, ℕ, zero, suc, ◌-◌, ◌/◌, Some, List, ◌++◌}
 use Rattle.sha2.specs.Sha256.{sha256}
-use Rattle.pp_terms.specs.Book.{LookUp, IsJoined, IsRooted}
-use Rattle.pp_terms.specs.Descriptor.{Descriptor, chunks_of, height_of, IsDescriptor}
-use Rattle.pp_terms.specs.Proves.{sibling, joined, filled, last_layer, peak_offset, Proves}
+use Rattle.pp_terms.specs.tree.Book.{LookUp, IsJoined, IsRooted}
+use Rattle.pp_terms.specs.format.Descriptor.{Descriptor, chunks_of, height_of, IsDescriptor}
+use Rattle.pp_terms.specs.tree.Proves.{joined, filled, last_layer, peak_offset, Proves}
+use Rattle.pp_terms.specs.tree.Bins.{sibling}
+use Rattle.pp_terms.specs.tree.Claims.{met, Contradicts}
 use Rattle.pp_paths.specs.declared.settling.Settled.TheVariants.{Known}
 use Rattle.pp_paths.specs.declared.judging.Verdict.TheVariants.{Fits}
-use Rattle.pp_paths.specs.Claims.{AreDigests}
 use Rattle.pp_paths.specs.Climb.{AddsPath}
 use Rattle.pp_paths.specs.Judge.{judged}
 use Rattle.pp_paths.specs.Settle.{settled, path_of_peaks}
-
--- At each node on the way of n layers up the book has the climb's digest, or none.
-abbrev pub Follows : LookUp → LookUp → ℕ → ℕ → ℕ → List ℕ → Type 0
-Follows book known zero k j digest = IfSome (book k j) (λ kept. kept ≡ digest)
-Follows book known (suc n) k j digest =
-    IfSome (book k j) (λ kept. kept ≡ digest)
-    × ((other : List ℕ) → known k (sibling j) ≡ Some other → Follows book known n (suc k) (j / 2) (sha256 (joined j digest other)))
-
--- The book has no other digest than the climbs from the chunk to its peak and from the last peak to the root.
-pub record HasNoOther (d : Descriptor) (book known : LookUp) (i : ℕ) (bytes : List ℕ) (proof : Proves d known i bytes) : Type 0 where
-  pub to_peak : Follows book known proof.top 0 i (sha256 bytes)
-  pub to_root :
-      let last = last_layer (chunks_of d) in
-      (digest : List ℕ) → known last (peak_offset last (chunks_of d)) ≡ Some digest
-      → Follows book (filled (chunks_of d) known) (height_of d - last) last (peak_offset last (chunks_of d)) digest
 
 -- On the way of n layers up from node (k, j), two texts with one digest: the climb's pair and that of the book.
 abbrev pub ClimbClashes : LookUp → LookUp → ℕ → ℕ → ℕ → List ℕ → Type 0
@@ -43,20 +29,22 @@ ProofClashes d book claims i bytes proof =
     × ClimbClashes book (filled (chunks_of d) claims) (height_of d - last_layer (chunks_of d)) (last_layer (chunks_of d))
     (peak_offset (last_layer (chunks_of d)) (chunks_of d)) digest)
 
--- Where claims prove a chunk, a rooted book has no other digest on the climbs, or two different texts have one digest.
+-- Where claims prove a chunk, a rooted book has no other digest at a node that the climbs meet, or two different texts
+-- have one digest.
 abbrev pub ProvenOrClash : Type 0
 ProvenOrClash = (d : Descriptor) (book claims : LookUp) (i : ℕ) (bytes : List ℕ) (proof : Proves d claims i bytes)
-    → IsDescriptor d → IsRooted d book → AreDigests claims
-    → HasNoOther d book claims i bytes proof ⊎ ProofClashes d book claims i bytes proof
+    → IsDescriptor d → IsRooted d book
+    → (Contradicts book (met d claims i bytes) → ⊥) ⊎ ProofClashes d book claims i bytes proof
 
--- Where claims prove a chunk, the peaks are settled by them, if the book has no other digest on the way.
+-- Where claims prove a chunk, the peaks are settled by them, if the book doesn't contradict what the climbs meet.
 abbrev pub ProvenIsSettled : Type 0
 ProvenIsSettled = (d : Descriptor) (book claims : LookUp) (i : ℕ) (bytes : List ℕ) (proof : Proves d claims i bytes)
-    → IsDescriptor d → IsRooted d book → HasNoOther d book claims i bytes proof → settled (chunks_of d) book claims ≡ Known
+    → IsDescriptor d → IsRooted d book → (Contradicts book (met d claims i bytes) → ⊥)
+    → settled (chunks_of d) book claims ≡ Known
 
 -- And then, in the book with the settled peaks, the chunk fits.
 abbrev pub ProvenFits : Type 0
 ProvenFits = (d : Descriptor) (book peaked claims : LookUp) (i : ℕ) (bytes : List ℕ) (proof : Proves d claims i bytes)
-    → IsDescriptor d → IsRooted d book → HasNoOther d book claims i bytes proof
+    → IsDescriptor d → IsRooted d book → (Contradicts book (met d claims i bytes) → ⊥)
     → AddsPath (path_of_peaks (chunks_of d) book claims) book peaked → IsRooted d peaked
     → judged d peaked claims i bytes ≡ Fits

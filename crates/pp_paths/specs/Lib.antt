@@ -1,4 +1,3 @@
-pub mod Claims
 pub mod Claim
 pub mod Climb
 pub mod Judge

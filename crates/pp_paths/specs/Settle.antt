@@ -1,10 +1,10 @@
 -- How a book comes to all peaks of its content's tree by claims (RFC 7574, section 5.6).
 use Rattle.std.specs.Prelude.{◌≡◌, ℕ, ◌-◌, cond, Option, Some, None, unwrap_or, List, []}
-use Rattle.pp_terms.specs.Tree as tree
-use Rattle.pp_terms.specs.Tree.{height}
-use Rattle.pp_terms.specs.Book.{LookUp, IsRooted}
-use Rattle.pp_terms.specs.Descriptor.{Descriptor, chunks_of}
-use Rattle.pp_terms.specs.Proves.{first_absent, filled, last_layer, peak_offset}
+use Rattle.pp_terms.specs.tree.Tree as tree
+use Rattle.pp_terms.specs.tree.Tree.{height}
+use Rattle.pp_terms.specs.tree.Book.{LookUp, IsRooted}
+use Rattle.pp_terms.specs.format.Descriptor.{Descriptor, chunks_of}
+use Rattle.pp_terms.specs.tree.Proves.{first_absent, filled, last_layer, peak_offset}
 use Rattle.pp_paths.specs.declared.climbing.Climb.{Climb}
 use Rattle.pp_paths.specs.declared.climbing.Climb.TheVariants.{Reached, Lacks}
 use Rattle.pp_paths.specs.declared.settling.Settled.{Settled}

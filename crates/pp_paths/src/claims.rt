@@ -1,6 +1,8 @@
 // The digests that one channel's peer claimed.
 ghost use Rattle.std.specs.Prelude.{◌≡◌, [], ◌∷◌, take, IfOk, IfSome, length};
-ghost use Rattle.pp_paths.specs.Claims.{claimed, Claimed, AreDigests};
+ghost use Rattle.pp_terms.specs.tree.Book.{AreDigests};
+ghost use Rattle.pp_terms.specs.tree.Claims.{latest};
+ghost use Rattle.pp_tree.specs.Node.{node_of};
 ghost use Rattle.pp_paths.specs.Claim.{is_claim_of};
 ghost use Rattle.std.specs.Option.{option_map};
 ghost use Rattle.std.specs.List.{find};
@@ -40,14 +42,16 @@ pub struct Claims {
 
 impl Model for Claims {
     ghost use Rattle.std.specs.Prelude.{◌≡◌, List, map};
-    ghost use Rattle.pp_paths.specs.Claims.{Claimed, claimed, AreDigests};
+    ghost use Rattle.pp_terms.specs.tree.Book.{AreDigests};
+    ghost use Rattle.pp_terms.specs.tree.Claims as plain;
+    ghost use Rattle.pp_terms.specs.tree.Claims.{latest};
     ghost use Rattle.pp_paths.specs.Claim.{claimed_of};
 
-    ghost Value = { List Claimed };
+    ghost Value = { List plain.Claim };
 
     ghost view = { λ c. map claimed_of c.kept.items };
 
-    ghost invariant = { λ c. (c.kept.capacity ≡ 128) × AreDigests (claimed (map claimed_of c.kept.items)) };
+    ghost invariant = { λ c. (c.kept.capacity ≡ 128) × AreDigests (latest (map claimed_of c.kept.items)) };
 }
 
 impl Claims {
@@ -61,7 +65,7 @@ impl Claims {
 
     /// Notes a claim; with 128 noted before, the oldest is forgotten.
     pub fn add(&mut self, node: Node, digest: Digest)
-        ensures { self.new ≡ take 128 (record { layer = node.layer; offset = node.offset; digest = digest } ∷ self.old) }
+        ensures { self.new ≡ take 128 (record { node = node_of node; digest = digest } ∷ self.old) }
     {
         // Its contract tells that the digest has 32 bytes.
         let _ = digest.bytes();
@@ -70,9 +74,9 @@ impl Claims {
 
     /// The digest that was last claimed of a node, among the claims that are kept.
     pub fn latest(&self, node: Node) -> Option<Digest>
-        ensures latest { result ≡ claimed self.now node.layer node.offset }
+        ensures latest { result ≡ latest self.now node.layer node.offset }
         ensures len { IfSome result (λ digest. length digest ≡ 32) }
-        ensures digests { AreDigests (claimed self.now) }
+        ensures digests { AreDigests (latest self.now) }
     {
         newest(&self.kept, node)
     }

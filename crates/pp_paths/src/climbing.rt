@@ -1,19 +1,19 @@
 // Climbing from a node towards the root of its tree, up to the first node that a book has (RFC 7574, sections 5.2 and 5.6).
 ghost use Rattle.std.specs.Prelude.{◌≡◌, ◌==◌, if◌then◌else◌, ◌+◌, ◌%◌, ◌-◌, ◌/◌, ◌<◌, ◌≤◌};
 ghost use Rattle.sha2.specs.Sha256.{sha256};
-ghost use Rattle.pp_terms.specs.Proves.{sibling, joined};
+ghost use Rattle.pp_terms.specs.tree.Proves.{joined};
 ghost use Rattle.pp_tree.specs.Book.{entry};
-ghost use Rattle.pp_paths.specs.Claims.{claimed};
+ghost use Rattle.pp_terms.specs.tree.Claims.{latest};
 ghost use Rattle.pp_paths.specs.Climb.{node_at, or_else, climb, path, IsFit, IsRootedAt, AddsPath};
-ghost use Rattle.pp_terms.specs.Book.{IsRooted};
-ghost use Rattle.pp_terms.specs.Descriptor.{Descriptor};
+ghost use Rattle.pp_terms.specs.tree.Book.{IsRooted};
+ghost use Rattle.pp_terms.specs.format.Descriptor.{Descriptor};
 
 use crate::claims::Claims;
-use pp_tree::{Book, Digest, Node, parent};
+use pp_tree::{Book, Digest, Node, parent, parent_of, sibling_of};
 
 /// Digests that are known beside a book.
 pub(crate) trait Others {
-    ghost use Rattle.pp_terms.specs.Book.{LookUp};
+    ghost use Rattle.pp_terms.specs.tree.Book.{LookUp};
 
     ghost look_up: { Self → LookUp };
 
@@ -22,7 +22,7 @@ pub(crate) trait Others {
 }
 
 impl Others for Claims {
-    ghost look_up = { claimed };
+    ghost look_up = { latest };
 
     fn digest(&self, node: Node) -> Option<Digest> {
         self.latest(node)
@@ -64,12 +64,12 @@ pub(crate) fn climb_from<O: Others>(
                 kept,
             };
         }
-        let beside = beside(node);
+        let beside = sibling_of(node);
         match known(book, others, beside) {
             Some(other) => digest = join(node, &digest, &other),
             None => return Climb::Lacks(beside),
         }
-        node = above(node);
+        node = parent_of(node);
     }
     match book.get(node) {
         Some(kept) => Climb::Reached {
@@ -96,13 +96,13 @@ pub(crate) fn adopt_from<O: Others>(
     ensures added { AddsPath (path (O.look_up others.now) (top - node.layer) node.layer node.offset digest)
         (entry book.old) (entry book.new) }
     ensures rooted { (d : Descriptor) → IsRooted d (entry book.old) → IsRooted d (entry book.new) }
-    ensures chunks { book.new.chunks ≡ book.old.chunks }
+    ensures descriptor { book.new.descriptor ≡ book.old.descriptor }
 {
     if book.get(node).is_some() {
         return;
     }
-    let other = others.digest(beside(node)).unwrap();
-    let parent = above(node);
+    let other = others.digest(sibling_of(node)).unwrap();
+    let parent = parent_of(node);
     adopt_from(book, others, parent, join(node, &digest, &other), top);
     let (left, right) = in_order(node, digest, other);
     book.adopt_pair(parent, left, right);
@@ -127,30 +127,6 @@ pub(crate) fn known<O: Others>(book: &Book, others: &O, node: Node) -> Option<Di
     match book.get(node) {
         Some(digest) => Some(digest),
         None => others.digest(node),
-    }
-}
-
-/// The other child of the node's parent.
-pub(crate) fn beside(node: Node) -> Node
-    ensures { result ≡ node_at node.layer (sibling node.offset) }
-{
-    let layer = node.layer;
-    let offset = if node.offset % 2 == 0 {
-        node.offset + 1
-    } else {
-        node.offset - 1
-    };
-    Node { layer, offset }
-}
-
-/// The node's parent.
-pub(crate) fn above(node: Node) -> Node
-    requires { node.layer < 255 }
-    ensures { result ≡ node_at (node.layer + 1) (node.offset / 2) }
-{
-    Node {
-        layer: node.layer + 1,
-        offset: node.offset / 2,
     }
 }
 

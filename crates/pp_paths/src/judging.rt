@@ -3,12 +3,12 @@ ghost use Rattle.std.specs.Prelude.{◌≡◌, ◌↔◌, ℕ, ◌<◌, is_none}
 ghost use Rattle.std.specs.List.{find};
 ghost use Rattle.std.specs.Option.{option_map};
 ghost use Rattle.sha2.specs.Sha256.{sha256};
-ghost use Rattle.pp_terms.specs.Book.{IsRooted, IsBacked};
-ghost use Rattle.pp_terms.specs.Descriptor.{Descriptor, chunks_of, height_of};
-ghost use Rattle.pp_terms.specs.Proves.{first_absent};
+ghost use Rattle.pp_terms.specs.tree.Book.{IsRooted, IsBacked};
+ghost use Rattle.pp_terms.specs.format.Descriptor.{Descriptor, chunks_of, height_of};
+ghost use Rattle.pp_terms.specs.tree.Proves.{first_absent};
 ghost use Rattle.pp_tree.specs.Book.{entry};
 ghost use Rattle.pp_tree.specs.Node.{node_of};
-ghost use Rattle.pp_paths.specs.Claims.{claimed};
+ghost use Rattle.pp_terms.specs.tree.Claims.{latest};
 ghost use Rattle.pp_paths.specs.Climb.{path, AddsPath};
 ghost use Rattle.pp_paths.specs.Judge.{judged, FitsAs, KeepsEntries};
 
@@ -40,8 +40,8 @@ pub enum Verdict {
 /// at most 20 digests beside that of the bytes.
 pub fn judge(book: &Book, claims: &Claims, descriptor: &Descriptor, i: u32, chunk: &[u8]) -> Verdict
     requires { i < chunks_of descriptor.now }
-    ensures judged { result ≡ judged descriptor.now (entry book.now) (claimed claims.now) i chunk.now }
-    ensures fits { (result ≡ Verdict.Fits) ↔ FitsAs descriptor.now (entry book.now) (claimed claims.now) i chunk.now }
+    ensures judged { result ≡ judged descriptor.now (entry book.now) (latest claims.now) i chunk.now }
+    ensures fits { (result ≡ Verdict.Fits) ↔ FitsAs descriptor.now (entry book.now) (latest claims.now) i chunk.now }
 {
     let want = descriptor.chunk_len(i);
     let found = chunk.len();
@@ -71,13 +71,13 @@ pub fn judge(book: &Book, claims: &Claims, descriptor: &Descriptor, i: u32, chun
 pub fn adopt(book: &mut Book, claims: &Claims, descriptor: &Descriptor, i: u32, chunk: &[u8])
     requires within { i < chunks_of descriptor.now }
     requires rooted { IsRooted descriptor.now (entry book.old) }
-    requires fits { judged descriptor.now (entry book.old) (claimed claims.now) i chunk.now ≡ Verdict.Fits }
-    ensures added { AddsPath (path (claimed claims.now) (height_of descriptor.now) 0 i (sha256 chunk.now))
+    requires fits { judged descriptor.now (entry book.old) (latest claims.now) i chunk.now ≡ Verdict.Fits }
+    ensures added { AddsPath (path (latest claims.now) (height_of descriptor.now) 0 i (sha256 chunk.now))
         (entry book.old) (entry book.new) }
     ensures kept { KeepsEntries (entry book.old) (entry book.new) }
     ensures backed { IsBacked descriptor.now (entry book.new) i chunk.now }
     ensures rooted { (d : Descriptor) → IsRooted d (entry book.old) → IsRooted d (entry book.new) }
-    ensures chunks { book.new.chunks ≡ book.old.chunks }
+    ensures descriptor { book.new.descriptor ≡ book.old.descriptor }
 {
     let start = Node {
         layer: 0,

@@ -2,12 +2,12 @@
 ghost use Rattle.std.specs.Prelude.{◌≡◌, ◌*◌, ◌^◌, ◌<◌, ◌≤◌, None, is_none, nat_lt};
 ghost use Rattle.std.specs.List.{find};
 ghost use Rattle.std.specs.Option.{option_map};
-ghost use Rattle.pp_terms.specs.Book.{IsRooted};
-ghost use Rattle.pp_terms.specs.Descriptor.{Descriptor};
-ghost use Rattle.pp_terms.specs.Proves.{first_absent, filled, last_layer, peak_offset};
+ghost use Rattle.pp_terms.specs.tree.Book.{IsRooted};
+ghost use Rattle.pp_terms.specs.format.Descriptor.{Descriptor};
+ghost use Rattle.pp_terms.specs.tree.Proves.{first_absent, filled, last_layer, peak_offset};
 ghost use Rattle.pp_tree.specs.Book.{entry};
 ghost use Rattle.pp_tree.specs.Node.{node_of};
-ghost use Rattle.pp_paths.specs.Claims.{claimed};
+ghost use Rattle.pp_terms.specs.tree.Claims.{latest};
 ghost use Rattle.pp_paths.specs.Climb.{node_at, or_else, AddsPath, IsEndAt};
 ghost use Rattle.pp_paths.specs.Judge.{KeepsEntries};
 ghost use Rattle.pp_paths.specs.Settle.{settled, path_of_peaks, climb_of_peaks, IsRootedFor, IsWrong};
@@ -33,15 +33,15 @@ pub fn settle_peaks(book: &mut Book, claims: &Claims, chunks: u32) -> Settled
     requires some { 0 < chunks }
     requires most { chunks ≤ 2 ^ 20 }
     requires rooted { IsRootedFor chunks (entry book.old) }
-    ensures settled { result ≡ settled chunks (entry book.old) (claimed claims.now) }
+    ensures settled { result ≡ settled chunks (entry book.old) (latest claims.now) }
     ensures known { result ≡ Settled.Known → first_absent (entry book.new) chunks ≡ None }
     ensures added { result ≡ Settled.Known
-        → AddsPath (path_of_peaks chunks (entry book.old) (claimed claims.now)) (entry book.old) (entry book.new) }
+        → AddsPath (path_of_peaks chunks (entry book.old) (latest claims.now)) (entry book.old) (entry book.new) }
     ensures unchanged { (result ≡ Settled.Known → ⊥) → book.new ≡ book.old }
     ensures before { first_absent (entry book.old) chunks ≡ None → book.new ≡ book.old }
     ensures kept { KeepsEntries (entry book.old) (entry book.new) }
     ensures rooted { (d : Descriptor) → IsRooted d (entry book.old) → IsRooted d (entry book.new) }
-    ensures chunks { book.new.chunks ≡ book.old.chunks }
+    ensures descriptor { book.new.descriptor ≡ book.old.descriptor }
 {
     let last = last_peak(chunks);
     // A rooted book that has the last peak has all others.
@@ -73,8 +73,8 @@ pub fn wrong_node(book: &Book, claims: &Claims, chunks: u32) -> Node
     requires some { 0 < chunks }
     requires most { chunks ≤ 2 ^ 20 }
     requires rooted { IsRootedFor chunks (entry book.now) }
-    requires wrong { IsWrong (settled chunks (entry book.now) (claimed claims.now)) }
-    ensures { IsEndAt result (climb_of_peaks chunks (entry book.now) (claimed claims.now)) }
+    requires wrong { IsWrong (settled chunks (entry book.now) (latest claims.now)) }
+    ensures { IsEndAt result (climb_of_peaks chunks (entry book.now) (latest claims.now)) }
 {
     let last = last_peak(chunks);
     let digest = claims.latest(last).unwrap();
@@ -93,7 +93,7 @@ struct Peaks<'a> {
 }
 
 impl Others for Peaks<'_> {
-    ghost look_up = { λ peaks. filled peaks.chunks (claimed peaks.claims.now) };
+    ghost look_up = { λ peaks. filled peaks.chunks (latest peaks.claims.now) };
 
     fn digest(&self, node: Node) -> Option<Digest> {
         if covers(node, self.chunks) {
@@ -128,14 +128,14 @@ fn last_peak(chunks: u32) -> Node
 
 // the leftmost peak over so many chunks that is neither in the book nor claimed
 fn first_unknown(book: &Book, claims: &Claims, chunks: u32) -> Option<Node>
-    ensures { option_map node_of result ≡ first_absent (or_else (entry book.now) (claimed claims.now)) chunks }
+    ensures { option_map node_of result ≡ first_absent (or_else (entry book.now) (latest claims.now)) chunks }
 {
     first_without(&peaks(chunks), book, claims)
 }
 
 // the first of the nodes that is in neither
 fn first_without(nodes: &[Node], book: &Book, claims: &Claims) -> Option<Node>
-    ensures { result ≡ find (λ at. is_none (or_else (entry book.now) (claimed claims.now) at.layer at.offset)) nodes.now }
+    ensures { result ≡ find (λ at. is_none (or_else (entry book.now) (latest claims.now) at.layer at.offset)) nodes.now }
 {
     nodes
         .iter()

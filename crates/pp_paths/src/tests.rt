@@ -1,7 +1,7 @@
 // A content of 7,000 bytes in seven chunks of 1,024, the last one of 856. The digests were worked out with another
 // implementation of SHA-256.
 ghost use Rattle.std.specs.Prelude.{◌≡◌, IfOk};
-ghost use Rattle.pp_terms.specs.Book.{IsRooted};
+ghost use Rattle.pp_terms.specs.tree.Book.{IsRooted};
 ghost use Rattle.pp_tree.specs.Book.{entry};
 
 use crate::{Claims, Settled, Verdict, adopt, judge, settle_peaks, wrong_node};

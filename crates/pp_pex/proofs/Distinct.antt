@@ -7,6 +7,7 @@ use Rattle.std.proofs.lemmas.Bool.{and_parts, and_from, or_parts, or_from, cases
 use Rattle.std.proofs.lemmas.List.Quantifiers.{position-Some}
 use Rattle.std.proofs.lemmas.Bool.Decides.{nat_tests}
 use Rattle.std.proofs.lemmas.List.Sums.{fails_before_first}
+use Rattle.pp_terms.proofs.Facts.{bytes_same}
 use Rattle.pp_outside.specs.Outside.{is_same}
 use Rattle.pp_outside.specs.declared.link.Address.{Address}
 use Rattle.pp_outside.specs.declared.link.Address.TheVariants.{V4, V6}
@@ -14,10 +15,6 @@ use Rattle.pp_pex.specs.declared.table.Contact.{Contact}
 use Rattle.pp_pex.specs.Exchange.{is_in, IsOnce, addresses, contact_of, place_of, Hears, is_told, answers, port_of, HavePorts, is_ignored, suggested}
 
 -- ---- addresses
-
-bytes_same : (xs : List ℕ) → pointwise nat_eq xs xs ≡ true
-bytes_same [] = refl
-bytes_same (x ∷ xs) = and_from (nat_eq x x) (pointwise nat_eq xs xs) (eq-eqb x x refl) (bytes_same xs)
 
 same_self : (a : Address) → is_same a a ≡ true
 same_self (V4 bytes port) = and_from (pointwise nat_eq bytes bytes) (port == port) (bytes_same bytes) (eq-eqb port port refl)

@@ -1,15 +1,17 @@
 -- Brought hashes complete a path exactly where all of its plan is among them.
 use Rattle.std.proofs.Common.{◌≡◌, ⊎_elim, ℕ, zero, suc, ◌+◌, ◌*◌, ◌/◌, ◌^◌, ◌<◌, ◌≤◌, Bool, true, false, cond, not, ◌&&◌, ◌||◌, List, [], ◌∷◌, ◌++◌, refl, sym, ◌∙◌, ap, arith, add-one, pow-suc}
-use Rattle.std.proofs.lemmas.Bool.{cases_Bool, and_parts, and_from, or_right, or_parts, both_ways, cond-true, cond-false}
+use Rattle.std.proofs.lemmas.Bool.{cases_Bool, or_parts, both_ways, cond-true, cond-false}
 use Rattle.std.proofs.lemmas.List.Folds.{list_all-append}
 use Rattle.std.specs.List.{list_all}
-use Rattle.pp_terms.specs.Tree.{Node, height, peaks, above}
-use Rattle.pp_terms.specs.Bins.{parent_of, sibling_of}
+use Rattle.pp_terms.specs.tree.Tree.{Node, height, peaks, above, is_peak, leaf_at}
+use Rattle.pp_terms.specs.tree.Bins.{parent_of, sibling_of}
 use Rattle.pp_terms.proofs.Heights.{height_is}
-use Rattle.pp_traffic.specs.Hashes.{is_peak, leaf_at, completes_from}
+use Rattle.pp_traffic.specs.Hashes.{completes_from}
+use Rattle.pp_terms.proofs.Nodes.{goes_on, above_up, fewer, height_bound}
+use Rattle.pp_terms.proofs.Facts.{all_weaker}
+use Rattle.pp_terms.proofs.Peaks.{no_last}
 use Rattle.pp_traffic.specs.Laws.{uncles_from}
 use Rattle.pp_plan.specs.Law.{IsTold, PlansAreLeast}
-use Rattle.pp_plan.proofs.PeakTests.{goes_on, no_last, above_up, fewer, height_bound}
 
 -- whether all peaks are brought or told
 abbrev ready : ℕ → (Node → Bool) → (Node → Bool) → Bool
@@ -77,11 +79,6 @@ least_from (suc layers) chunks brought told n lt few le known = ⊎_elim
         (cond-false (told n || is_peak chunks n) [] (uncles_from layers chunks told (parent_of n) ++ cond (told (sibling_of n)) [] (sibling_of n ∷ [])) on)
         ∙ list_all-append brought (uncles_from layers chunks told (parent_of n)) (cond (told (sibling_of n)) [] (sibling_of n ∷ []))
         ∙ ap (λ (v : Bool). list_all brought (uncles_from layers chunks told (parent_of n)) && v) (own_all brought (sibling_of n) (told (sibling_of n)))
-
-all_weaker : (p q : Node → Bool) (xs : List Node) → list_all q xs ≡ true → list_all (λ n. p n || q n) xs ≡ true
-all_weaker p q [] e = refl
-all_weaker p q (x ∷ xs) e = let parts = and_parts (q x) (list_all q xs) e in
-    and_from (p x || q x) (list_all (λ n. p n || q n) xs) (or_right (p x) (q x) parts.0) (all_weaker p q xs parts.1)
 
 or_none : (b t : Bool) → t ≡ false → b ≡ (b || t)
 or_none true t e = refl

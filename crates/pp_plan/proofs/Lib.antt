@@ -1,6 +1,5 @@
 pub mod Least
 pub mod Marks
-pub mod PeakTests
 pub mod Places
 pub mod Plans
 pub mod Stories

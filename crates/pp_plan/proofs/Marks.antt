@@ -2,9 +2,8 @@
 use Rattle.std.proofs.Common.{◌≡◌, ⊎_elim, ℕ, ◌+◌, ◌-◌, ◌*◌, ◌/◌, ◌^◌, ◌<◌, ◌≤◌, nat_le, nat_lt, Bool, true, false, ◌&&◌, ◌||◌, refl, sym, ◌∙◌, ap, arith}
 use Rattle.std.specs.Prelude.{slice_index_or}
 use Rattle.std.proofs.lemmas.Bool.{cases_Bool, and_from, lt-ltb, le-leb}
-use Rattle.pp_terms.specs.Tree.{Node, height}
-use Rattle.pp_terms.specs.Bins.{parent_of}
-use Rattle.pp_traffic.specs.Hashes.{is_peak}
+use Rattle.pp_terms.specs.tree.Tree.{Node, height, is_peak}
+use Rattle.pp_terms.specs.tree.Bins.{parent_of}
 use Rattle.pp_plan.specs.Told.{ToldNodes, knows, is_marked, is_inside, place, lies}
 use Rattle.pp_plan.proofs.Places.{halves, between, outside}
 

@@ -5,12 +5,12 @@ use Rattle.std.proofs.lemmas.Nat.{div_below, le-div, pow-add}
 use Rattle.std.proofs.Math.Nat.{le-div_iff_mul-le, div-lt_iff_lt-mul}
 use Rattle.std.proofs.lemmas.Bool.{cases_order, cases_eq, and_parts, and_from, ltb-true, leb-true, lt-ltb, le-leb}
 use Rattle.std.proofs.lemmas.Bool.Decides.{nat_tests}
-use Rattle.pp_terms.specs.Tree.{Node}
-use Rattle.pp_terms.specs.Bins.{first_leaf, last_leaf}
-use Rattle.pp_terms.specs.Messages.{Span}
+use Rattle.pp_terms.specs.tree.Tree.{Node}
+use Rattle.pp_terms.specs.tree.Bins.{first_leaf, last_leaf}
+use Rattle.pp_terms.specs.tree.Range.{Span}
+use Rattle.pp_terms.proofs.Facts.{same_bool}
 use Rattle.pp_traffic.specs.Hashes.{meets}
 use Rattle.pp_plan.specs.Told.{place, is_inside, lies, is_over}
-use Rattle.pp_plan.proofs.PeakTests.{same_bool}
 
 -- a power of two is at most half of a greater one
 pub halves : (i j : ℕ) → i < j → 2 ^ i * 2 ≤ 2 ^ j

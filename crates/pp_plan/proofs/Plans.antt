@@ -3,9 +3,9 @@ use Rattle.std.proofs.Common.{◌≡◌, inl, inr, ⊎_elim, ℕ, zero, suc, ◌
 use Rattle.std.proofs.lemmas.Bool.{cases_Bool, and_from, and_left, or_left, cond-true, cond-false}
 use Rattle.std.specs.List.{list_all}
 use Rattle.std.specs.Prelude.{Result, Ok, Err, IsOk, OnOk}
-use Rattle.pp_terms.specs.Tree.{Node, height, peaks}
-use Rattle.pp_terms.specs.Bins.{parent_of, sibling_of}
-use Rattle.pp_traffic.specs.Hashes.{is_peak, completes, leaf_at}
+use Rattle.pp_terms.specs.tree.Tree.{Node, height, peaks, is_peak, leaf_at}
+use Rattle.pp_terms.specs.tree.Bins.{parent_of, sibling_of}
+use Rattle.pp_traffic.specs.Hashes.{completes}
 use Rattle.pp_traffic.specs.Laws.{plan, uncles_from}
 use Rattle.pp_plan.specs.Law.{IsTold}
 use Rattle.pp_plan.specs.Told.{ToldNodes, knows, is_marked}

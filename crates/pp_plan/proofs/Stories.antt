@@ -2,13 +2,14 @@
 use Rattle.std.proofs.Common.{◌≡◌, inl, inr, ⊎_elim, ℕ, Bool, true, false, nat_le, nat_lt, ◌&&◌, ◌||◌, List, [], ◌∷◌, refl}
 use Rattle.std.proofs.lemmas.Bool.{cases_Bool, and_parts, and_from, or_right, or_left, or_from}
 use Rattle.std.specs.List.{list_any, list_all}
-use Rattle.pp_terms.specs.Tree.{Node, height, peaks}
-use Rattle.pp_terms.specs.Bins.{parent_of}
-use Rattle.pp_terms.specs.Messages.{Span, Message, Handshake, Data, Ack, Have, Integrity, Pex4, PexReq, Request, Cancel, Choke, Unchoke, Pex6}
+use Rattle.pp_terms.specs.tree.Tree.{Node, height, peaks, same_node, is_peak}
+use Rattle.pp_terms.specs.tree.Bins.{parent_of}
+use Rattle.pp_terms.specs.format.Messages.{Message, Handshake, Data, Ack, Have, Integrity, Pex4, PexReq, Request, Cancel, Choke, Unchoke, Pex6}
+use Rattle.pp_terms.specs.tree.Range.{Span}
+use Rattle.pp_terms.proofs.Peaks.{same_is}
 use Rattle.pp_traffic.specs.Story.{Heard, Said, Taken}
-use Rattle.pp_traffic.specs.Hashes.{same_node, is_peak, meets, tells, told_by, is_told}
+use Rattle.pp_traffic.specs.Hashes.{meets, tells, told_by, is_told}
 use Rattle.pp_plan.specs.Law.{IsTold, StoriesTell}
-use Rattle.pp_plan.proofs.PeakTests.{same_is}
 
 -- each of the first nodes is among all
 all_among : (xs ys : List Node) → ((n : Node) → list_any (same_node n) xs ≡ true → list_any (same_node n) ys ≡ true) → list_all (λ n. list_any (same_node n) ys) xs ≡ true

@@ -2,22 +2,19 @@
 use Rattle.std.proofs.Common.{◌≡◌, ⊎_elim, ℕ, ◌+◌, ◌/◌, ◌^◌, ◌<◌, ◌≤◌, ◌==◌, nat_le, nat_lt, Bool, true, false, ◌&&◌, ◌||◌, refl, sym, ◌∙◌, ap, arith}
 use Rattle.std.proofs.lemmas.Bool.{cases_eq, eq-eqb, ne_eqb}
 use Rattle.std.proofs.lemmas.Bool.Decides.{nat_tests}
-use Rattle.pp_terms.specs.Tree.{Node, height}
-use Rattle.pp_terms.specs.Bins.{parent_of}
-use Rattle.pp_terms.specs.Messages.{Span}
-use Rattle.pp_traffic.specs.Hashes.{is_peak, meets, tells}
+use Rattle.pp_terms.specs.tree.Tree.{Node, height, is_peak}
+use Rattle.std.proofs.Math.Bool.{or-false}
+use Rattle.pp_terms.specs.tree.Bins.{parent_of}
+use Rattle.pp_terms.specs.tree.Range.{Span}
+use Rattle.pp_traffic.specs.Hashes.{meets, tells}
 use Rattle.pp_plan.specs.Told.{ToldNodes, knows, is_marked, lies, is_over, is_over_below}
 use Rattle.pp_plan.proofs.Places.{meets_is}
-
-or_false : (b : Bool) → b ≡ (b || false)
-or_false true = refl
-or_false false = refl
 
 -- below the first layer nothing has a mark
 pub none_below : (b : Bool) (span : Span) (n : Node) → b ≡ (b || is_over_below 1 span n)
 none_below b span n =
     let no : (nat_lt 0 n.layer && nat_lt n.layer 1) ≡ false = grind (arith, nat_tests) in
-    rw no (or_false b)
+    rw no (sym (or-false b))
 
 -- one layer more
 pub one_layer : (k : ℕ) (span : Span) (n : Node) (before now next : Bool) → 0 < k
@@ -33,7 +30,7 @@ one_layer k span n before now next some here more = ⊎_elim
     (λ other.
     let same : nat_lt n.layer k ≡ nat_lt n.layer (k + 1) = grind (arith, nat_tests) in
     let no : (n.layer == k) ≡ false = ne_eqb n.layer k other in
-    more ∙ ap (λ (b : Bool). b || lies k (span.first / 2 ^ k) (span.last / 2 ^ k) n) here ∙ rw (no, sym same) (sym (or_false (before || is_over_below k span n))))
+    more ∙ ap (λ (b : Bool). b || lies k (span.first / 2 ^ k) (span.last / 2 ^ k) n) here ∙ rw (no, sym same) (or-false (before || is_over_below k span n)))
     (cases_eq n.layer k)
   where
     joins : (a b : Bool) → ((a || false) || b) ≡ (a || b)

@@ -1,7 +1,7 @@
 -- What is told and planned in examples.
 use Rattle.std.specs.Prelude.{◌≡◌, ℕ, true, false, List, [], ◌∷◌}
-use Rattle.pp_terms.specs.Tree.{Node}
-use Rattle.pp_terms.specs.Messages.{Have}
+use Rattle.pp_terms.specs.tree.Tree.{Node}
+use Rattle.pp_terms.specs.format.Messages.{Have}
 use Rattle.pp_traffic.specs.Story.{Line, Heard}
 use Rattle.pp_traffic.specs.Hashes.{is_told}
 use Rattle.pp_traffic.specs.Laws.{plan}

@@ -1,7 +1,7 @@
 -- What a plan is for.
 use Rattle.std.specs.Prelude.{◌≡◌, ◌⊎◌, ℕ, ◌^◌, ◌<◌, ◌≤◌, Bool, true, false, List}
 use Rattle.std.specs.List.{list_all}
-use Rattle.pp_terms.specs.Tree.{Node, peaks}
+use Rattle.pp_terms.specs.tree.Tree.{Node, peaks}
 use Rattle.pp_traffic.specs.Story.{Line}
 use Rattle.pp_traffic.specs.Hashes.{is_told, completes}
 use Rattle.pp_traffic.specs.Laws.{plan}

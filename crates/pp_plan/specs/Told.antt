@@ -1,10 +1,8 @@
 -- What a peer has told that it knows, by marks in a table.
 use Rattle.std.specs.Prelude.{ℕ, ◌+◌, ◌-◌, ◌/◌, ◌^◌, ◌==◌, nat_le, nat_lt, Bool, false, ◌&&◌, ◌||◌, List, slice_index_or}
-use Rattle.pp_terms.specs.Tree.{Node, height}
-use Rattle.pp_terms.specs.Bins.{parent_of}
-use Rattle.pp_terms.specs.Messages.{Span}
-use Rattle.pp_terms.specs.Range as range
-use Rattle.pp_traffic.specs.Hashes.{is_peak}
+use Rattle.pp_terms.specs.tree.Tree.{Node, height, is_peak}
+use Rattle.pp_terms.specs.tree.Bins.{parent_of}
+use Rattle.pp_terms.specs.tree.Range.{Span}
 
 -- Of a content of so many chunks, whether any chunk was told of, and a mark for each node that such a chunk lies under,
 -- the leaves left out.
@@ -32,7 +30,7 @@ abbrev pub lies : ℕ → ℕ → ℕ → Node → Bool
 lies layer first last n = n.layer == layer && nat_le first n.offset && nat_le n.offset last
 
 -- a range as messages name it
-abbrev pub span_of : range.Span → Span
+abbrev pub span_of : Span → Span
 span_of r = record { first = r.first; last = r.last }
 
 -- a chunk of the span lies under the node

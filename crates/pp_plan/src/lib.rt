@@ -5,7 +5,6 @@
 ghost use Rattle.pp_plan.specs.Examples.{PlanExamples};
 ghost use Rattle.pp_plan.specs.Law.{PlansAreLeast, StoriesTell};
 
-mod peak;
 #[cfg(test)]
 mod plain;
 mod planning;

@@ -1,17 +1,16 @@
 // The hashes to send before a chunk.
 ghost use Rattle.std.specs.Prelude.{◌≡◌, ◌+◌, ◌<◌, ◌≤◌, ◌++◌, Bool, [], map, length, if◌then◌else◌};
 ghost use Rattle.std.specs.List.{list_all};
-ghost use Rattle.pp_terms.specs.Tree as terms;
+ghost use Rattle.pp_terms.specs.tree.Tree as terms;
 ghost use Rattle.pp_traffic.specs.Hashes.{completes};
 ghost use Rattle.pp_traffic.specs.Laws as laws;
 ghost use Rattle.pp_traffic.specs.Laws.{uncles_from};
 ghost use Rattle.pp_tree.specs.Node.{node_of};
 ghost use Rattle.pp_plan.specs.Told.{knows};
 
-use crate::peak::{above, sibling};
 use crate::told::Told;
 use arrayvec::ArrayVec;
-use pp_tree::{Node, peaks};
+use pp_tree::{Node, leaf_at, parent_of, peaks, sibling_of};
 
 /// The nodes whose hashes go before a chunk to a peer that told what it knows: the peaks from left to right, unless they are
 /// told; then, from the highest layer down, the sibling of each node on the way up from the chunk's leaf to the first node
@@ -24,15 +23,7 @@ pub fn plan(i: u32, told: &Told, chunks: u32) -> ArrayVec<Node, 48>
         → completes chunks brought (knows told.now) i ≡ list_all brought (map node_of result.items) }
 {
     let mut nodes = front(told);
-    climb(
-        &mut nodes,
-        told,
-        Node {
-            layer: 0,
-            offset: i,
-        },
-        told.height() + 1,
-    );
+    climb(&mut nodes, told, leaf_at(i), told.height() + 1);
     nodes
 }
 
@@ -63,8 +54,8 @@ fn climb(nodes: &mut ArrayVec<Node, 48>, told: &Told, node: Node, layers: u8)
     if told.ends(node) {
         return;
     }
-    climb(nodes, told, above(node), layers - 1);
-    let sibling = sibling(node);
+    climb(nodes, told, parent_of(node), layers - 1);
+    let sibling = sibling_of(node);
     if told.has(sibling) {
         return;
     }

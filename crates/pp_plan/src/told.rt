@@ -1,16 +1,14 @@
 // What a peer has told that it knows.
 ghost use Rattle.std.specs.Prelude.{◌≡◌, ℕ, ◌-◌, ◌^◌, ◌<◌, ◌≤◌, ◌&&◌, ◌||◌, nat_le, true, false, length, slice_index_or, IfOk};
 ghost use Rattle.std.specs.List.{list_all};
-ghost use Rattle.pp_terms.specs.Tree as terms;
-ghost use Rattle.pp_terms.specs.Bins.{parent_of};
-ghost use Rattle.pp_traffic.specs.Hashes as hashes;
+ghost use Rattle.pp_terms.specs.tree.Tree as terms;
+ghost use Rattle.pp_terms.specs.tree.Bins.{parent_of};
 ghost use Rattle.pp_traffic.specs.Hashes.{tells};
 ghost use Rattle.pp_tree.specs.Node.{node_of};
 ghost use Rattle.pp_plan.specs.Told.{knows, is_marked, lies, span_of};
 
-use crate::peak::is_peak;
 use pp_ranges::ChunkRange;
-use pp_tree::{Bits, Node, height};
+use pp_tree::{Bits, Node, height, is_peak};
 use std::alloc::{AllocError, Global};
 use std::marker::Model;
 
@@ -27,7 +25,7 @@ pub struct Told {
 
 impl Model for Told {
     ghost use Rattle.std.specs.Prelude.{◌≡◌, ℕ, ◌^◌, ◌<◌, ◌≤◌, false, length, slice_index_or};
-    ghost use Rattle.pp_terms.specs.Tree as terms;
+    ghost use Rattle.pp_terms.specs.tree.Tree as terms;
     ghost use Rattle.pp_plan.specs.Told.{ToldNodes};
 
     ghost Value = { ToldNodes };
@@ -113,7 +111,7 @@ impl Told {
 
     // Whether the way up ends at the node: it is told, or a peak.
     pub(crate) fn ends(&self, node: Node) -> bool
-        ensures { result ≡ (knows self.now (node_of node) || hashes.is_peak self.now.chunks (node_of node)) }
+        ensures { result ≡ (knows self.now (node_of node) || terms.is_peak self.now.chunks (node_of node)) }
     {
         self.has(node) || is_peak(node, self.chunks)
     }

@@ -5,10 +5,12 @@ use Rattle.std.proofs.lemmas.Bool.Decides.{nat_tests}
 use Rattle.std.proofs.lemmas.List.{length-append}
 use Rattle.std.proofs.lemmas.List.Sums.{sum_by-cons, count_by-le-length}
 use Rattle.std.proofs.lemmas.Nat.{pow_pos}
-use Rattle.std.proofs.Math.Nat.{mul-le-mul_left, mul-div_cancel}
+use Rattle.std.proofs.Math.Nat.{mul-le-mul_left, mul-div_cancel, lt_of_mul-lt-mul_right}
 use Rattle.std.proofs.Math.Pow.{pow_mono}
-use Rattle.pp_terms.specs.Tree.{Node}
-use Rattle.pp_terms.specs.Range.{Span, within, leaves_of, is_covered, IsTiling, IsLeastCover}
+use Rattle.pp_terms.specs.tree.Tree.{Node}
+use Rattle.pp_terms.specs.tree.Range.{Span, within, leaves_of, is_covered, IsTiling, IsLeastCover}
+use Rattle.pp_terms.proofs.Within.{within_from}
+use Rattle.pp_terms.proofs.Binning.{double}
 use Rattle.pp_ranges.specs.Covering.{IsMultiple, IsCoverTo, begun_below}
 
 -- powers of two and their multiples
@@ -26,12 +28,6 @@ power_sum k (suc d) =
 
 power_split : (k l : ℕ) → k ≤ l → 2 ^ l ≡ 2 ^ (l - k) * 2 ^ k
 power_split k l le = let sum : l - k + k ≡ l = omega arith in ap (λ n. 2 ^ n) (sym sum) ∙ power_sum k (l - k)
-
-below_by_factor : (a b c : ℕ) → a * c < b * c → a < b
-below_by_factor a b c lt = elim (cases_lt a b) [
-  | inl yes' ↦ yes'
-  | inr ge ↦ let up = mul-le-mul_left c ge in absurd (omega (arith, up))
-]
 
 same_by_factor : (a b c : ℕ) → 0 < c → a * c ≡ b * c → a ≡ b
 same_by_factor a b c some e =
@@ -54,8 +50,8 @@ no_crossing m j l k le low high =
     let e : m * 2 ^ k ≡ m * 2 ^ (k - l) * 2 ^ l = ap (λ n. m * n) (power_split l k le) ∙ times_assoc m (2 ^ (k - l)) (2 ^ l) in
     let low' : j * 2 ^ l < m * 2 ^ (k - l) * 2 ^ l = omega (arith, e) in
     let high' : m * 2 ^ (k - l) * 2 ^ l < (j + 1) * 2 ^ l = omega (arith, e) in
-    let one = below_by_factor j (m * 2 ^ (k - l)) (2 ^ l) low' in
-    let two = below_by_factor (m * 2 ^ (k - l)) (j + 1) (2 ^ l) high' in
+    let one = lt_of_mul-lt-mul_right (2 ^ l) {m = j} {n = m * 2 ^ (k - l)} low' in
+    let two = lt_of_mul-lt-mul_right (2 ^ l) {m = m * 2 ^ (k - l)} {n = j + 1} high' in
     omega arith
 
 -- one of a higher layer that begins before a node's end begins no later than it
@@ -63,7 +59,7 @@ begins_before : (q j l k : ℕ) → k ≤ l → j * 2 ^ l < (q + 1) * 2 ^ k → 
 begins_before q j l k le lt =
     let e : j * 2 ^ l ≡ j * 2 ^ (l - k) * 2 ^ k = ap (λ n. j * n) (power_split k l le) ∙ times_assoc j (2 ^ (l - k)) (2 ^ k) in
     let lt' : j * 2 ^ (l - k) * 2 ^ k < (q + 1) * 2 ^ k = omega (arith, e) in
-    let less = below_by_factor (j * 2 ^ (l - k)) (q + 1) (2 ^ k) lt' in
+    let less = lt_of_mul-lt-mul_right (2 ^ k) {m = j * 2 ^ (l - k)} {n = q + 1} lt' in
     let le' : j * 2 ^ (l - k) ≤ q = omega arith in
     let up = mul-le-mul_left (2 ^ k) le' in
     omega (arith, e, up)
@@ -106,9 +102,6 @@ counted_more f a b le = grind (arith, nat_tests)
 span_has : (s : Span) (i : ℕ) → within s i ≡ true → (s.first ≤ i) × (i ≤ s.last)
 span_has s i h = (grind (arith, nat_tests), grind (arith, nat_tests))
 
-span_holds : (s : Span) (i : ℕ) → s.first ≤ i → i ≤ s.last → within s i ≡ true
-span_holds s i low high = grind (arith, nat_tests)
-
 covered_here : (y : Node) (ys : List Node) (i : ℕ) → within (leaves_of y) i ≡ true → is_covered (y ∷ ys) i ≡ true
 covered_here y ys i h = ap (λ t. t || is_covered ys i) h
 
@@ -134,9 +127,9 @@ one_more (y ∷ ys) low end at b lt here inside apart =
           let same_first : y.offset * 2 ^ y.layer ≤ y.offset * 2 ^ y.layer = omega arith in
           let same_last : (y.offset + 1) * 2 ^ y.layer - 1 ≤ (y.offset + 1) * 2 ^ y.layer - 1 = omega arith in
           let left = (inside (y.offset * 2 ^ y.layer) (covered_here y ys (y.offset * 2 ^ y.layer)
-          (span_holds (leaves_of y) (y.offset * 2 ^ y.layer) same_first wide))).0 in
+          (within_from (leaves_of y) (y.offset * 2 ^ y.layer) same_first wide))).0 in
           let right = (inside ((y.offset + 1) * 2 ^ y.layer - 1) (covered_here y ys ((y.offset + 1) * 2 ^ y.layer - 1)
-          (span_holds (leaves_of y) ((y.offset + 1) * 2 ^ y.layer - 1) wide same_last))).1 in
+          (within_from (leaves_of y) ((y.offset + 1) * 2 ^ y.layer - 1) wide same_last))).1 in
           let begins = apart y.layer y.offset left (omega (arith, right)) span.0 (omega (arith, span.1)) in
           let first : y.offset * 2 ^ y.layer ≡ at = omega (arith, span.0, begins) in
           let counts = counted_at (y.offset * 2 ^ y.layer) at b first lt in
@@ -209,7 +202,7 @@ cover_ends span end nodes e is = record {
   least = λ others same.
       let few = is.least others
       (λ i h. let both = span_has span i (sym (same i) ∙ h) in (both.0, omega (arith, both.1)))
-      (λ i low high. same i ∙ span_holds span i low (omega arith)) in
+      (λ i low high. same i ∙ within_from span i low (omega arith)) in
       let all = count_by-le-length (λ (y : Node). nat_lt (y.offset * 2 ^ y.layer) end) others in
       omega (arith, few, all);
 }
@@ -218,7 +211,7 @@ cover_ends span end nodes e is = record {
 pub cover_of_all : (span : Span) (k : ℕ) → span.first ≡ 0 → span.last + 1 ≡ 2 ^ k → IsLeastCover span (record { layer = k; offset = 0 } ∷ [])
 cover_of_all span k first last = record {
   tiles = (omega arith, omega arith);
-  least = λ others same. some_node others (same 0 ∙ span_holds span 0 (omega arith) (omega arith));
+  least = λ others same. some_node others (same 0 ∙ within_from span 0 (omega arith) (omega arith));
 }
   where
     some_node : (others : List Node) → is_covered others 0 ≡ true → 1 ≤ length others
@@ -232,13 +225,10 @@ quotient_of at k (m, e) =
     let q : at / 2 ^ k ≡ m = ap (λ n. n / 2 ^ k) e ∙ mul-div_cancel m some in
     e ∙ ap (λ n. n * 2 ^ k) (sym q)
 
-doubled : (k : ℕ) → 2 ^ (k + 1) ≡ 2 * 2 ^ k
-doubled k = let up : k + 1 ≡ suc k = omega arith in ap (λ n. 2 ^ n) up ∙ grind arith
-
 pub even_multiple : (at k q : ℕ) → at ≡ q * 2 ^ k → (q % 2 ≡ 1 → ⊥) → IsMultiple (k + 1) at
 even_multiple at k q e even =
     let half : q ≡ q / 2 * 2 = omega arith in
-    (q / 2, e ∙ ap (λ n. n * 2 ^ k) half ∙ (let a = times_assoc (q / 2) 2 (2 ^ k) in sym a) ∙ ap (λ n. q / 2 * n) (sym (doubled k)))
+    (q / 2, e ∙ ap (λ n. n * 2 ^ k) half ∙ (let a = times_assoc (q / 2) 2 (2 ^ k) in sym a) ∙ ap (λ n. q / 2 * n) (sym (double k)))
 
 pub odd_multiple : (at k q : ℕ) → at ≡ q * 2 ^ k → q % 2 ≡ 1 → IsMultiple (k + 1) (at + 2 ^ k)
 odd_multiple at k q e odd =

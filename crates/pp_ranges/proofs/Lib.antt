@@ -2,3 +2,4 @@ pub mod Runs
 pub mod NodeSpans
 pub mod Dyadic
 pub mod CoverSteps
+pub mod Lengths

@@ -4,8 +4,8 @@ use Rattle.std.proofs.lemmas.Bool.{cases_lt}
 use Rattle.std.proofs.lemmas.Nat.{pow_pos}
 use Rattle.std.proofs.Math.Pow.{pow_mono}
 use Rattle.std.proofs.Math.Nat.{mul-mod_left}
-use Rattle.pp_terms.specs.Tree as terms
-use Rattle.pp_terms.specs.Range.{Span, leaves_of}
+use Rattle.pp_terms.specs.tree.Tree as terms
+use Rattle.pp_terms.specs.tree.Range.{Span, leaves_of}
 
 -- a node of a high layer has a great leaf
 pub high_leaf : (offset layer : ℕ) → 32 < layer → 2 ^ 32 ≤ (offset + 1) * 2 ^ layer - 1

@@ -7,7 +7,8 @@ use Rattle.std.proofs.lemmas.Bool.Decides.{nat_tests}
 use Rattle.std.proofs.lemmas.List.Sums.{sum_by-cons, count_by-le-length, length-filter}
 use Rattle.std.proofs.lemmas.List.{length-take, take_all}
 use Rattle.std.proofs.Math.Seq.{take-suc}
-use Rattle.pp_terms.specs.Range.{Span, within, has, IsRunsFrom, NeedsMore}
+use Rattle.std.proofs.Math.Bool.{or_assoc}
+use Rattle.pp_terms.specs.tree.Range.{Span, within, has, IsRunsFrom, NeedsMore}
 use Rattle.pp_ranges.specs.Edits.{joined, is_before, inserted, below, above, removed}
 
 pub runs_weaken : (a b : ℕ) (xs : List Span) → a ≤ b → IsRunsFrom b xs → IsRunsFrom a xs
@@ -20,10 +21,6 @@ or_swap true true c = refl
 or_swap true false c = refl
 or_swap false true c = refl
 or_swap false false c = refl
-
-or_assoc : (a b c : Bool) → ((a || b) || c) ≡ (a || (b || c))
-or_assoc true b c = refl
-or_assoc false b c = refl
 
 and_over_or : (a b c : Bool) → ((a && b) || (a && c)) ≡ (a && (b || c))
 and_over_or true b c = refl
@@ -81,10 +78,6 @@ inserted_runs s (x ∷ xs) from low order h =
 pub append_has : (xs ys : List Span) (i : ℕ) → has (xs ++ ys) i ≡ (has xs i || has ys i)
 append_has [] ys i = refl
 append_has (x ∷ xs) ys i = ap (λ (t : Bool). within x i || t) (append_has xs ys i) ∙ sym (or_assoc (within x i) (has xs i) (has ys i))
-
-or_false : (a : Bool) → (a || false) ≡ a
-or_false true = refl
-or_false false = refl
 
 cut_has : (s x : Span) (i : ℕ) (b c : Bool) → nat_lt x.first s.first ≡ b → nat_lt s.last x.last ≡ c
     → s.first ≤ s.last → x.first ≤ x.last

@@ -1,7 +1,7 @@
 -- A cover of a range's beginning, node by node.
 use Rattle.std.specs.Prelude.{◌≡◌, ℕ, ◌+◌, ◌*◌, ◌^◌, ◌<◌, ◌≤◌, nat_lt, true, List, length, count_by}
-use Rattle.pp_terms.specs.Tree.{Node}
-use Rattle.pp_terms.specs.Range.{IsTiling, is_covered}
+use Rattle.pp_terms.specs.tree.Tree.{Node}
+use Rattle.pp_terms.specs.tree.Range.{IsTiling, is_covered}
 
 abbrev pub IsMultiple : ℕ → ℕ → Type 0
 IsMultiple layer at = (times : ℕ) × (at ≡ times * 2 ^ layer)

@@ -1,6 +1,6 @@
 -- How the code edits a list of ranges, from left to right.
 use Rattle.std.specs.Prelude.{ℕ, ◌+◌, ◌-◌, nat_lt, min, max, Bool, true, false, ◌||◌, Option, Some, None, List, [], ◌∷◌, ◌++◌}
-use Rattle.pp_terms.specs.Range.{Span}
+use Rattle.pp_terms.specs.tree.Range.{Span}
 
 -- the range from the lesser first to the greater last
 abbrev pub joined : Span → Span → Span

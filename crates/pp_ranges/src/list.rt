@@ -1,7 +1,7 @@
 // Sets of numbers as lists of ranges.
 ghost use Rattle.std.specs.Prelude.{◌≡◌, ◌↔◌, ℕ, ◌+◌, ◌*◌, ◌<◌, ◌≤◌, true, false, not, ◌&&◌, ◌||◌, Some, List, [], ◌∷◌, ◌++◌, length, slice_index_or, OnOk, OnErr, IsErr, MatchOption};
 ghost use Rattle.std.specs.List.{filter};
-ghost use Rattle.pp_terms.specs.Range.{Span, within, has, IsRunsFrom, NeedsMore};
+ghost use Rattle.pp_terms.specs.tree.Range.{Span, within, has, IsRunsFrom, NeedsMore};
 ghost use Rattle.pp_ranges.specs.Edits.{inserted, removed, pending_count, below, above, is_apart};
 
 use crate::range::ChunkRange;
@@ -20,7 +20,7 @@ pub struct RangeList {
 
 impl Model for RangeList {
     ghost use Rattle.std.specs.Prelude.{List};
-    ghost use Rattle.pp_terms.specs.Range.{Span, IsRunsFrom};
+    ghost use Rattle.pp_terms.specs.tree.Range.{Span, IsRunsFrom};
 
     ghost Value = { List Span };
 

@@ -1,6 +1,6 @@
 // The nodes that cover a range.
 ghost use Rattle.std.specs.Prelude.{◌≡◌, ℕ, ◌+◌, ◌^◌, ◌<◌, ◌≤◌, [], map, length};
-ghost use Rattle.pp_terms.specs.Range.{IsLeastCover};
+ghost use Rattle.pp_terms.specs.tree.Range.{IsLeastCover};
 ghost use Rattle.pp_tree.specs.Node.{node_of};
 ghost use Rattle.pp_ranges.specs.Covering.{IsMultiple, IsCoverTo};
 

@@ -1,7 +1,7 @@
 // One range of chunks.
 ghost use Rattle.std.specs.Prelude.{◌≡◌, ℕ, ◌^◌, ◌<◌, ◌≤◌, None, MatchOption};
-ghost use Rattle.pp_terms.specs.Range.{leaves_of};
-ghost use Rattle.pp_terms.specs.Tree as terms;
+ghost use Rattle.pp_terms.specs.tree.Range.{leaves_of};
+ghost use Rattle.pp_terms.specs.tree.Tree as terms;
 ghost use Rattle.pp_tree.specs.Node.{node_of};
 
 use pp_tree::Node;
@@ -16,7 +16,7 @@ pub struct ChunkRange {
 
 impl Model for ChunkRange {
     ghost use Rattle.std.specs.Prelude.{ℕ, ◌≤◌, ◌<◌, ◌^◌};
-    ghost use Rattle.pp_terms.specs.Range.{Span};
+    ghost use Rattle.pp_terms.specs.tree.Range.{Span};
 
     ghost Value = { Span };
 

@@ -1,11 +1,11 @@
 -- Taking the least number out of a list of ranges needs no further range.
-use Rattle.std.proofs.Common.{◌≡◌, ◌⊎◌, ℕ, zero, suc, ◌+◌, ◌≤◌, ◌<◌, ◌==◌, nat_le, Bool, true, false, cond, not, ◌&&◌, ◌||◌, List, [], ◌∷◌, ◌++◌, length, refl, sym, ◌∙◌, ap, subst, inl, inr, arith}
-use Rattle.std.specs.Prelude.{Result, Ok, Err, Some, OnOk, IsErr, nat_lt, min, max, ◌-◌}
+use Rattle.std.proofs.Common.{◌≡◌, ℕ, ◌+◌, ◌≤◌, ◌<◌, ◌==◌, true, false, cond, not, ◌&&◌, ◌||◌, List, [], ◌∷◌, ◌++◌, length, refl, sym, ◌∙◌, ap, subst, inl, inr, arith}
+use Rattle.std.specs.Prelude.{Result, Ok, Err, OnOk, IsErr, nat_lt, max}
 use Rattle.std.proofs.lemmas.Bool.{cases_eq, cases_lt, cases_Bool}
 use Rattle.std.proofs.lemmas.Bool.Decides.{nat_tests}
-use Rattle.pp_terms.specs.Range.{Span, within, has, IsRunsFrom, NeedsMore}
+use Rattle.pp_terms.specs.tree.Range.{Span, within, has, IsRunsFrom, NeedsMore}
 use Rattle.pp_ranges.specs.Edits.{removed, below, above}
-use Rattle.pp_ranges.proofs.Runs.{none_below, not_needed, runs_weaken}
+use Rattle.pp_ranges.proofs.Runs.{none_below, not_needed}
 use Rattle.pp_requests.specs.Lists.{IsLeast, without, chunk_count}
 
 -- the ranges without the least number

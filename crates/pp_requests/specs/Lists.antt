@@ -1,7 +1,7 @@
 -- The numbers of a list of ranges, and what a REQUEST and a CANCEL make of it.
 use Rattle.std.specs.Prelude.{◌≡◌, ℕ, ◌+◌, ◌-◌, ◌<◌, nat_lt, Bool, true, false, if◌then◌else◌, Some, List, [], ◌∷◌, length}
 use Rattle.std.specs.List.{filter}
-use Rattle.pp_terms.specs.Range.{Span, has}
+use Rattle.pp_terms.specs.tree.Range.{Span, has}
 use Rattle.pp_ranges.specs.Edits.{inserted, removed, is_apart}
 
 -- a number of the list, and no lesser one is in it

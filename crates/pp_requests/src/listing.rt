@@ -1,7 +1,7 @@
 // The chunks that one channel's peer may still be sent.
 ghost use Rattle.std.specs.Prelude.{◌≡◌, ◌↔◌, ℕ, ◌<◌, ◌==◌, ◌&&◌, ◌||◌, not, true, false, Some, [], OnOk, OnErr, IsErr, IsSome, MatchOption};
 ghost use Rattle.std.specs.List.{filter};
-ghost use Rattle.pp_terms.specs.Range.{within, has, NeedsMore};
+ghost use Rattle.pp_terms.specs.tree.Range.{within, has, NeedsMore};
 ghost use Rattle.pp_ranges.specs.Edits.{inserted, removed, is_apart};
 ghost use Rattle.pp_requests.specs.Lists.{IsLeast, are_too_many, requested, cancelled, without, chunk_count};
 
@@ -25,7 +25,7 @@ pub struct Requests {
 
 impl Model for Requests {
     ghost use Rattle.std.specs.Prelude.{List};
-    ghost use Rattle.pp_terms.specs.Range.{Span};
+    ghost use Rattle.pp_terms.specs.tree.Range.{Span};
 
     ghost Value = { List Span };
 

@@ -1,15 +1,16 @@
 -- The children of a node, by its pair.
-use Rattle.std.proofs.Common.{◌≡◌, ◌⊎◌, inl, inr, ⊎_elim, ℕ, suc, ◌+◌, ◌-◌, ◌*◌, ◌/◌, ◌%◌, ◌^◌, ◌<◌, ◌≤◌, ◌==◌, nat_eq, Bool, true, false, cond, Option, Some, None, List, length, take, drop, refl, sym, ◌∙◌, ap, arith}
+use Rattle.std.proofs.Common.{◌≡◌, ⊎_elim, ℕ, suc, ◌+◌, ◌-◌, ◌*◌, ◌/◌, ◌^◌, ◌<◌, ◌≤◌, ◌==◌, nat_eq, Bool, true, false, cond, Option, Some, None, List, length, take, drop, refl, sym, ◌∙◌, ap, arith}
 use Rattle.std.specs.Prelude.{◌&&◌}
 use Rattle.std.specs.Cmp.Lexicographic.{pointwise}
 use Rattle.std.proofs.Math.Pow.{pow_mono}
 use Rattle.std.proofs.lemmas.Nat.{pow_pos}
-use Rattle.std.proofs.lemmas.Bool.{cases_eq}
 use Rattle.std.proofs.lemmas.Bool.Decides.{nat_tests}
 use Rattle.std.proofs.lemmas.List.{length-take, length-drop}
 use Rattle.sha2.specs.Sha256.{sha256}
-use Rattle.pp_terms.specs.Book.{LookUp}
-use Rattle.pp_terms.specs.Image.{slice, half, child}
+use Rattle.pp_terms.specs.tree.Book.{LookUp}
+use Rattle.pp_terms.specs.disk.Image.{slice, half, child}
+use Rattle.pp_terms.proofs.Halves.{half_odd, half_even}
+use Rattle.pp_terms.proofs.Facts.{which_half}
 use Rattle.pp_tree.specs.Book.{IsAdopted}
 
 pub child_none : (both : List ℕ) (j : ℕ) (o : Option (List ℕ)) → o ≡ None → child both j o ≡ None
@@ -37,15 +38,6 @@ pub child_short : (reads : List ℕ) (place j : ℕ) (o : Option (List ℕ)) →
 child_short reads place j o short =
     child_short_of (slice reads place 64) j o (λ e. omega (arith, e, length-take 64 (drop place reads), length-drop place reads))
 
-half_even : (j i : ℕ) (both : List ℕ) → j ≡ 2 * i → half j both ≡ take 32 both
-half_even j i both e = let test : (j % 2 == 0) ≡ true = grind (arith, nat_tests) in ap (λ (b : Bool). cond b (take 32 both) (drop 32 both)) test
-
-half_odd : (j i : ℕ) (both : List ℕ) → j ≡ 2 * i + 1 → half j both ≡ drop 32 both
-half_odd j i both e = let test : (j % 2 == 0) ≡ false = grind (arith, nat_tests) in ap (λ (b : Bool). cond b (take 32 both) (drop 32 both)) test
-
-which : (j i : ℕ) → j / 2 ≡ i → (j ≡ 2 * i) ⊎ (j ≡ 2 * i + 1)
-which j i e = ⊎_elim (λ even. inl (omega arith)) (λ odd. inr (omega arith)) (cases_eq (j % 2) 0)
-
 -- the children that were adopted
 pub adopted_children : (pair digest left right : List ℕ) (k i : ℕ) (old new : LookUp) → length pair ≡ 64 → left ≡ take 32 pair → right ≡ drop 32 pair
     → pointwise nat_eq (sha256 pair) digest ≡ true → IsAdopted k i left right old new
@@ -53,7 +45,7 @@ pub adopted_children : (pair digest left right : List ℕ) (k i : ℕ) (old new 
 adopted_children pair digest left right k i old new long left_is right_is same is j under = ⊎_elim
     (λ even. ap (λ (n : ℕ). new k n) even ∙ is.left_is ∙ ap (λ (x : List ℕ). Some x) (left_is ∙ sym (half_even j i pair even)) ∙ sym (child_known pair digest j long same))
     (λ odd. ap (λ (n : ℕ). new k n) odd ∙ is.right_is ∙ ap (λ (x : List ℕ). Some x) (right_is ∙ sym (half_odd j i pair odd)) ∙ sym (child_known pair digest j long same))
-    (which j i under)
+    (which_half j i under)
 
 pub left_absent : (k i : ℕ) (book : LookUp) → ((j : ℕ) → j / 2 ≡ i → book k j ≡ None) → (book k (2 * i) ≡ None) × (book k (2 * i + 1) ≡ None)
 left_absent k i book absent = (absent (2 * i) (omega arith), absent (2 * i + 1) (omega arith))

@@ -3,12 +3,13 @@ use Rattle.std.proofs.Common.{◌≡◌, ◌⊎◌, inl, inr, ℕ, ◌<◌, ◌�
 use Rattle.std.specs.Prelude.{is_some}
 use Rattle.std.proofs.lemmas.Bool.{false≢true}
 use Rattle.std.proofs.lemmas.List.{length-replicate}
-use Rattle.pp_terms.specs.Content.{chunk_length}
-use Rattle.pp_terms.specs.Book.{LookUp}
-use Rattle.pp_terms.specs.Descriptor.{Descriptor, chunks_of, IsDescriptor}
-use Rattle.pp_terms.specs.Image.{holds, has_peaks}
-use Rattle.pp_terms.specs.Disk.{DiskState, History, IsKnown, DoesSync}
+use Rattle.pp_terms.specs.tree.Content.{chunk_length}
+use Rattle.pp_terms.specs.tree.Book.{LookUp, has_peaks}
+use Rattle.pp_terms.specs.format.Descriptor.{Descriptor, chunks_of, IsDescriptor}
+use Rattle.pp_terms.specs.disk.Image.{holds}
+use Rattle.pp_terms.specs.disk.Disk.{DiskState, History, IsKnown, DoesSync}
 use Rattle.pp_terms.proofs.Knowing.{known_on}
+use Rattle.pp_terms.proofs.Facts.{none_in}
 use Rattle.pp_tree.proofs.Sizes.{chunk_size_range, chunk_begins}
 use Rattle.pp_tree.specs.Book.{HasRootAlone}
 use Rattle.pp_scan.specs.declared.scanning.ScanFault.{ScanFault}
@@ -19,7 +20,7 @@ use Rattle.pp_scan.specs.Layers.{HasKnown, HasOnlyKnown}
 use Rattle.pp_scan.specs.Holding.{is_there}
 use Rattle.pp_scan.specs.Scan.{IsScanned, HasFound}
 use Rattle.pp_scan.proofs.Reading.{known_after}
-use Rattle.pp_scan.proofs.Holds.{held_there, none_held, empty_none, empty_known, none_in}
+use Rattle.pp_scan.proofs.Holds.{held_there, none_held, empty_none, empty_known}
 
 -- a chunk has a byte
 pub some_bytes : (d : Descriptor) (i : ℕ) → IsDescriptor d → i < chunks_of d → 0 < chunk_length d.size d.chunk i
@@ -46,6 +47,7 @@ module _ (d : Descriptor) (old mid new : DiskState) (book : LookUp) (known_mid :
   found_from unread (Err (NotAStore at found want)) is = record {
     within = is.within;
     differ = is.differ;
+    wanted = is.wanted;
     some = λ known. subst (λ (r : List ℕ). 0 < length r) (same known) (is.some (known_mid known));
     first = λ known. let one = is.first (known_mid known) in record {
       within = one.within;
@@ -120,7 +122,7 @@ found_empty d disk book set valid alone none empty =
 
 -- a file in which some peak isn't known
 pub found_none : (d : Descriptor) (disk : DiskState) (book : LookUp) (set : List Bool) → set ≡ replicate (chunks_of d) false
-    → has_peaks book (chunks_of d) 21 ≡ false → (IsKnown disk → HasHeader d disk.history.reads) → (IsKnown disk → HasKnown d disk.history.reads book)
+    → has_peaks book (chunks_of d) ≡ false → (IsKnown disk → HasHeader d disk.history.reads) → (IsKnown disk → HasKnown d disk.history.reads book)
     → IsScanned d disk book set
 found_none d disk book set none lacks begins known_is =
     let out : (i : ℕ) → get_or set i false ≡ false = λ i. ap (λ (s : List Bool). get_or s i false) none ∙ none_in (chunks_of d) i in
@@ -135,7 +137,7 @@ found_none d disk book set none lacks begins known_is =
 
 -- and one in which all peaks are
 pub found_held : (d : Descriptor) (disk : DiskState) (book : LookUp) (set set' : List Bool) → set ≡ replicate (chunks_of d) false → length set' ≡ length set
-    → has_peaks book (chunks_of d) 21 ≡ true → (IsKnown disk → HasHeader d disk.history.reads) → (IsKnown disk → HasKnown d disk.history.reads book)
+    → has_peaks book (chunks_of d) ≡ true → (IsKnown disk → HasHeader d disk.history.reads) → (IsKnown disk → HasKnown d disk.history.reads book)
     → ((i : ℕ) → get_or set' i false ≡ true → is_some (book 0 i) ≡ true)
     → (IsKnown disk → (i : ℕ) → i < chunks_of d → get_or set' i false ≡ is_there d disk.history.reads book i)
     → IsScanned d disk book set'
@@ -150,6 +152,3 @@ found_held d disk book set set' none count all begins known_is leaf held = recor
 
 pub not_false : (b : Bool) → not b ≡ true → b ≡ false
 not_false b e = elim b as (λ v. not v ≡ true → v ≡ false) [ true ↦ λ h. absurd cc | false ↦ λ h. refl ] e
-
-pub not_true : (b : Bool) → not b ≡ false → b ≡ true
-not_true b e = elim b as (λ v. not v ≡ false → v ≡ true) [ true ↦ λ h. refl | false ↦ λ h. absurd cc ] e

@@ -1,16 +1,16 @@
 -- The chunks that a file holds, by its book.
-use Rattle.std.proofs.Common.{◌≡◌, ⊎_elim, ℕ, suc, ◌-◌, ◌/◌, ◌<◌, ◌==◌, nat_eq, nat_le, Bool, true, false, cond, Option, Some, None, List, [], length, get_or, drop, replicate, refl, sym, ◌∙◌, ap, arith}
+use Rattle.std.proofs.Common.{◌≡◌, ⊎_elim, ℕ, suc, ◌-◌, ◌/◌, ◌<◌, ◌==◌, nat_eq, nat_le, Bool, true, false, cond, Option, Some, None, List, [], length, drop, refl, sym, ◌∙◌, ap, arith}
 use Rattle.std.specs.Prelude.{◌&&◌}
 use Rattle.std.specs.Cmp.Lexicographic.{pointwise}
 use Rattle.std.proofs.lemmas.Bool.{cases_lt}
 use Rattle.std.proofs.lemmas.Bool.Decides.{nat_tests}
-use Rattle.std.proofs.lemmas.List.{length-take, length-drop, get_or-replicate, get_or_past, length-replicate}
+use Rattle.std.proofs.lemmas.List.{length-take, length-drop}
 use Rattle.sha2.specs.Sha256.{sha256}
-use Rattle.pp_terms.specs.Content.{chunk_length}
-use Rattle.pp_terms.specs.Book.{LookUp}
-use Rattle.pp_terms.specs.Descriptor.{Descriptor, chunks_of, height_of}
-use Rattle.pp_terms.specs.Image.{slice, known, known_below, matches, has_peaks, holds}
-use Rattle.pp_terms.specs.Store.{chunk_place, pair_place}
+use Rattle.pp_terms.specs.tree.Content.{chunk_length}
+use Rattle.pp_terms.specs.tree.Book.{LookUp, has_peaks}
+use Rattle.pp_terms.specs.format.Descriptor.{Descriptor, chunks_of, height_of}
+use Rattle.pp_terms.specs.disk.Image.{slice, known, known_below, matches, holds}
+use Rattle.pp_terms.specs.disk.Store.{chunk_place, pair_place}
 use Rattle.pp_tree.specs.Book.{HasRootAlone}
 use Rattle.pp_scan.specs.Layers.{HasKnown, HasOnlyKnown}
 use Rattle.pp_scan.specs.Holding.{is_there}
@@ -30,20 +30,20 @@ there_read d reads book i place size bytes digest b place_is size_is bytes_is lo
     test ∙ sym same ∙ sym (ap (λ (t : Bool). t && matches (book 0 i) (sha256 (slice reads (chunk_place d.chunk i) want))) whole)
 
 -- where all nodes are known, a chunk that is there is held if all peaks are known
-pub held_there : (d : Descriptor) (reads : List ℕ) (book : LookUp) (i : ℕ) → HasKnown d reads book → has_peaks book (chunks_of d) 21 ≡ true
+pub held_there : (d : Descriptor) (reads : List ℕ) (book : LookUp) (i : ℕ) → HasKnown d reads book → has_peaks book (chunks_of d) ≡ true
     → is_there d reads book i ≡ holds d reads i
 held_there d reads book i known_is peaks =
     let same : book ≡ known d reads = λ t k j. known_is k j t in
-    let peaks' : has_peaks (known d reads) (chunks_of d) 21 ≡ true = ap (λ (b : LookUp). has_peaks b (chunks_of d) 21) (sym same) ∙ peaks in
+    let peaks' : has_peaks (known d reads) (chunks_of d) ≡ true = ap (λ (b : LookUp). has_peaks b (chunks_of d)) (sym same) ∙ peaks in
     let bytes = slice reads (chunk_place d.chunk i) (chunk_length d.size d.chunk i) in
     ap (λ (b : LookUp). is_there d reads b i) same
     ∙ sym (ap (λ (t : Bool). t && (length bytes == chunk_length d.size d.chunk i) && matches (known d reads 0 i) (sha256 bytes)) peaks')
 
-pub none_held : (d : Descriptor) (reads : List ℕ) (book : LookUp) (i : ℕ) → HasKnown d reads book → has_peaks book (chunks_of d) 21 ≡ false
+pub none_held : (d : Descriptor) (reads : List ℕ) (book : LookUp) (i : ℕ) → HasKnown d reads book → has_peaks book (chunks_of d) ≡ false
     → holds d reads i ≡ false
 none_held d reads book i known_is peaks =
     let same : book ≡ known d reads = λ t k j. known_is k j t in
-    let peaks' : has_peaks (known d reads) (chunks_of d) 21 ≡ false = ap (λ (b : LookUp). has_peaks b (chunks_of d) 21) (sym same) ∙ peaks in
+    let peaks' : has_peaks (known d reads) (chunks_of d) ≡ false = ap (λ (b : LookUp). has_peaks b (chunks_of d)) (sym same) ∙ peaks in
     let bytes = slice reads (chunk_place d.chunk i) (chunk_length d.size d.chunk i) in
     ap (λ (t : Bool). t && (length bytes == chunk_length d.size d.chunk i) && matches (known d reads 0 i) (sha256 bytes)) peaks'
 
@@ -53,8 +53,8 @@ empty_none d i some =
     let bytes = slice [] (chunk_place d.chunk i) (chunk_length d.size d.chunk i) in
     let none : length bytes ≡ 0 = omega (arith, length-take {A = ℕ} (chunk_length d.size d.chunk i) (drop (chunk_place d.chunk i) []), length-drop {A = ℕ} (chunk_place d.chunk i) []) in
     let test : (length bytes == chunk_length d.size d.chunk i) ≡ false = grind (arith, nat_tests) in
-    ap (λ (t : Bool). has_peaks (known d []) (chunks_of d) 21 && t && matches (known d [] 0 i) (sha256 bytes)) test
-    ∙ (elim (has_peaks (known d []) (chunks_of d) 21) as (λ p. (p && false && matches (known d [] 0 i) (sha256 bytes)) ≡ false) [ true ↦ refl | false ↦ refl ])
+    ap (λ (t : Bool). has_peaks (known d []) (chunks_of d) && t && matches (known d [] 0 i) (sha256 bytes)) test
+    ∙ (elim (has_peaks (known d []) (chunks_of d)) as (λ p. (p && false && matches (known d [] 0 i) (sha256 bytes)) ≡ false) [ true ↦ refl | false ↦ refl ])
 
 empty_below : (d : Descriptor) (m j : ℕ) → known_below d [] (suc m) j ≡ None
 empty_below d m j = child_short [] (pair_place d.chunk (height_of d - suc m) (j / 2)) j (known_below d [] m (j / 2)) (omega arith)
@@ -100,6 +100,3 @@ root_known d reads book alone k j digest at = ⊎_elim
     (cases_lt (height_of d) k))
     (cases_lt 0 j))
     (cases_lt k (height_of d))
-
-pub none_in : (n i : ℕ) → get_or (replicate n false) i false ≡ false
-none_in n i = ⊎_elim (λ lt. get_or-replicate n i false false lt) (λ ge. get_or_past (replicate n false) i false (let size : length (replicate n false) ≡ n = length-replicate n false in omega arith)) (cases_lt i n)

@@ -4,10 +4,10 @@ use Rattle.std.proofs.Math.Nat.{mul-le-mul_left, mod-eq_of_lt}
 use Rattle.std.proofs.Math.Pow.{pow_mono, pow-lt}
 use Rattle.std.proofs.lemmas.Bool.{cases_lt, cases_eq}
 use Rattle.std.proofs.lemmas.Bool.Decides.{nat_tests}
-use Rattle.pp_terms.specs.Book.{LookUp}
-use Rattle.pp_terms.specs.Descriptor.{Descriptor, height_of}
-use Rattle.pp_terms.specs.Image.{slice, child, known, known_below}
-use Rattle.pp_terms.specs.Store.{chunk_place, pair_place}
+use Rattle.pp_terms.specs.tree.Book.{LookUp}
+use Rattle.pp_terms.specs.format.Descriptor.{Descriptor, height_of}
+use Rattle.pp_terms.specs.disk.Image.{slice, child, known, known_below}
+use Rattle.pp_terms.specs.disk.Store.{chunk_place, pair_place}
 use Rattle.pp_tree.specs.Book.{HasRootAlone}
 use Rattle.pp_scan.specs.Layers.{IsBare, IsDone, HasOnlyKnown, HasKnown}
 use Rattle.pp_scan.proofs.Children.{node_slot}

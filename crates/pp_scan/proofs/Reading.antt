@@ -2,8 +2,8 @@
 use Rattle.std.proofs.Common.{◌≡◌, ℕ, ◌+◌, ◌<◌, ◌≤◌, List, [], ◌∷◌, length, get_or, take, drop, Result, Ok, Err, refl, sym, ◌∙◌, arith}
 use Rattle.std.proofs.lemmas.Grind.{same_number_lists}
 use Rattle.std.proofs.lemmas.List.{places, length-take, length-drop}
-use Rattle.pp_terms.specs.Disk.{DiskState, IsKnown, IsRead, DoesRead, DoesLen}
-use Rattle.pp_terms.specs.Image.{slice}
+use Rattle.pp_terms.specs.disk.Disk.{DiskState, IsKnown, IsRead, DoesRead, DoesLen}
+use Rattle.pp_terms.specs.disk.Image.{slice}
 use Rattle.pp_terms.proofs.Knowing.{known_on}
 use Rattle.pp_scan.specs.Look.{KeepsAll, OnlyReads}
 

@@ -1,7 +1,7 @@
 -- Whether a file begins with a descriptor's header.
 use Rattle.std.specs.Prelude.{◌≡◌, ℕ, ◌<◌, List, slice_index}
-use Rattle.pp_terms.specs.Descriptor.{Descriptor}
-use Rattle.pp_terms.specs.Store.{header}
+use Rattle.pp_terms.specs.format.Descriptor.{Descriptor}
+use Rattle.pp_terms.specs.disk.Store.{header}
 
 -- Its first 64 bytes, zeros past its end, are the header.
 abbrev pub HasHeader : Descriptor → List ℕ → Type 0

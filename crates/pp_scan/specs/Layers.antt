@@ -1,9 +1,9 @@
 -- A book while the nodes of a tree are looked up in an image, layer by layer from the root down.
 use Rattle.std.specs.Prelude.{◌≡◌, ℕ, suc, ◌+◌, ◌*◌, ◌<◌, ◌≤◌, None}
 use Rattle.std.specs.Prelude.{List, Some}
-use Rattle.pp_terms.specs.Book.{LookUp}
-use Rattle.pp_terms.specs.Descriptor.{Descriptor, height_of}
-use Rattle.pp_terms.specs.Image.{known, known_below}
+use Rattle.pp_terms.specs.tree.Book.{LookUp}
+use Rattle.pp_terms.specs.format.Descriptor.{Descriptor, height_of}
+use Rattle.pp_terms.specs.disk.Image.{known, known_below}
 
 -- In a tree of that height no node lies above the root. Below the layer that is n layers below the root only children of
 -- the layer's first i nodes are in the book.

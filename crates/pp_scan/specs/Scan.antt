@@ -1,11 +1,11 @@
 -- What a scan of a store finds.
-use Rattle.std.specs.Prelude.{◌≡◌, ◌⊎◌, ℕ, ◌<◌, Bool, false, true, Ok, Err, List, [], length, slice_index_or, Result, is_some}
+use Rattle.std.specs.Prelude.{◌≡◌, ◌⊎◌, ℕ, ◌<◌, Bool, false, true, Ok, Err, List, [], length, slice_index, slice_index_or, Result, is_some}
 use Rattle.pp_terms.specs.Count.{HasRisen}
-use Rattle.pp_terms.specs.Book.{LookUp}
-use Rattle.pp_terms.specs.Descriptor.{Descriptor, chunks_of}
-use Rattle.pp_terms.specs.Store.{header}
-use Rattle.pp_terms.specs.Image.{holds, has_peaks}
-use Rattle.pp_terms.specs.Disk.{DiskState, IsKnown}
+use Rattle.pp_terms.specs.tree.Book.{LookUp, has_peaks}
+use Rattle.pp_terms.specs.format.Descriptor.{Descriptor, chunks_of}
+use Rattle.pp_terms.specs.disk.Store.{header}
+use Rattle.pp_terms.specs.disk.Image.{is_found}
+use Rattle.pp_terms.specs.disk.Disk.{DiskState, IsKnown}
 use Rattle.pp_scan.specs.declared.scanning.ScanFault.{ScanFault}
 use Rattle.pp_scan.specs.declared.scanning.ScanFault.TheVariants.{NotAStore, Disk, Memory}
 use Rattle.pp_scan.specs.Header.{HasHeader, IsDifference}
@@ -16,16 +16,17 @@ use Rattle.pp_scan.specs.Layers.{HasKnown}
 pub record IsScanned (d : Descriptor) (disk : DiskState) (book : LookUp) (set : List Bool) : Type 0 where
   pub count : length set ≡ chunks_of d
   pub leaf : (i : ℕ) → slice_index_or set i false ≡ true → is_some (book 0 i) ≡ true
-  pub peaks : (i : ℕ) → slice_index_or set i false ≡ true → has_peaks book (chunks_of d) 21 ≡ true
+  pub peaks : (i : ℕ) → slice_index_or set i false ≡ true → has_peaks book (chunks_of d) ≡ true
   pub begins : IsKnown disk → (disk.history.reads ≡ []) ⊎ HasHeader d disk.history.reads
-  pub held : IsKnown disk → (i : ℕ) → i < chunks_of d → slice_index_or set i false ≡ holds d disk.history.reads i
+  pub held : IsKnown disk → (i : ℕ) → i < chunks_of d → slice_index_or set i false ≡ is_found d disk.history.reads i
   pub known : IsKnown disk → HasKnown d disk.history.reads book
 
 -- The file isn't empty and is no store of the descriptor's: its first byte that differs from the header is named, with what
--- it is and what was wanted.
+-- it is and what was wanted, which over every disk is the header's byte there.
 pub record IsOther (d : Descriptor) (at found want : ℕ) (disk : DiskState) : Type 0 where
   pub within : at < 64
   pub differ : found ≡ want → ⊥
+  pub wanted : want ≡ slice_index (header d) at
   pub some : IsKnown disk → 0 < length disk.history.reads
   pub first : IsKnown disk → IsDifference disk.history.reads (header d) at found want
 

@@ -1,7 +1,7 @@
 // The chunks that a store holds.
 ghost use Rattle.std.specs.Prelude.{◌≡◌, ℕ, ◌<◌, true, false, replicate, length, is_some, slice_index_or, OnOk, IfOk};
-ghost use Rattle.pp_terms.specs.Descriptor.{chunks_of};
-ghost use Rattle.pp_terms.specs.Disk.{IsKnown};
+ghost use Rattle.pp_terms.specs.format.Descriptor.{chunks_of};
+ghost use Rattle.pp_terms.specs.disk.Disk.{IsKnown};
 ghost use Rattle.pp_tree.specs.Book.{entry};
 ghost use Rattle.pp_scan.specs.Look.{OnlyReads};
 ghost use Rattle.pp_scan.specs.Holding.{is_there};

@@ -1,12 +1,12 @@
 // The nodes of a tree, looked up in a store from the root down.
 ghost use Rattle.std.specs.Prelude.{◌≡◌, ℕ, suc, ◌+◌, ◌-◌, ◌*◌, ◌/◌, ◌^◌, ◌<◌, ◌≤◌, ◌++◌, None, Some, length, take, drop, OnOk, OnErr};
 ghost use Rattle.sha2.specs.Sha256.{sha256};
-ghost use Rattle.pp_terms.specs.Book.{IsRooted};
-ghost use Rattle.pp_terms.specs.Descriptor as terms;
-ghost use Rattle.pp_terms.specs.Descriptor.{chunks_of, height_of};
-ghost use Rattle.pp_terms.specs.Image.{child, slice};
-ghost use Rattle.pp_terms.specs.Store.{pair_place};
-ghost use Rattle.pp_terms.specs.Disk.{IsKnown};
+ghost use Rattle.pp_terms.specs.tree.Book.{IsRooted};
+ghost use Rattle.pp_terms.specs.format.Descriptor as terms;
+ghost use Rattle.pp_terms.specs.format.Descriptor.{chunks_of, height_of};
+ghost use Rattle.pp_terms.specs.disk.Image.{child, slice};
+ghost use Rattle.pp_terms.specs.disk.Store.{pair_place};
+ghost use Rattle.pp_terms.specs.disk.Disk.{IsKnown};
 ghost use Rattle.pp_tree.specs.Book.{entry, HasRootAlone};
 ghost use Rattle.pp_scan.specs.Look.{OnlyReads};
 ghost use Rattle.pp_scan.specs.Layers.{IsBare, IsDone, HasOnlyKnown};
@@ -27,7 +27,7 @@ pub(crate) fn know_nodes<D: Disk>(
     requires counted { IsKnown (D.state disk.old) → len ≡ length (D.state disk.old).history.reads }
 
     ensures looks { OnlyReads (D.state disk.old) result (D.state disk.new) }
-    ensures chunks { book.new.chunks ≡ book.old.chunks }
+    ensures descriptor { book.new.descriptor ≡ book.old.descriptor }
     ensures kept { IsRooted descriptor.now (entry book.new) }
     ensures only { IsKnown (D.state disk.old) → HasOnlyKnown descriptor.now (D.state disk.old).history.reads (entry book.new) }
     ensures known { IsKnown (D.state disk.old)
@@ -57,7 +57,7 @@ fn know_layer<D: Disk>(
     requires counted { IsKnown (D.state disk.old) → len ≡ length (D.state disk.old).history.reads }
 
     ensures looks { OnlyReads (D.state disk.old) result (D.state disk.new) }
-    ensures chunks { book.new.chunks ≡ book.old.chunks }
+    ensures descriptor { book.new.descriptor ≡ book.old.descriptor }
     ensures kept { IsRooted descriptor.now (entry book.new) }
     ensures only { IsKnown (D.state disk.old) → IsDone descriptor.now (D.state disk.old).history.reads depth 0 (entry book.old)
         → HasOnlyKnown descriptor.now (D.state disk.old).history.reads (entry book.new) }
@@ -90,7 +90,7 @@ fn know_children<D: Disk>(
     requires counted { IsKnown (D.state disk.old) → len ≡ length (D.state disk.old).history.reads }
 
     ensures looks { OnlyReads (D.state disk.old) result (D.state disk.new) }
-    ensures chunks { book.new.chunks ≡ book.old.chunks }
+    ensures descriptor { book.new.descriptor ≡ book.old.descriptor }
     ensures kept { (d : terms.Descriptor) → IsRooted d (entry book.old) → IsRooted d (entry book.new) }
     ensures others { (l j : ℕ) → ((l ≡ node.layer - 1) × (j / 2 ≡ node.offset) → ⊥) → entry book.new l j ≡ entry book.old l j }
     ensures refused { OnErr result (book.new ≡ book.old) }
@@ -123,7 +123,7 @@ fn adopt(book: &mut Book, node: Node, digest: &Digest, pair: &[u8; 64])
     requires inner { 0 < node.layer }
     requires there { entry book.old node.layer node.offset ≡ Some digest.now }
     requires absent { (j : ℕ) → j / 2 ≡ node.offset → entry book.old (node.layer - 1) j ≡ None }
-    ensures chunks { book.new.chunks ≡ book.old.chunks }
+    ensures descriptor { book.new.descriptor ≡ book.old.descriptor }
     ensures kept { (d : terms.Descriptor) → IsRooted d (entry book.old) → IsRooted d (entry book.new) }
     ensures others { (l j : ℕ) → ((l ≡ node.layer - 1) × (j / 2 ≡ node.offset) → ⊥) → entry book.new l j ≡ entry book.old l j }
     ensures children { (j : ℕ) → j / 2 ≡ node.offset

@@ -1,7 +1,7 @@
 // The layout of a store's file, version 1.
 ghost use Rattle.std.specs.Prelude.{◌≡◌, ℕ, ◌^◌, ◌<◌, ◌≤◌, slice_index, MatchOption, IfOk};
-ghost use Rattle.pp_terms.specs.Store.{header, chunk_place};
-ghost use Rattle.pp_terms.specs.Disk.{IsKnown};
+ghost use Rattle.pp_terms.specs.disk.Store.{header, chunk_place};
+ghost use Rattle.pp_terms.specs.disk.Disk.{IsKnown};
 ghost use Rattle.pp_scan.specs.Look.{OnlyReads};
 ghost use Rattle.pp_scan.specs.Header.{HasHeader, IsDifference};
 
@@ -46,7 +46,7 @@ pub fn header_difference<D: Disk>(
 ) -> Result<Option<Difference>, DiskFault>
     ensures looks { OnlyReads (D.state disk.old) result (D.state disk.new) }
     ensures found { IfOk result (λ o. MatchOption o (IsKnown (D.state disk.old) → HasHeader descriptor.now (D.state disk.old).history.reads)
-        (λ d. (d.at < 64) × (d.found ≡ d.want → ⊥)
+        (λ d. (d.at < 64) × (d.found ≡ d.want → ⊥) × (d.want ≡ slice_index (header descriptor.now) d.at)
         × (IsKnown (D.state disk.old) → IsDifference (D.state disk.old).history.reads (header descriptor.now) d.at d.found d.want))) }
 {
     let mut bytes = [0u8; 64];

@@ -1,9 +1,8 @@
 // A store is read from the root down.
-ghost use Rattle.std.specs.Prelude.{◌≡◌, ℕ, ◌<◌, false, length, replicate};
-ghost use Rattle.pp_terms.specs.Book.{IsRooted};
-ghost use Rattle.pp_terms.specs.Descriptor.{chunks_of, IsDescriptor};
-ghost use Rattle.pp_terms.specs.Disk.{IsKnown};
-ghost use Rattle.pp_tree.specs.Book.{entry, HasRootAlone};
+ghost use Rattle.std.specs.Prelude.{◌≡◌, ℕ, ◌<◌, Some, false, length, replicate};
+ghost use Rattle.pp_terms.specs.format.Descriptor.{chunks_of, IsDescriptor};
+ghost use Rattle.pp_terms.specs.disk.Disk.{IsKnown};
+ghost use Rattle.pp_tree.specs.Book.{entry, IsBookOf, HasRootAlone};
 ghost use Rattle.pp_scan.specs.Look.{KeepsAll, OnlySyncs, synced};
 ghost use Rattle.pp_scan.specs.Header.{HasHeader};
 ghost use Rattle.pp_scan.specs.Layers.{HasKnown, HasOnlyKnown};
@@ -43,7 +42,7 @@ pub fn scan<D: Disk>(
     book: &mut Book,
 ) -> Result<ChunkSet, ScanFault>
     requires alone { HasRootAlone descriptor.now (entry book.old) }
-    requires chunks { book.old.chunks ≡ chunks_of descriptor.now }
+    requires descriptor { book.old.descriptor ≡ Some descriptor.now }
 
     ensures found { HasFound ((D.state disk.new ≡ D.state disk.old) × (book.new ≡ book.old)) descriptor.now
         (D.state disk.old) (D.state disk.new) (entry book.new) result }
@@ -52,9 +51,8 @@ pub fn scan<D: Disk>(
         → OnRead result ((D.state disk.new).history ≡ synced (D.state disk.old).history) }
     ensures looks { OnlySyncs (D.state disk.old) (D.state disk.new) }
 
-    ensures rooted { IsRooted descriptor.now (entry book.new) }
+    ensures book { IsBookOf descriptor.now book.new }
     ensures only { IsKnown (D.state disk.old) → HasOnlyKnown descriptor.now (D.state disk.old).history.reads (entry book.new) }
-    ensures kept { book.new.chunks ≡ book.old.chunks }
 {
     match ChunkSet::none(alloc, descriptor.chunks()) {
         Ok(set) => scan_into(descriptor, disk, book, set),
@@ -70,7 +68,7 @@ pub fn scan_into<D: Disk>(
     set: ChunkSet,
 ) -> Result<ChunkSet, ScanFault>
     requires alone { HasRootAlone descriptor.now (entry book.old) }
-    requires chunks { book.old.chunks ≡ chunks_of descriptor.now }
+    requires descriptor { book.old.descriptor ≡ Some descriptor.now }
     requires none { set ≡ replicate (chunks_of descriptor.now) false }
 
     ensures found { HasFound ⊥ descriptor.now (D.state disk.old) (D.state disk.new) (entry book.new) result }
@@ -78,9 +76,8 @@ pub fn scan_into<D: Disk>(
         → OnRead result ((D.state disk.new).history ≡ synced (D.state disk.old).history) }
     ensures looks { OnlySyncs (D.state disk.old) (D.state disk.new) }
 
-    ensures rooted { IsRooted descriptor.now (entry book.new) }
+    ensures book { IsBookOf descriptor.now book.new }
     ensures only { IsKnown (D.state disk.old) → HasOnlyKnown descriptor.now (D.state disk.old).history.reads (entry book.new) }
-    ensures kept { book.new.chunks ≡ book.old.chunks }
 {
     // Its contract tells that the descriptor is one of a swarm's.
     let _ = descriptor.chunks();
@@ -98,14 +95,13 @@ fn scan_synced<D: Disk>(
 ) -> Result<ChunkSet, ScanFault>
     requires valid { IsDescriptor descriptor.now }
     requires alone { HasRootAlone descriptor.now (entry book.old) }
-    requires chunks { book.old.chunks ≡ chunks_of descriptor.now }
+    requires descriptor { book.old.descriptor ≡ Some descriptor.now }
     requires none { set ≡ replicate (chunks_of descriptor.now) false }
 
     ensures found { HasFound ⊥ descriptor.now (D.state disk.old) (D.state disk.new) (entry book.new) result }
     ensures looks { KeepsAll (D.state disk.old) (D.state disk.new) }
-    ensures rooted { IsRooted descriptor.now (entry book.new) }
+    ensures book { IsBookOf descriptor.now book.new }
     ensures only { IsKnown (D.state disk.old) → HasOnlyKnown descriptor.now (D.state disk.old).history.reads (entry book.new) }
-    ensures kept { book.new.chunks ≡ book.old.chunks }
 {
     match disk.len() {
         Ok(0) => Ok(set),
@@ -124,16 +120,15 @@ fn scan_file<D: Disk>(
 ) -> Result<ChunkSet, ScanFault>
     requires valid { IsDescriptor descriptor.now }
     requires alone { HasRootAlone descriptor.now (entry book.old) }
-    requires chunks { book.old.chunks ≡ chunks_of descriptor.now }
+    requires descriptor { book.old.descriptor ≡ Some descriptor.now }
     requires none { set ≡ replicate (chunks_of descriptor.now) false }
     requires counted { IsKnown (D.state disk.old) → len ≡ length (D.state disk.old).history.reads }
     requires some { 0 < len }
 
     ensures found { HasFound ⊥ descriptor.now (D.state disk.old) (D.state disk.new) (entry book.new) result }
     ensures looks { KeepsAll (D.state disk.old) (D.state disk.new) }
-    ensures rooted { IsRooted descriptor.now (entry book.new) }
+    ensures book { IsBookOf descriptor.now book.new }
     ensures only { IsKnown (D.state disk.old) → HasOnlyKnown descriptor.now (D.state disk.old).history.reads (entry book.new) }
-    ensures kept { book.new.chunks ≡ book.old.chunks }
 {
     match header_difference(descriptor, disk) {
         Ok(None) => scan_tree(descriptor, len, disk, book, set),
@@ -152,16 +147,15 @@ fn scan_tree<D: Disk>(
 ) -> Result<ChunkSet, ScanFault>
     requires valid { IsDescriptor descriptor.now }
     requires alone { HasRootAlone descriptor.now (entry book.old) }
-    requires chunks { book.old.chunks ≡ chunks_of descriptor.now }
+    requires descriptor { book.old.descriptor ≡ Some descriptor.now }
     requires none { set ≡ replicate (chunks_of descriptor.now) false }
     requires counted { IsKnown (D.state disk.old) → len ≡ length (D.state disk.old).history.reads }
     requires begins { IsKnown (D.state disk.old) → HasHeader descriptor.now (D.state disk.old).history.reads }
 
     ensures found { HasFound ⊥ descriptor.now (D.state disk.old) (D.state disk.new) (entry book.new) result }
     ensures looks { KeepsAll (D.state disk.old) (D.state disk.new) }
-    ensures rooted { IsRooted descriptor.now (entry book.new) }
+    ensures book { IsBookOf descriptor.now book.new }
     ensures only { IsKnown (D.state disk.old) → HasOnlyKnown descriptor.now (D.state disk.old).history.reads (entry book.new) }
-    ensures kept { book.new.chunks ≡ book.old.chunks }
 {
     match know_nodes(descriptor, len, disk, book) {
         Ok(()) => scan_chunks(descriptor, len, disk, book, set),
@@ -177,7 +171,7 @@ fn scan_chunks<D: Disk>(
     book: &Book,
     mut set: ChunkSet,
 ) -> Result<ChunkSet, ScanFault>
-    requires chunks { book.now.chunks ≡ chunks_of descriptor.now }
+    requires descriptor { book.now.descriptor ≡ Some descriptor.now }
     requires none { set ≡ replicate (chunks_of descriptor.now) false }
     requires counted { IsKnown (D.state disk.old) → len ≡ length (D.state disk.old).history.reads }
     requires begins { IsKnown (D.state disk.old) → HasHeader descriptor.now (D.state disk.old).history.reads }

@@ -2,10 +2,10 @@
 use Rattle.std.proofs.Common.{◌≡◌, ℕ, ◌==◌, Bool, true, cond, None, List, length, sym, ◌∙◌, ap, arith}
 use Rattle.std.proofs.lemmas.Bool.Decides.{nat_tests}
 use Rattle.sha2.specs.Sha256.{sha256}
-use Rattle.pp_terms.specs.Content.{chunk_length}
-use Rattle.pp_terms.specs.Book.{LookUp}
-use Rattle.pp_terms.specs.Descriptor.{Descriptor, chunks_of, height_of}
-use Rattle.pp_terms.specs.Proves.{first_absent}
+use Rattle.pp_terms.specs.tree.Content.{chunk_length}
+use Rattle.pp_terms.specs.tree.Book.{LookUp}
+use Rattle.pp_terms.specs.format.Descriptor.{Descriptor, chunks_of, height_of}
+use Rattle.pp_terms.specs.tree.Proves.{first_absent}
 use Rattle.pp_paths.specs.declared.settling.Settled.{Settled}
 use Rattle.pp_paths.specs.declared.settling.Settled.TheVariants.{Known}
 use Rattle.pp_paths.specs.Climb.{or_else, path, AddsPath}

@@ -2,22 +2,22 @@
 use Rattle.std.proofs.Common.{◌≡◌, inl, ⊎_elim, ℕ, ◌+◌, ◌*◌, ◌<◌, Bool, true, false, List, [], length, get_or, replicate, sym, ◌∙◌, ap, subst, arith}
 use Rattle.std.proofs.lemmas.Bool.{cases_lt, false≢true}
 use Rattle.std.proofs.lemmas.List.{length-append, length-replicate}
-use Rattle.pp_terms.specs.Book.{LookUp, IsRooted}
-use Rattle.pp_terms.specs.Descriptor.{Descriptor, chunks_of, IsDescriptor}
-use Rattle.pp_terms.specs.Store.{header}
-use Rattle.pp_terms.specs.Image.{holds, StandsIn}
-use Rattle.pp_terms.specs.Disk.{DiskState, History, IsImage, IsKnown, MayLeave, Throughout, moment_of, written}
+use Rattle.pp_terms.specs.tree.Book.{LookUp, IsRooted}
+use Rattle.pp_terms.specs.format.Descriptor.{Descriptor, chunks_of, IsDescriptor}
+use Rattle.pp_terms.specs.disk.Store.{header}
+use Rattle.pp_terms.specs.disk.Image.{holds, StandsIn}
+use Rattle.pp_terms.specs.disk.Disk.{DiskState, History, IsImage, IsKnown, MayLeave, Throughout, moment_of, written}
 use Rattle.pp_terms.proofs.Headers.{length-header}
 use Rattle.pp_terms.proofs.Images.{sole_image, written_inside}
+use Rattle.pp_terms.proofs.Facts.{member_below, none_in}
 use Rattle.pp_scan.specs.Look.{synced}
 use Rattle.pp_scan.specs.Scan.{IsScanned}
 use Rattle.pp_scan.proofs.Reading.{no_bytes}
 use Rattle.pp_scan.proofs.Finding.{some_bytes}
-use Rattle.pp_scan.proofs.Holds.{held_there, empty_none, none_in}
+use Rattle.pp_scan.proofs.Holds.{held_there, empty_none}
 use Rattle.pp_store.specs.Keep.{kept}
 use Rattle.pp_store.specs.Pairs.{PairStands}
 use Rattle.pp_store.specs.Store.{IsOpened, IsSized, AgreesWith, KnowsHeld, in_either}
-use Rattle.pp_store.proofs.Opening.{in_set}
 use Rattle.pp_store.proofs.Puttings.{either_case}
 use Rattle.pp_store.proofs.Marking.{IsMarked, marked_pairs, marked_stand}
 
@@ -32,7 +32,7 @@ module _ (d : Descriptor) (disk : DiskState) (book : LookUp) (committed pending 
     (scanned : IsScanned d disk book committed) (none : pending ≡ replicate (chunks_of d) false) (marked : IsMarked d book pairs)
     (size : length pairs ≡ 2 * chunks_of d) where
   within : (i : ℕ) → get_or committed i false ≡ true → i < chunks_of d
-  within i at = omega (arith, in_set committed i at, scanned.count)
+  within i at = omega (arith, member_below committed i at, scanned.count)
 
   pub opened_sized : IsSized d committed pending pairs
   opened_sized = record {

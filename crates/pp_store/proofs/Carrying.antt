@@ -4,11 +4,11 @@ use Rattle.std.proofs.Math.ListN.{set}
 use Rattle.std.proofs.lemmas.Bool.{cases_lt, cases_eq}
 use Rattle.std.proofs.Math.Pow.{pow-lt}
 use Rattle.sha2.specs.Sha256.{sha256}
-use Rattle.pp_terms.specs.Content.{chunk_of}
-use Rattle.pp_terms.specs.Tree.{pair, leaf_of, above}
-use Rattle.pp_terms.specs.Store.{chunk_place, pair_slot, pair_place, a_chunk, a_pair}
-use Rattle.pp_terms.specs.Disk.{DiskState, written}
-use Rattle.pp_tree.proofs.Halving.{doubled}
+use Rattle.pp_terms.specs.tree.Content.{chunk_of}
+use Rattle.pp_terms.specs.tree.Tree.{pair, leaf_of, above}
+use Rattle.pp_terms.specs.disk.Store.{chunk_place, pair_slot, pair_place, a_chunk, a_pair}
+use Rattle.pp_terms.specs.disk.Disk.{DiskState, written}
+use Rattle.pp_terms.proofs.Peaks.{doubled}
 use Rattle.pp_tree.proofs.Clashes.{node_is, leaf_is}
 use Rattle.pp_store.specs.Behind.{DoesPut}
 use Rattle.pp_store.specs.Growing.{IsContent, IsStoredTo, IsPartial, IsCarry, IsStoredCarry, IsCarrying, chunks_in, digest_of, HasChunk, HasPair}

@@ -5,11 +5,13 @@ use Rattle.std.proofs.Math.ListN.{set, length-set}
 use Rattle.std.proofs.lemmas.List.Sums.{sum_by-cons}
 use Rattle.std.proofs.lemmas.Bool.{cases_lt, cases_eq}
 use Rattle.std.proofs.lemmas.List.{get_or_past, get_or-replicate, length-replicate}
-use Rattle.pp_terms.specs.Book.{LookUp}
-use Rattle.pp_terms.specs.Descriptor.{Descriptor, chunks_of}
-use Rattle.pp_terms.specs.Image.{has_peaks, StandsIn}
-use Rattle.pp_terms.specs.Disk.{History, IsImage, Throughout}
+use Rattle.std.proofs.Math.Bool.{or-false, or-true}
+use Rattle.pp_terms.specs.tree.Book.{LookUp, has_peaks}
+use Rattle.pp_terms.specs.format.Descriptor.{Descriptor, chunks_of}
+use Rattle.pp_terms.specs.disk.Image.{StandsIn}
+use Rattle.pp_terms.specs.disk.Disk.{History, IsImage, Throughout}
 use Rattle.pp_terms.proofs.Images.{throughout_settled}
+use Rattle.pp_terms.proofs.Facts.{none_in}
 use Rattle.pp_scan.specs.Look.{synced}
 use Rattle.pp_scan.specs.Header.{HasHeader}
 use Rattle.pp_scan.specs.Holding.{is_there}
@@ -34,9 +36,6 @@ commit_start committed pending = record {
   each = λ i. refl;
 }
 
-or_true : (b : Bool) → (b || true) ≡ true
-or_true b = elim b as (λ v. (v || true) ≡ true) [ true ↦ refl | false ↦ refl ]
-
 pub commit_step : (old_committed old_pending committed pending committed' pending' : List Bool) (from i : ℕ)
     → length old_pending ≡ length old_committed → IsCommitting old_committed old_pending committed pending from
     → from ≤ i → i < length pending → get_or pending i false ≡ true → ((k : ℕ) → from ≤ k → k < i → get_or pending k false ≡ false)
@@ -58,15 +57,12 @@ commit_step old_committed old_pending committed pending committed' pending' from
       let new : in_either committed' pending' k ≡ true = (λ t. get_or (committed_is t) (same t) false || get_or (pending_is t) (same t) false)
       ∙ ap (λ (b : Bool). b || get_or (set pending i false) i false) (get_or-set_same committed i true false inside') in
       let old : in_either committed pending k ≡ true = ap (λ (m : ℕ). in_either committed pending m) same
-      ∙ ap (λ (b : Bool). get_or committed i false || b) here ∙ or_true (get_or committed i false) in
+      ∙ ap (λ (b : Bool). get_or committed i false || b) here ∙ or-true (get_or committed i false) in
       new ∙ sym old ∙ is.each k)
       (λ other. (λ t. get_or (committed_is t) k false || get_or (pending_is t) k false)
       ∙ (λ t. get_or-set_other committed i k true false other t || get_or-set_other pending i k false false other t) ∙ is.each k)
       (cases_eq k i);
 }
-
-or_false : (b : Bool) → (b || false) ≡ b
-or_false b = elim b as (λ v. (v || false) ≡ v) [ true ↦ refl | false ↦ refl ]
 
 all_false : (pending : List Bool) → ((i : ℕ) → get_or pending i false ≡ false) → pending ≡ replicate (length pending) false
 all_false [] none = refl
@@ -82,7 +78,7 @@ pub commit_end : (old_committed old_pending committed pending : List Bool) (from
 commit_end old_committed old_pending committed pending from sizes is rest =
     let none = none_left old_committed old_pending committed pending from is rest in (
       all_false pending none ∙ ap (λ (n : ℕ). replicate n false) (is.pending_size ∙ sizes),
-      λ i. sym (ap (λ (b : Bool). get_or committed i false || b) (none i) ∙ or_false (get_or committed i false)) ∙ is.each i,
+      λ i. sym (ap (λ (b : Bool). get_or committed i false || b) (none i) ∙ or-false (get_or committed i false)) ∙ is.each i,
     )
 
 -- a set of none
@@ -102,18 +98,15 @@ module _ (s : StoreState) (sized : IsSized s.descriptor s.committed s.pending s.
       record {
         others = λ t. record s { pending = empty t };
         size = refl;
-        each = λ i. sym (ap (λ (b : Bool). get_or s.committed i false || b) (all i) ∙ or_false (get_or s.committed i false));
+        each = λ i. sym (ap (λ (b : Bool). get_or s.committed i false || b) (all i) ∙ or-false (get_or s.committed i false));
       }
 
 -- what reads give is the one image afterwards, and each chunk that was held stands in it
 module _ (s s' : StoreState) (done : HasCommitted s s') where
   pub held_after : (i : ℕ) → is_held s' i ≡ is_held s i
   held_after i =
-      let gone : get_or s'.pending i false ≡ false = ap (λ (t : StoreState). get_or t.pending i false) done.others ∙ none_at (chunks_of s.descriptor) i in
-      ap (λ (b : Bool). get_or s'.committed i false || b) gone ∙ or_false (get_or s'.committed i false) ∙ done.each i
-    where
-      none_at : (n k : ℕ) → get_or (replicate n false) k false ≡ false
-      none_at n k = ⊎_elim (λ lt. get_or-replicate n k false false lt) (λ ge. get_or_past (replicate n false) k false (let size : length (replicate n false) ≡ n = length-replicate n false in omega arith)) (cases_lt k n)
+      let gone : get_or s'.pending i false ≡ false = ap (λ (t : StoreState). get_or t.pending i false) done.others ∙ none_in (chunks_of s.descriptor) i in
+      ap (λ (b : Bool). get_or s'.committed i false || b) gone ∙ or-false (get_or s'.committed i false) ∙ done.each i
 
   pub agrees_committed : (book : LookUp) (reads : List ℕ) → AgreesWith s book reads → AgreesWith s' book reads
   agrees_committed book reads agrees = record {
@@ -125,7 +118,7 @@ module _ (s s' : StoreState) (done : HasCommitted s s') where
   pub knows_committed : (book : LookUp) → KnowsHeld s book → KnowsHeld s' book
   knows_committed book knows = record {
     leaf = λ i held. knows.leaf i (sym (held_after i) ∙ held);
-    peaks = λ i held. subst (λ (t : StoreState). has_peaks book (chunks_of t.descriptor) 21 ≡ true) (sym done.others) (knows.peaks i (sym (held_after i) ∙ held));
+    peaks = λ i held. subst (λ (t : StoreState). has_peaks book (chunks_of t.descriptor) ≡ true) (sym done.others) (knows.peaks i (sym (held_after i) ∙ held));
   }
 
   pub stands_committed : (old new : History) → new ≡ synced old → HoldsAll s old.reads → AllStand s.descriptor s'.committed new

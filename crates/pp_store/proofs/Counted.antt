@@ -1,8 +1,8 @@
 -- An import, once the disk's length was found to be 0.
 use Rattle.std.proofs.Common.{◌≡◌, ℕ, ◌<◌, List, length, Result, Ok, Err, sym, ◌∙◌, ap, subst, arith}
-use Rattle.pp_terms.specs.Descriptor.{Descriptor}
-use Rattle.pp_terms.specs.Disk.{DiskState, History, IsKnown, DoesLen, moment_of}
-use Rattle.pp_terms.specs.Stream.{SourceState}
+use Rattle.pp_terms.specs.format.Descriptor.{Descriptor}
+use Rattle.pp_terms.specs.disk.Disk.{DiskState, History, IsKnown, DoesLen, moment_of}
+use Rattle.pp_terms.specs.command.Stream.{SourceState}
 use Rattle.pp_terms.proofs.Knowing.{known_on}
 use Rattle.pp_store.specs.declared.importing.ImportFault.{ImportFault}
 use Rattle.pp_store.specs.declared.importing.ImportFault.TheVariants.{NotEmpty, ContentSize, Source, Disk}

@@ -2,12 +2,12 @@
 use Rattle.std.proofs.Common.{◌≡◌, ◌⊎◌, ◌↔◌, inl, inr, ⊎_elim, ℕ, zero, suc, ◌+◌, ◌-◌, ◌*◌, ◌/◌, ◌%◌, ◌<◌, ◌≤◌, min, Bool, true, false, IsTrue, Some, List, [], length, get_or, take, drop, Result, Ok, Err, OnOk, IfOk, IfErr, refl, sym, ◌∙◌, ap, subst, arith}
 use Rattle.std.proofs.lemmas.Bool.{cases_eq, cases_lt, false≢true}
 use Rattle.std.proofs.lemmas.List.{length-take, length-drop, drop-drop}
-use Rattle.pp_terms.specs.Content.{chunk_count, IsChunkSize, IsContentSize}
-use Rattle.pp_terms.specs.Tree.{above}
-use Rattle.pp_terms.specs.Descriptor.{Descriptor}
-use Rattle.pp_terms.specs.Store.{header, IsStoreOf, IsNoStore}
-use Rattle.pp_terms.specs.Disk.{DiskState, History, IsKnown, Throughout, moment_of}
-use Rattle.pp_terms.specs.Stream.{SourceState}
+use Rattle.pp_terms.specs.tree.Content.{chunk_count, IsChunkSize, IsContentSize}
+use Rattle.pp_terms.specs.tree.Tree.{above}
+use Rattle.pp_terms.specs.format.Descriptor.{Descriptor}
+use Rattle.pp_terms.specs.disk.Store.{header, IsStoreOf, IsNoStore}
+use Rattle.pp_terms.specs.disk.Disk.{DiskState, History, IsKnown, Throughout, moment_of}
+use Rattle.pp_terms.specs.command.Stream.{SourceState}
 use Rattle.pp_terms.proofs.Knowing.{known_on}
 use Rattle.pp_tree.proofs.Sizes.{chunk_size_range}
 use Rattle.pp_store.specs.declared.importing.ImportFault.{ImportFault}
@@ -290,7 +290,7 @@ module _ (chunk : ℕ) (source source' : SourceState) (disk mid new : DiskState)
       honest = kept.honest ∙ keeps.honest;
       later = omega (arith, kept.later, keeps.later);
       attachment = λ known. let a = (keeps.behind known).attachment in let b = kept.attachment (known_mid known) in
-          record { start = b.start ∙ a.start; first = b.first ∙ a.first; found = b.found ∙ a.found };
+          record { start = b.start ∙ a.start; first = b.first ∙ a.first; found = b.found ∙ a.found; names = b.names ∙ a.names };
       faults = omega (arith, kept.faults, keeps.faults);
       hard = omega (arith, kept.hard, keeps.hard);
     };

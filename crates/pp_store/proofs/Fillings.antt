@@ -4,7 +4,7 @@ use Rattle.std.proofs.Math.Seq.{take-add}
 use Rattle.std.proofs.lemmas.List.{length-take, length-drop, length-append, drop-drop, drop_at, take-append-le}
 use Rattle.std.proofs.lemmas.Slice.{take-put_mid_below}
 use borrow.Rule.Slice.PartMut.{put_mid, post_of}
-use Rattle.pp_terms.specs.Stream.{SourceState, DoesTake, GivesUp}
+use Rattle.pp_terms.specs.command.Stream.{SourceState, DoesTake, GivesUp}
 
 -- what stands at the front of the buffer is what the source has given since
 pub record IsFilled (old new : SourceState) (buffer : List ℕ) (filled : ℕ) : Type 0 where

@@ -3,18 +3,19 @@ use Rattle.std.proofs.Common.{◌≡◌, ⊎_elim, ℕ, zero, suc, ◌+◌, ◌-
 use Rattle.std.specs.Prelude.{◌&&◌, is_some}
 use Rattle.std.specs.Cmp.Lexicographic.{pointwise}
 use Rattle.std.proofs.lemmas.Nat.{pow_pos}
-use Rattle.std.proofs.lemmas.Bool.{cases_lt, cases_eq, false≢true, eqb-true}
+use Rattle.std.proofs.lemmas.Bool.{cases_lt, cases_eq, false≢true, eqb-true, and_parts}
 use Rattle.std.proofs.lemmas.Bool.Decides.{nat_tests}
 use Rattle.std.proofs.lemmas.List.{take_at, drop_at, length-append}
 use Rattle.sha2.specs.Sha256.{sha256}
-use Rattle.pp_terms.specs.Content.{chunk_length}
-use Rattle.pp_terms.specs.Tree.{above}
-use Rattle.pp_terms.specs.Book.{LookUp, IsJoined, IsRooted}
-use Rattle.pp_terms.specs.Descriptor.{Descriptor, chunks_of, height_of, IsDescriptor}
-use Rattle.pp_terms.specs.Store.{chunk_place, pair_place}
-use Rattle.pp_terms.specs.Image.{slice, child, known, known_below, has_peaks, matches, StandsIn}
-use Rattle.pp_tree.proofs.Halving.{doubled, above_is}
-use Rattle.pp_paths.proofs.Growth.{hung}
+use Rattle.pp_terms.specs.tree.Content.{chunk_length}
+use Rattle.pp_terms.specs.tree.Tree.{above}
+use Rattle.pp_terms.specs.tree.Book.{LookUp, IsJoined, IsRooted, has_peaks}
+use Rattle.pp_terms.specs.format.Descriptor.{Descriptor, chunks_of, height_of, IsDescriptor}
+use Rattle.pp_terms.specs.disk.Store.{chunk_place, pair_place}
+use Rattle.pp_terms.specs.disk.Image.{slice, child, known, known_below, matches, StandsIn}
+use Rattle.pp_terms.proofs.Nodes.{hung}
+use Rattle.pp_terms.proofs.Facts.{value_of}
+use Rattle.pp_terms.proofs.Peaks.{doubled, above_is}
 use Rattle.pp_paths.proofs.PeakNodes.{at_most_one}
 use Rattle.pp_scan.specs.Header.{HasHeader}
 use Rattle.pp_scan.specs.Holding.{is_there}
@@ -23,7 +24,7 @@ use Rattle.pp_scan.proofs.Children.{child_known}
 use Rattle.pp_store.specs.Pairs.{IsUnfilled, HasItsPairs, PairStands, PairsStand}
 use Rattle.pp_store.proofs.Opening.{has_header}
 use Rattle.pp_store.proofs.Rereading.{has_slice, text_itself}
-use Rattle.pp_store.proofs.Surviving.{AllUp, up_way, up_peak, above_peak, known_at, peaks_in, peak_low, covers_all, and_both, is_some_of, slice_inside}
+use Rattle.pp_store.proofs.Surviving.{AllUp, up_way, up_peak, above_peak, known_at, peaks_in, peak_low, covers_all, slice_inside}
 
 -- a child of a pair that stands
 pair_child : (d : Descriptor) (book : LookUp) (reads : List ℕ) (k j : ℕ) (x : List ℕ) → IsRooted d book → PairStands d book reads k (j / 2)
@@ -98,8 +99,8 @@ pub stands_there : (d : Descriptor) (book : LookUp) (pairs : List Bool) (reads :
 stands_there d book pairs reads i valid rooted within begins stand has there =
     let want = chunk_length d.size d.chunk i in
     let bytes = slice reads (chunk_place d.chunk i) want in
-    let both = and_both (length bytes == want) (matches (book 0 i) (sha256 bytes)) there in
-    let peaks : has_peaks (known d reads) (chunks_of d) 21 ≡ true = peaks_in (known d reads) (chunks_of d) 21 (λ k lt odd. peak k (peak_low d k valid odd) odd) in
+    let both = and_parts (length bytes == want) (matches (book 0 i) (sha256 bytes)) there in
+    let peaks : has_peaks (known d reads) (chunks_of d) ≡ true = peaks_in (known d reads) (chunks_of d) 21 (λ k lt odd. peak k (peak_low d k valid odd) odd) in
     let leaf : matches (known d reads 0 i) (sha256 bytes) ≡ true = leaf_matches (sha256 bytes) (book 0 i) refl both.1 in
     let inside = slice_inside reads (chunk_place d.chunk i) want (some_bytes d i valid within) (eqb-true _ _ both.0) in
     record { begins = has_header d reads valid begins (omega (arith, inside)); within = within; held = sym (sym (λ t. peaks t && both.0 t && leaf t)) }
@@ -187,6 +188,6 @@ way_there d book i x (suc k) rooted leaf low =
 pub way_joined : (d : Descriptor) (book : LookUp) (i k : ℕ) → IsRooted d book → is_some (book 0 i) ≡ true → k < height_of d
     → (left : List ℕ) × (right : List ℕ) × IsJoined book k (above (suc k) i) left right
 way_joined d book i k rooted leaf inner =
-    let (x, at) = is_some_of (book 0 i) leaf in
+    let (x, at) = value_of (book 0 i) leaf in
     let (y, here) = way_there d book i x k rooted at (omega arith) in
     hung d book k (height_of d - suc k) (above k i) y rooted (omega arith) here

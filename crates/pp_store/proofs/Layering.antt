@@ -3,10 +3,10 @@ use Rattle.std.proofs.Common.{◌≡◌, ℕ, suc, ◌+◌, ◌-◌, ◌*◌, �
 use Rattle.std.proofs.lemmas.List.{take_at, drop_at, append-nil}
 use borrow.Rule.Slice.PartMut.{put_mid}
 use Rattle.sha2.specs.Sha256.{sha256}
-use Rattle.pp_terms.specs.Content.{chunk_of}
-use Rattle.pp_terms.specs.Tree.{empty_hash}
-use Rattle.pp_terms.specs.Store.{chunk_place}
-use Rattle.pp_terms.specs.Disk.{DiskState, DoesWrite}
+use Rattle.pp_terms.specs.tree.Content.{chunk_of}
+use Rattle.pp_terms.specs.tree.Tree.{empty_hash}
+use Rattle.pp_terms.specs.disk.Store.{chunk_place}
+use Rattle.pp_terms.specs.disk.Disk.{DiskState, DoesWrite}
 use Rattle.pp_store.specs.Behind.{DoesPut}
 use Rattle.pp_store.specs.Growing.{IsPartial, IsCarry, IsCarrying, IsTail, IsTailing, chunks_in}
 use Rattle.pp_store.proofs.Writings.{write_puts}

@@ -6,19 +6,21 @@ use Rattle.std.specs.Cmp.Lexicographic.{pointwise, same_text}
 use Rattle.std.proofs.Math.ListN.{set}
 use Rattle.std.proofs.Math.Nat.{mod-eq_of_lt, mul-le-mul_left}
 use Rattle.std.proofs.Math.Pow.{pow_mono}
-use Rattle.std.proofs.lemmas.Bool.{cases_lt, cases_eq, cases_Bool, false≢true, eqb-true}
+use Rattle.std.proofs.lemmas.Bool.{cases_lt, cases_eq, cases_Bool, false≢true, eqb-true, and_parts}
 use Rattle.std.proofs.lemmas.Bool.Decides.{nat_tests}
 use Rattle.std.proofs.lemmas.List.{places, take-append-drop, get_or_past, get_or-replicate, length-replicate}
 use Rattle.std.proofs.lemmas.Nat.{pow_pos}
 use Rattle.sha2.specs.Sha256.{sha256}
-use Rattle.pp_terms.specs.Tree.{above, height}
-use Rattle.pp_terms.specs.Book.{LookUp, IsJoined, IsRooted}
-use Rattle.pp_terms.specs.Descriptor.{Descriptor, chunks_of, height_of, IsDescriptor}
-use Rattle.pp_terms.specs.Store.{pair_slot, pair_place, Has}
-use Rattle.pp_terms.specs.Image.{slice, half, child, known_below, has_peaks}
-use Rattle.pp_terms.specs.Proves.{first_absent, last_layer}
+use Rattle.pp_terms.specs.tree.Tree.{above, height}
+use Rattle.pp_terms.specs.tree.Book.{LookUp, IsJoined, IsRooted, has_peaks}
+use Rattle.pp_terms.specs.format.Descriptor.{Descriptor, chunks_of, height_of, IsDescriptor}
+use Rattle.pp_terms.specs.disk.Store.{pair_slot, pair_place, Has}
+use Rattle.pp_terms.specs.disk.Image.{slice, half, child, known_below}
+use Rattle.pp_terms.specs.tree.Proves.{first_absent, last_layer}
 use Rattle.pp_terms.proofs.Heights.{height_is}
-use Rattle.pp_tree.proofs.Halving.{doubled, above_is}
+use Rattle.pp_terms.proofs.Facts.{same_bool, value_of, has_value}
+use Rattle.pp_terms.proofs.Halves.{half_odd, half_even}
+use Rattle.pp_terms.proofs.Peaks.{doubled, above_is}
 use Rattle.pp_paths.proofs.PeakNodes.{last_is, peak_known}
 use Rattle.pp_scan.specs.Layers.{HasKnown}
 use Rattle.pp_scan.proofs.Children.{child_known}
@@ -27,7 +29,7 @@ use Rattle.pp_store.specs.Pairs.{has_pair, IsUnfilled, HasItsPairs, PairStands, 
 use Rattle.pp_store.proofs.Pieces.{slot_is, same_slot}
 use Rattle.pp_store.proofs.Rereading.{text_itself}
 use Rattle.pp_store.proofs.KnownPairs.{HasPeaks, unfilled_joined, way_joined}
-use Rattle.pp_store.proofs.Surviving.{some_chunks, and_both, peak_in, known_at, slice_inside, is_some_of}
+use Rattle.pp_store.proofs.Surviving.{some_chunks, peak_in, known_at, slice_inside}
 
 -- a number is its lowest power of two times the rest
 odd_part : (t k : ℕ) → ((l : ℕ) → l < k → above l t % 2 ≡ 0) → t ≡ 2 ^ k * above k t
@@ -135,15 +137,9 @@ module _ (height : ℕ) (book : LookUp) (pairs : List Bool) (slot layer offset :
         (cases_eq (pair_slot k j) slot);
   }
 
-same_tests : (a b : Bool) → (a ≡ true → b ≡ true) → (b ≡ true → a ≡ true) → a ≡ b
-same_tests a b to back = ⊎_elim
-    (λ t. t ∙ sym (to t))
-    (λ f. ⊎_elim (λ u. absurd (false≢true (sym f ∙ back u))) (λ g. f ∙ sym g) (cases_Bool b))
-    (cases_Bool a)
-
 pub marked_all : (height : ℕ) (book : LookUp) (pairs : List Bool) (slot : ℕ) → IsMarking height book pairs slot
     → (k j : ℕ) → k < height → pair_slot k j < slot → has_pair pairs k j ≡ is_some (book k (2 * j))
-marked_all height book pairs slot is k j inner lt = same_tests (has_pair pairs k j) (is_some (book k (2 * j))) (is.only k j inner) (is.each k j inner lt)
+marked_all height book pairs slot is k j inner lt = same_bool (has_pair pairs k j) (is_some (book k (2 * j))) (is.only k j inner) (is.each k j inner lt)
 
 -- ---- what is marked of a file that was scanned
 
@@ -174,25 +170,22 @@ pair_bounds d k j valid inner covers =
 abbrev pub IsMarked : Descriptor → LookUp → List Bool → Type 0
 IsMarked d book pairs = (k j : ℕ) → k < height_of d → pair_slot k j < 2 * chunks_of d → has_pair pairs k j ≡ is_some (book k (2 * j))
 
-pub some_is : {X : Type 0} (o : Option X) (x : X) → o ≡ Some x → is_some o ≡ true
-some_is o x e = ap (λ p. is_some p) e
-
-pub peaks_of : (d : Descriptor) (book : LookUp) → has_peaks book (chunks_of d) 21 ≡ true → HasPeaks d book
-peaks_of d book all k low odd = is_some_of (book k (above k (chunks_of d) - 1)) (peak_in book (chunks_of d) 21 k all low odd)
+pub peaks_of : (d : Descriptor) (book : LookUp) → has_peaks book (chunks_of d) ≡ true → HasPeaks d book
+peaks_of d book all k low odd = value_of (book k (above k (chunks_of d) - 1)) (peak_in book (chunks_of d) 21 k all low odd)
 
 -- a chunk that is held has its pairs
 pub marked_pairs : (d : Descriptor) (book : LookUp) (pairs : List Bool) (i : ℕ) → IsDescriptor d → IsRooted d book → IsMarked d book pairs → i < chunks_of d
-    → is_some (book 0 i) ≡ true → has_peaks book (chunks_of d) 21 ≡ true → HasItsPairs d pairs i
+    → is_some (book 0 i) ≡ true → has_peaks book (chunks_of d) ≡ true → HasItsPairs d pairs i
 marked_pairs d book pairs i valid rooted marked within leaf all = record {
   way = λ k inner.
       let (left, right, joined) = way_joined d book i k rooted leaf inner in
       let some : 0 < 2 ^ suc k = pow_pos (suc k) in
       let le : above (suc k) i * 2 ^ suc k ≤ i = (let e : above (suc k) i * 2 ^ suc k ≡ i / 2 ^ suc k * 2 ^ suc k = ap (λ (a : ℕ). a * 2 ^ suc k) (above_is (suc k) i) in
       let f : i / 2 ^ suc k * 2 ^ suc k ≤ i = grind arith in omega arith) in
-      marked k (above (suc k) i) inner (slot_low d k (above (suc k) i) valid inner (omega arith)) ∙ some_is _ left joined.left_is;
+      marked k (above (suc k) i) inner (slot_low d k (above (suc k) i) valid inner (omega arith)) ∙ has_value _ left joined.left_is;
   unfilled = λ k is.
       let (left, right, joined) = unfilled_joined d book k rooted (peaks_of d book all) (low_height d valid) is in
-      marked k (above (suc k) (chunks_of d)) is.inner (slot_low d k (above (suc k) (chunks_of d)) valid is.inner is.covers) ∙ some_is _ left joined.left_is;
+      marked k (above (suc k) (chunks_of d)) is.inner (slot_low d k (above (suc k) (chunks_of d)) valid is.inner is.covers) ∙ has_value _ left joined.left_is;
 }
 
 -- a child that is known has its pair
@@ -201,7 +194,7 @@ child_from : (both : List ℕ) (j : ℕ) (o : Option (List ℕ)) (x : List ℕ) 
 child_from both j None x is = absurd cc
 child_from both j (Some digest) x is = ⊎_elim
     (λ whole.
-    let test = and_both (length both == 64) (pointwise nat_eq (sha256 both) digest) whole in
+    let test = and_parts (length both == 64) (pointwise nat_eq (sha256 both) digest) whole in
     (digest, refl, eqb-true _ _ test.0, same_text (sha256 both) digest (sym test.1)))
     (λ part. absurd (let none : child both j (Some digest) ≡ None = ap (λ (b : Bool). cond b (Some (half j both)) None) part in cc))
     (cases_Bool ((length both == 64) && pointwise nat_eq (sha256 both) digest))
@@ -215,16 +208,10 @@ has_of_slice reads place long = record {
   same = λ k lt. sym (slice_byte reads place 64 k (omega (arith, lt, long)));
 }
 
-half_even : (j i : ℕ) (both : List ℕ) → j ≡ 2 * i → half j both ≡ take 32 both
-half_even j i both e = let test : (j % 2 == 0) ≡ true = grind (arith, nat_tests) in ap (λ (b : Bool). cond b (take 32 both) (drop 32 both)) test
-
-half_odd : (j i : ℕ) (both : List ℕ) → j ≡ 2 * i + 1 → half j both ≡ drop 32 both
-half_odd j i both e = let test : (j % 2 == 0) ≡ false = grind (arith, nat_tests) in ap (λ (b : Bool). cond b (take 32 both) (drop 32 both)) test
-
 -- and stands in the file
 pub marked_stand : (d : Descriptor) (book : LookUp) (pairs : List Bool) (reads : List ℕ) → IsMarked d book pairs → length pairs ≡ 2 * chunks_of d
     → HasKnown d reads book → PairsStand d book pairs reads
-marked_stand d book pairs reads marked size known_is k j inner stored = from (is_some_of (book k (2 * j)) some)
+marked_stand d book pairs reads marked size known_is k j inner stored = from (value_of (book k (2 * j)) some)
   where
     inside : pair_slot k j < 2 * chunks_of d
     inside = ⊎_elim (λ lt. lt) (λ past. absurd (false≢true (sym (get_or_past pairs (pair_slot k j) false (omega (arith, size, past))) ∙ stored))) (cases_lt (pair_slot k j) (2 * chunks_of d))

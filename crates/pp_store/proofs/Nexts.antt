@@ -1,21 +1,17 @@
 -- A buffer of a content's next chunks.
 use Rattle.std.proofs.Common.{◌≡◌, ⊎_elim, ℕ, ◌+◌, ◌-◌, ◌*◌, ◌/◌, ◌%◌, ◌^◌, ◌<◌, ◌≤◌, List, length, take, drop, refl, sym, ◌∙◌, ap, arith}
-use Rattle.std.proofs.Math.Nat.{mul-le-mul_left}
+use Rattle.std.proofs.Math.Nat.{mul-le-mul_left, lt_of_mul-lt-mul_right}
 use Rattle.std.proofs.lemmas.Bool.{cases_lt}
 use Rattle.std.proofs.lemmas.List.{take_all, take-take, drop-take, drop-drop, length-drop, length-take}
-use Rattle.pp_terms.specs.Content.{chunk_of, chunk_count, IsChunkSize}
+use Rattle.pp_terms.specs.tree.Content.{chunk_of, chunk_count, IsChunkSize}
 use Rattle.pp_tree.proofs.Sizes.{chunk_count_holds, chunk_begins, size_of_chunk_size}
 use Rattle.pp_store.specs.Growing.{IsNext, chunks_in}
-
--- of two multiples the lower one has the lower factor
-pub below_times : (a b c : ℕ) → a * c < b * c → a < b
-below_times a b c lt = ⊎_elim (λ low. low) (λ high. absurd (let le = mul-le-mul_left c high in omega (arith, le, lt))) (cases_lt a b)
 
 -- a chunk that begins inside is counted, and the others aren't
 pub counted_below : (bytes chunk i : ℕ) → 0 < chunk → i * chunk < bytes → i < chunk_count bytes chunk
 counted_below bytes chunk i some lt =
     let held = chunk_count_holds bytes chunk some in
-    below_times i (chunk_count bytes chunk) chunk (omega (arith, held.0, lt))
+    lt_of_mul-lt-mul_right chunk {m = i} {n = chunk_count bytes chunk} (omega (arith, held.0, lt))
 
 pub counted_all : (bytes chunk i : ℕ) → 0 < chunk → bytes ≤ i * chunk → i ≤ chunk_count bytes chunk → i ≡ chunk_count bytes chunk
 counted_all bytes chunk i some le low = ⊎_elim
@@ -27,7 +23,7 @@ next_whole : (chunk i size : ℕ) → 0 < chunk → size % chunk ≡ 0 → i * c
 next_whole chunk i size some whole lt =
     let q = size / chunk in
     let is : q * chunk ≡ size = omega arith in
-    let less : i < q = below_times i q chunk (omega (arith, is, lt)) in
+    let less : i < q = lt_of_mul-lt-mul_right chunk {m = i} {n = q} (omega (arith, is, lt)) in
     let le = mul-le-mul_left chunk less in
     omega (arith, le, is)
 
@@ -64,7 +60,7 @@ next_counted chunk content count i pieces some next lt =
 pub next_low : (chunk count i size : ℕ) → count * chunk + size ≤ 2 ^ 20 * chunk → i * chunk < size → count + i < 2 ^ 20
 next_low chunk count i size room lt =
     let place : count * chunk + i * chunk ≡ (count + i) * chunk = omega arith in
-    below_times (count + i) (2 ^ 20) chunk (omega arith)
+    lt_of_mul-lt-mul_right chunk {m = count + i} {n = 2 ^ 20} (omega arith)
 
 pub few_leaves : (chunk i size : ℕ) → 256 ≤ chunk → size ≤ 65536 → i * chunk < size → i < 256
 few_leaves chunk i size large few lt =

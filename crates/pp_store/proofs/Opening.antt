@@ -6,18 +6,19 @@ use Rattle.std.proofs.lemmas.Bool.{cases_lt, false≢true, eqb-true}
 use Rattle.std.proofs.lemmas.List.{length-take, length-drop, get_or_past, take_at}
 use Rattle.sha2.specs.Sha256.{sha256}
 use Rattle.pp_terms.specs.Count.{HasRisen}
-use Rattle.pp_terms.specs.Content.{chunk_length}
-use Rattle.pp_terms.specs.Book.{LookUp}
-use Rattle.pp_terms.specs.Descriptor.{Descriptor, chunks_of, IsDescriptor}
-use Rattle.pp_terms.specs.Store.{header, chunk_place, Has}
-use Rattle.pp_terms.specs.Image.{slice, known, matches, has_peaks, holds, StandsIn}
-use Rattle.pp_terms.specs.Disk.{DiskState, History, IsImage, IsKnown, IsRead, DoesLen, MayLeaveSince, Throughout, moment_of, written}
+use Rattle.pp_terms.specs.tree.Content.{chunk_length}
+use Rattle.pp_terms.specs.tree.Book.{LookUp, has_peaks}
+use Rattle.pp_terms.specs.format.Descriptor.{Descriptor, chunks_of, IsDescriptor}
+use Rattle.pp_terms.specs.disk.Store.{header, chunk_place, Has}
+use Rattle.pp_terms.specs.disk.Image.{slice, known, matches, holds, StandsIn}
+use Rattle.pp_terms.specs.disk.Disk.{DiskState, History, IsImage, IsKnown, IsRead, DoesLen, MayLeaveSince, Throughout, moment_of, written}
 use Rattle.pp_terms.proofs.Headers.{length-header}
 use Rattle.pp_terms.proofs.Images.{written_inside, sole_image, since_now, since_settled}
+use Rattle.pp_terms.proofs.Facts.{member_below}
 use Rattle.pp_tree.specs.Book.{HasRootAlone}
 use Rattle.pp_scan.specs.declared.scanning.ScanFault.{ScanFault}
 use Rattle.pp_scan.specs.declared.scanning.ScanFault.TheVariants.{Disk}
-use Rattle.pp_scan.specs.Look.{synced}
+use Rattle.pp_scan.specs.Look.{SyncsAtMost, synced}
 use Rattle.pp_scan.specs.Header.{HasHeader}
 use Rattle.pp_scan.specs.Holding.{is_there}
 use Rattle.pp_scan.specs.Scan.{IsScanned, HasFound}
@@ -54,12 +55,9 @@ inside d reads i some long =
 held_inside : (d : Descriptor) (reads : List ℕ) (i : ℕ) → 0 < chunk_length d.size d.chunk i → holds d reads i ≡ true → 64 < length reads
 held_inside d reads i some is =
     let bytes = slice reads (chunk_place d.chunk i) (chunk_length d.size d.chunk i) in
-    let both : (has_peaks (known d reads) (chunks_of d) 21 && (length bytes == chunk_length d.size d.chunk i)) ≡ true = and_left _ (matches (known d reads 0 i) (sha256 bytes)) is in
-    let test : (length bytes == chunk_length d.size d.chunk i) ≡ true = and_right (has_peaks (known d reads) (chunks_of d) 21) _ both in
+    let both : (has_peaks (known d reads) (chunks_of d) && (length bytes == chunk_length d.size d.chunk i)) ≡ true = and_left _ (matches (known d reads 0 i) (sha256 bytes)) is in
+    let test : (length bytes == chunk_length d.size d.chunk i) ≡ true = and_right (has_peaks (known d reads) (chunks_of d)) _ both in
     let le = inside d reads i some (eqb-true _ _ test) in omega arith
-
-pub in_set : (set : List Bool) (i : ℕ) → get_or set i false ≡ true → i < length set
-in_set set i is = ⊎_elim (λ lt. lt) (λ past. absurd (false≢true (sym (get_or_past set i false past) ∙ is))) (cases_lt i (length set))
 
 pub has_header : (d : Descriptor) (reads : List ℕ) → IsDescriptor d → HasHeader d reads → 64 ≤ length reads → Has 0 (header d) reads
 has_header d reads valid begins long =
@@ -92,7 +90,7 @@ module _ (d : Descriptor) (old new : DiskState) (book : LookUp) (set : List Bool
 
   pub opened_stands : AllStand d set new.history
   opened_stands i is image since =
-      let within : i < chunks_of d = omega (arith, in_set set i is, scanned.count) in
+      let within : i < chunks_of d = omega (arith, member_below set i is, scanned.count) in
       let held : holds d old.history.reads i ≡ true = sym (scanned.held known i within) ∙ is in
       let bytes = some_bytes d i valid within in
       let long = held_inside d old.history.reads i bytes held in
@@ -161,6 +159,10 @@ goes_on_synced d old mid new whole unmoved (inr is) = λ i all image since.
     (λ before. all image before)
     (λ read. subst (λ (x : List ℕ). StandsIn d x i) (sym read) (all old.reads (inl whole)))
     (since_settled old (moment_of old) old.reads image (omega arith) (subst (λ (h : History). MayLeaveSince h (moment_of old) image) (is ∙ ap synced unmoved) since))
+
+-- at most one sync, seen from before calls that changed nothing
+pub syncs_after : (old mid new : History) → mid ≡ old → SyncsAtMost mid new → SyncsAtMost old new
+syncs_after old mid new unmoved syncs = subst (λ (h : History). SyncsAtMost h new) unmoved syncs
 
 -- of an empty file nothing stands
 pub goes_on_empty : (d : Descriptor) (old new : DiskState) (n : ℕ) {E : Type 0} (mid : DiskState) → IsDescriptor d → IsImage old.history.epoch old.history.reads

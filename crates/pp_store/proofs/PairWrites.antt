@@ -6,13 +6,13 @@ use Rattle.std.proofs.Math.ListN.{set, length-set}
 use Rattle.std.proofs.lemmas.Bool.{cases_eq, false≢true}
 use Rattle.std.proofs.lemmas.Bool.Decides.{nat_tests}
 use Rattle.std.proofs.lemmas.List.{length-append}
-use Rattle.pp_terms.specs.Content.{chunk_length}
-use Rattle.pp_terms.specs.Tree.{above}
-use Rattle.pp_terms.specs.Book.{LookUp, IsJoined, IsRooted, IsBacked}
-use Rattle.pp_terms.specs.Descriptor.{Descriptor, chunks_of, IsDescriptor}
-use Rattle.pp_terms.specs.Store.{chunk_place, pair_slot, pair_place, AreApart, Has}
-use Rattle.pp_terms.specs.Image.{slice, matches, StandsIn}
-use Rattle.pp_terms.specs.Disk.{DiskState, History, IsKnown, DoesWrite, written}
+use Rattle.pp_terms.specs.tree.Content.{chunk_length}
+use Rattle.pp_terms.specs.tree.Tree.{above}
+use Rattle.pp_terms.specs.tree.Book.{LookUp, IsJoined, IsRooted, IsBacked}
+use Rattle.pp_terms.specs.format.Descriptor.{Descriptor, chunks_of, IsDescriptor}
+use Rattle.pp_terms.specs.disk.Store.{chunk_place, pair_slot, pair_place, AreApart, Has}
+use Rattle.pp_terms.specs.disk.Image.{slice, matches, StandsIn}
+use Rattle.pp_terms.specs.disk.Disk.{DiskState, History, IsKnown, DoesWrite, written}
 use Rattle.pp_terms.proofs.Images.{has_over}
 use Rattle.pp_terms.proofs.Knowing.{known_on}
 use Rattle.pp_scan.specs.Holding.{is_there}

@@ -7,14 +7,15 @@ use Rattle.std.proofs.lemmas.Bool.Decides.{nat_tests}
 use Rattle.std.proofs.lemmas.List.{length-take, length-append, length-replicate}
 use Rattle.sha2.specs.Sha256.{sha256}
 use Rattle.sha2.proofs.Facts256.{length-sha256}
-use Rattle.pp_terms.specs.Content.{chunk_of}
-use Rattle.pp_terms.specs.Tree.{empty_hash, node, pair, leaf_of, root_of, above, height}
-use Rattle.pp_terms.specs.Store.{header, chunk_place, pair_slot, pair_place, AreApart, Has, IsPiece, the_header, a_chunk, a_pair}
-use Rattle.pp_terms.specs.Disk.{written}
+use Rattle.pp_terms.specs.tree.Content.{chunk_of}
+use Rattle.pp_terms.specs.tree.Tree.{empty_hash, node, pair, leaf_of, root_of, above, height}
+use Rattle.pp_terms.specs.disk.Store.{header, slot_size, chunk_place, pair_slot, pair_place, AreApart, Has, IsPiece, the_header, a_chunk, a_pair}
+use Rattle.pp_terms.specs.disk.Disk.{written}
 use Rattle.pp_terms.proofs.Headers.{length-header}
 use Rattle.pp_terms.proofs.Heights.{height_is}
 use Rattle.pp_terms.proofs.Images.{length-written, written_inside, written_outside}
-use Rattle.pp_tree.proofs.Halving.{doubled, above_is}
+use Rattle.pp_terms.proofs.Nodes.{length-node}
+use Rattle.pp_terms.proofs.Peaks.{doubled, above_is}
 use Rattle.pp_tree.proofs.BinNumbers.{same_odd}
 use Rattle.pp_tree.proofs.Sizes.{chunk_count_range, chunk_size_range}
 use Rattle.pp_store.specs.Imported.{imported}
@@ -35,21 +36,6 @@ has_elsewhere old place at bytes kept apart has = record {
       ∙ has.same k lt;
 }
 
--- a node's digest has 32 bytes
-pub length-digest : (leaf : ℕ → List ℕ) (n k j : ℕ) → ((i : ℕ) → length (leaf i) ≡ 32) → length (node leaf n k j) ≡ 32
-unfolding node empty_hash
-length-digest leaf n zero j long = elim (nat_lt j n) as (λ b. length (cond b (leaf j) empty_hash) ≡ 32)
-    [ true ↦ long j | false ↦ length-replicate {A = ℕ} 32 0 ]
-length-digest leaf n (suc k) j long = elim (nat_lt (j * 2 ^ suc k) n)
-    as (λ b. length (cond b (sha256 (node leaf n k (2 * j) ++ node leaf n k (2 * j + 1))) empty_hash) ≡ 32)
-    [ true ↦ length-sha256 (node leaf n k (2 * j) ++ node leaf n k (2 * j + 1)) | false ↦ length-replicate {A = ℕ} 32 0 ]
-
--- a node that covers no chunk
-pub node_empty : (leaf : ℕ → List ℕ) (n k j : ℕ) → n ≤ j * 2 ^ k → node leaf n k j ≡ empty_hash
-unfolding node
-node_empty leaf n zero j le = let test : nat_lt j n ≡ false = grind (arith, nat_tests) in rw test refl
-node_empty leaf n (suc k) j le = let test : nat_lt (j * 2 ^ suc k) n ≡ false = grind (arith, nat_tests) in rw test refl
-
 -- the slot of a pair, as an odd number and a power of two
 pub slot_is : (k j : ℕ) → pair_slot k j + 1 ≡ 2 ^ k * (2 * j + 1)
 slot_is k j =
@@ -63,7 +49,7 @@ same_slot k l j i e = same_odd k l j i (omega (arith, slot_is k j, slot_is l i))
 -- the range lies in slot s
 pub record IsInSlot (chunk place size s : ℕ) : Type 0 where
   pub from : chunk_place chunk s ≤ place
-  pub to : place + size ≤ chunk_place chunk s + (chunk + 64)
+  pub to : place + size ≤ chunk_place chunk s + slot_size chunk
 
 slot_order : (w s t : ℕ) → s < t → s * w + w ≤ t * w
 slot_order w s t lt = let le : suc s * w ≤ t * w = grind arith in omega arith
@@ -71,9 +57,9 @@ slot_order w s t lt = let le : suc s * w ≤ t * w = grind arith in omega arith
 pub slots_apart : (chunk place size other size' s t : ℕ) → (s ≡ t → ⊥) → IsInSlot chunk place size s → IsInSlot chunk other size' t
     → AreApart place size other size'
 slots_apart chunk place size other size' s t differ one two = ⊎_elim
-    (λ low. inl (let le = slot_order (chunk + 64) s t low in omega (arith, one.to, two.from)))
+    (λ low. inl (let le = slot_order (slot_size chunk) s t low in omega (arith, one.to, two.from)))
     (λ high. inr (let lt : t < s = (⊎_elim (λ e. absurd (differ e)) (λ ne. omega arith) (cases_eq s t)) in
-    let le = slot_order (chunk + 64) t s lt in omega (arith, one.from, two.to)))
+    let le = slot_order (slot_size chunk) t s lt in omega (arith, one.from, two.to)))
     (cases_lt s t)
 
 module _ (chunk : ℕ) (content : List ℕ) (fits : IsContent chunk content) where
@@ -84,14 +70,14 @@ module _ (chunk : ℕ) (content : List ℕ) (fits : IsContent chunk content) whe
   count_range = chunk_count_range (length content) chunk some_chunk fits.content_size
 
   pub length-root : length (root_of content chunk) ≡ 32
-  length-root = length-digest (leaf_of content chunk) (chunks_in chunk content) (height (chunks_in chunk content)) 0 (λ i. length-sha256 (chunk_of content chunk i))
+  length-root = length-node (leaf_of content chunk) (chunks_in chunk content) (height (chunks_in chunk content)) 0 (λ i. length-sha256 (chunk_of content chunk i))
 
   pub header-64 : length (header (imported content chunk)) ≡ 64
   header-64 = length-header (imported content chunk) length-root
 
   pub pair-64 : (k j : ℕ) → length (pair (leaf_of content chunk) (chunks_in chunk content) k j) ≡ 64
   pair-64 k j =
-      let long : (i : ℕ) → length (digest_of chunk content k i) ≡ 32 = λ i. length-digest (leaf_of content chunk) (chunks_in chunk content) k i (λ l. length-sha256 (chunk_of content chunk l)) in
+      let long : (i : ℕ) → length (digest_of chunk content k i) ≡ 32 = λ i. length-node (leaf_of content chunk) (chunks_in chunk content) k i (λ l. length-sha256 (chunk_of content chunk l)) in
       length-append (digest_of chunk content k (2 * j)) (digest_of chunk content k (2 * j + 1)) ∙ omega (arith, long (2 * j), long (2 * j + 1))
 
   chunk_in : (i : ℕ) → IsInSlot chunk (chunk_place chunk i) (length (chunk_of content chunk i)) i

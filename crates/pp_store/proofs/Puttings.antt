@@ -2,17 +2,18 @@
 use Rattle.std.proofs.Common.{◌≡◌, ◌⊎◌, inl, inr, ⊎_elim, ℕ, ◌-◌, ◌<◌, Bool, true, false, Option, Some, None, List, get_or, Result, Ok, Err, refl, sym, ◌∙◌, ap, subst, arith, get_or-set_other}
 use Rattle.std.specs.Prelude.{◌||◌, ◌&&◌, OnErr, IfOk, IsOk, is_some}
 use Rattle.std.proofs.Math.ListN.{set, length-set}
-use Rattle.std.proofs.lemmas.Bool.{cases_eq, false≢true}
+use Rattle.std.proofs.lemmas.Bool.{cases_eq, false≢true, and_parts}
 use Rattle.sha2.specs.Sha256.{sha256}
 use Rattle.pp_terms.specs.Count.{HasCause}
-use Rattle.pp_terms.specs.Content.{chunk_length}
-use Rattle.pp_terms.specs.Book.{LookUp, IsRooted, IsBacked}
-use Rattle.pp_terms.specs.Descriptor.{Descriptor, chunks_of, IsDescriptor}
-use Rattle.pp_terms.specs.Store.{chunk_place}
-use Rattle.pp_terms.specs.Image.{slice, has_peaks, matches}
-use Rattle.pp_terms.specs.Disk.{DiskState, IsKnown}
-use Rattle.pp_terms.specs.Tree.{above}
-use Rattle.pp_terms.specs.Proves.{first_absent}
+use Rattle.pp_terms.specs.tree.Content.{chunk_length}
+use Rattle.pp_terms.specs.tree.Book.{LookUp, IsRooted, IsBacked, has_peaks}
+use Rattle.pp_terms.specs.format.Descriptor.{Descriptor, chunks_of, IsDescriptor}
+use Rattle.pp_terms.specs.disk.Store.{chunk_place}
+use Rattle.pp_terms.specs.disk.Image.{slice, matches}
+use Rattle.pp_terms.specs.disk.Disk.{DiskState, IsKnown}
+use Rattle.pp_terms.specs.tree.Tree.{above}
+use Rattle.pp_terms.specs.tree.Proves.{first_absent}
+use Rattle.pp_terms.proofs.Facts.{member_below, value_of}
 use Rattle.pp_paths.specs.Judge.{KeepsEntries}
 use Rattle.pp_paths.proofs.PeakNodes.{peak_known}
 use Rattle.pp_scan.specs.Header.{HasHeader}
@@ -25,8 +26,7 @@ use Rattle.pp_store.specs.Pairs.{HasItsPairs, PairsStand, GoesOnSince, PutsChunk
 use Rattle.pp_store.specs.Store.{StoreState, IsSized, in_either, is_held, AgreesWith, HoldsAll, KnowsHeld, after_put}
 use Rattle.pp_store.proofs.KnownPairs.{stands_there}
 use Rattle.pp_store.proofs.PairWrites.{has_on}
-use Rattle.pp_store.proofs.Opening.{in_set}
-use Rattle.pp_store.proofs.Surviving.{and_both, is_some_of, peak_in, peaks_in}
+use Rattle.pp_store.proofs.Surviving.{peak_in, peaks_in}
 
 -- ---- the sets
 
@@ -45,8 +45,8 @@ held_other committed pending i l absent held e = false≢true (sym absent ∙ ap
 
 pub held_within : (d : Descriptor) (committed pending pairs : List Bool) (l : ℕ) → IsSized d committed pending pairs → in_either committed pending l ≡ true → l < chunks_of d
 held_within d committed pending pairs l sized held = ⊎_elim
-    (λ one. omega (arith, in_set committed l one, sized.committed_size))
-    (λ two. omega (arith, in_set pending l two, sized.pending_size))
+    (λ one. omega (arith, member_below committed l one, sized.committed_size))
+    (λ two. omega (arith, member_below pending l two, sized.pending_size))
     (either_case (get_or committed l false) (get_or pending l false) held)
 
 module _ (d : Descriptor) (committed pending pairs pairs' : List Bool) (book : LookUp) (i : ℕ) (old new : DiskState)
@@ -152,11 +152,11 @@ there_grown d old new reads l keeps there = from (old 0 l) refl
 
     from : (o : Option (List ℕ)) → old 0 l ≡ o → is_there d reads new l ≡ true
     from None none =
-        let both = and_both _ (matches (old 0 l) (sha256 bytes)) there in
+        let both = and_parts _ (matches (old 0 l) (sha256 bytes)) there in
         absurd (false≢true (ap (λ (o : Option (List ℕ)). matches o (sha256 bytes)) (sym none) ∙ both.1))
     from (Some x) at =
         let same : new 0 l ≡ old 0 l = keeps 0 l x at ∙ sym at in
-        let both = and_both _ (matches (old 0 l) (sha256 bytes)) there in
+        let both = and_parts _ (matches (old 0 l) (sha256 bytes)) there in
         (λ t. both.0 t && matches (same t) (sha256 bytes)) ∙ both.1
 
 pub agrees_grown : (s : StoreState) (old new : LookUp) (reads : List ℕ) → KeepsEntries old new → AgreesWith s old reads → AgreesWith s new reads
@@ -181,18 +181,18 @@ holds_all s book reads valid rooted sized supported agrees l held =
 
 -- ---- what the book knows of held chunks
 
-peaks_grown : (old new : LookUp) (n : ℕ) → KeepsEntries old new → has_peaks old n 21 ≡ true → has_peaks new n 21 ≡ true
+peaks_grown : (old new : LookUp) (n : ℕ) → KeepsEntries old new → has_peaks old n ≡ true → has_peaks new n ≡ true
 peaks_grown old new n keeps all = peaks_in new n 21 (λ k low odd.
-    let (x, at) = is_some_of (old k (above k n - 1)) (peak_in old n 21 k all low odd) in
+    let (x, at) = value_of (old k (above k n - 1)) (peak_in old n 21 k all low odd) in
     ap (λ (o : Option (List ℕ)). is_some o) (keeps k (above k n - 1) x at))
 
-peaks_all : (book : LookUp) (n : ℕ) → first_absent book n ≡ None → has_peaks book n 21 ≡ true
+peaks_all : (book : LookUp) (n : ℕ) → first_absent book n ≡ None → has_peaks book n ≡ true
 peaks_all book n all = peaks_in book n 21 (λ k low odd.
     let (x, at) = peak_known book n k all low odd in ap (λ (o : Option (List ℕ)). is_some o) at)
 
 pub knows_grown : (s : StoreState) (old new : LookUp) → KeepsEntries old new → KnowsHeld s old → KnowsHeld s new
 knows_grown s old new keeps knows = record {
-  leaf = λ i held. let (x, at) = is_some_of (old 0 i) (knows.leaf i held) in ap (λ (o : Option (List ℕ)). is_some o) (keeps 0 i x at);
+  leaf = λ i held. let (x, at) = value_of (old 0 i) (knows.leaf i held) in ap (λ (o : Option (List ℕ)). is_some o) (keeps 0 i x at);
   peaks = λ i held. peaks_grown old new (chunks_of s.descriptor) keeps (knows.peaks i held);
 }
 

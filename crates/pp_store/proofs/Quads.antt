@@ -3,7 +3,7 @@ use Rattle.std.proofs.Common.{◌≡◌, ℕ, ◌+◌, ◌*◌, ◌<◌, ◌≤�
 use Rattle.std.specs.Prelude.{slice_index_or, slice_set}
 use Rattle.std.proofs.lemmas.List.{drop-drop, get_or-set_same, get_or-set_other}
 use Rattle.sha2.specs.Sha256.{sha256}
-use Rattle.pp_terms.specs.Content.{chunk_of}
+use Rattle.pp_terms.specs.tree.Content.{chunk_of}
 use Rattle.pp_store.specs.Leaves.{HasLeaves}
 
 -- a piece behind i chunks is a chunk

@@ -11,18 +11,20 @@ use Rattle.std.proofs.lemmas.Grind.{same_number_lists}
 use Rattle.std.proofs.lemmas.List.{places, length-take, length-drop, take_at, drop_at}
 use Rattle.sha2.specs.Sha256.{sha256}
 use Rattle.sha2.proofs.Facts256.{length-sha256}
-use Rattle.pp_terms.specs.Content.{chunk_of, chunk_length}
-use Rattle.pp_terms.specs.Tree.{pair, leaf_of, above}
-use Rattle.pp_terms.specs.Descriptor.{Descriptor, chunks_of, height_of}
-use Rattle.pp_terms.specs.Store.{header, chunk_place, pair_place, Has, IsStoreOf, the_header, a_chunk, a_pair}
-use Rattle.pp_terms.specs.Image.{slice, half, child, known, known_below, has_peaks, matches, holds, StandsIn}
+use Rattle.pp_terms.specs.tree.Content.{chunk_of, chunk_length}
+use Rattle.pp_terms.specs.tree.Tree.{pair, leaf_of, above}
+use Rattle.pp_terms.specs.format.Descriptor.{Descriptor, chunks_of, height_of}
+use Rattle.pp_terms.specs.disk.Store.{header, chunk_place, pair_place, Has, IsStoreOf, the_header, a_chunk, a_pair}
+use Rattle.pp_terms.specs.disk.Image.{slice, half, child, known, known_below, matches, holds, StandsIn}
+use Rattle.pp_terms.specs.tree.Book.{has_peaks_below}
 use Rattle.pp_terms.proofs.Heights.{height_is}
-use Rattle.pp_tree.proofs.Halving.{doubled, above_is}
+use Rattle.pp_terms.proofs.Nodes.{length-node}
+use Rattle.pp_terms.proofs.Peaks.{doubled, above_is}
 use Rattle.pp_tree.proofs.Clashes.{node_is, leaf_is}
 use Rattle.pp_scan.proofs.Children.{child_known}
 use Rattle.pp_store.specs.Imported.{imported}
 use Rattle.pp_store.specs.Growing.{IsContent, chunks_in, digest_of}
-use Rattle.pp_store.proofs.Pieces.{length-digest, pair-64, count_range}
+use Rattle.pp_store.proofs.Pieces.{pair-64, count_range}
 
 -- bytes that stand at a place are the image's bytes there
 pub has_slice : (place : ℕ) (bytes image : List ℕ) → Has place bytes image → slice image place (length bytes) ≡ bytes
@@ -47,7 +49,7 @@ module _ (chunk : ℕ) (content image : List ℕ) (fits : IsContent chunk conten
   covers_all = let range = count_range chunk content fits in (height_is n range.0 range.1).covers
 
   digest_long : (k j : ℕ) → length (digest_of chunk content k j) ≡ 32
-  digest_long k j = length-digest (leaf_of content chunk) n k j (λ i. length-sha256 (chunk_of content chunk i))
+  digest_long k j = length-node (leaf_of content chunk) n k j (λ i. length-sha256 (chunk_of content chunk i))
 
   -- a node that covers a chunk is known with its digest
   covering : (m l j : ℕ) → l + m ≡ height_of d → j * 2 ^ l < n → known_below d image m j ≡ Some (digest_of chunk content l j)
@@ -92,7 +94,7 @@ module _ (chunk : ℕ) (content image : List ℕ) (fits : IsContent chunk conten
       ap (λ (b : Bool). cond {A = Option (List ℕ)} b (known_below d image (height_of d - k) j) None) test ∙ covering (height_of d - k) k j (omega arith) under
 
   -- every peak is known
-  all_peaks : (k : ℕ) → has_peaks (known d image) n k ≡ true
+  all_peaks : (k : ℕ) → has_peaks_below (known d image) n k ≡ true
   all_peaks zero = refl
   all_peaks (suc k) =
       let one : (above k n % 2 == 0 || is_some (known d image k (above k n - 1))) ≡ true = ⊎_elim
@@ -109,7 +111,7 @@ module _ (chunk : ℕ) (content image : List ℕ) (fits : IsContent chunk conten
       let low : k ≤ height_of d = ⊎_elim (λ high. absurd (let up : 2 ^ suc (height_of d) ≤ 2 ^ k = pow_mono high in omega (arith, covers_all, doubled (height_of d), pow_pos (height_of d)))) (λ l. l) (cases_lt (height_of d) k) in
       ap (λ (b : Bool). b || is_some (known d image k (above k n - 1))) t ∙ ap (λ (o : Option (List ℕ)). is_some o) (known_covering k (above k n - 1) low under))
       (cases_eq (above k n % 2) 0) in
-      ap (λ (b : Bool). b && has_peaks (known d image) n k) one ∙ all_peaks k
+      ap (λ (b : Bool). b && has_peaks_below (known d image) n k) one ∙ all_peaks k
 
   pub stands : (i : ℕ) → i < chunks_of d → StandsIn d image i
   stands i within =

@@ -2,9 +2,9 @@
 use Rattle.std.proofs.Common.{◌≡◌, inl, inr, ⊎_elim, ℕ, suc, ◌+◌, ◌<◌, ◌≤◌, List, [], length, get_or, refl, sym, ◌∙◌, ap, subst, arith}
 use Rattle.std.proofs.lemmas.Grind.{same_number_lists}
 use Rattle.std.proofs.lemmas.Bool.{cases_eq, cases_lt}
-use Rattle.pp_terms.specs.Descriptor.{Descriptor}
-use Rattle.pp_terms.specs.Store.{header, Has, IsStoreOf, IsNoStore, IsPiece, the_header, a_chunk, a_pair}
-use Rattle.pp_terms.specs.Disk.{Epoch, History, IsImage, IsRefusedWrite, MayLeaveSince, Throughout, moment_of, written, pends, after_write}
+use Rattle.pp_terms.specs.format.Descriptor.{Descriptor}
+use Rattle.pp_terms.specs.disk.Store.{header, Has, IsStoreOf, IsNoStore, IsPiece, the_header, a_chunk, a_pair}
+use Rattle.pp_terms.specs.disk.Disk.{Epoch, History, IsImage, IsRefusedWrite, MayLeaveSince, Throughout, moment_of, written, pends, after_write}
 use Rattle.pp_terms.proofs.Images.{length-written, written_outside, written_inside, sole_image, since_now, since_settled, moment-settled}
 use Rattle.pp_store.specs.Keep.{kept, SameAttachment}
 use Rattle.pp_store.specs.Behind.{IsBehind}
@@ -38,14 +38,14 @@ along old next new is same = subst (SameAttachment old) (sym is) same
 
 refused_along : (old mid new : History) (place : ℕ) (bytes : List ℕ) → SameAttachment old mid → IsRefusedWrite mid place bytes new → SameAttachment old new
 refused_along old mid new place bytes same (inl is) = along old mid new is same
-refused_along old mid new place bytes same (inr torn) = along old _ new torn.2 (record { start = same.start; first = same.first; found = same.found })
+refused_along old mid new place bytes same (inr torn) = along old _ new torn.2 (record { start = same.start; first = same.first; found = same.found; names = same.names })
 
 pub attachment_left : (d : Descriptor) (old walked new : History) → SameAttachment old walked → Leaves d walked new → SameAttachment old new
 attachment_left d old walked _ same (unsynced new is) = along old walked new is same
 attachment_left d old walked _ same (header_refused new refused) =
-    refused_along old (synced walked) new 0 (header d) (record { start = same.start; first = same.first; found = same.found }) refused
-attachment_left d old walked _ same (header_unsynced new is) = along old (after_write (synced walked) 0 (header d)) new is (record { start = same.start; first = same.first; found = same.found })
-attachment_left d old walked _ same (sealed new is) = along old (kept (synced walked) 0 (header d)) new is (record { start = same.start; first = same.first; found = same.found })
+    refused_along old (synced walked) new 0 (header d) (record { start = same.start; first = same.first; found = same.found; names = same.names }) refused
+attachment_left d old walked _ same (header_unsynced new is) = along old (after_write (synced walked) 0 (header d)) new is (record { start = same.start; first = same.first; found = same.found; names = same.names })
+attachment_left d old walked _ same (sealed new is) = along old (kept (synced walked) 0 (header d)) new is (record { start = same.start; first = same.first; found = same.found; names = same.names })
 
 module _ (chunk : ℕ) (content : List ℕ) (reads : List ℕ) (built : IsBuilt chunk content reads) where
   abbrev d : Descriptor

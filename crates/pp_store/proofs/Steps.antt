@@ -1,9 +1,9 @@
 -- A sync, and then the header is kept.
 use Rattle.std.proofs.Common.{◌≡◌, ⊎_elim, ℕ, ◌<◌, List, Result, Ok, Err, ◌∙◌, subst, arith}
 use Rattle.pp_terms.specs.Count.{HasCause}
-use Rattle.pp_terms.specs.Descriptor.{Descriptor}
-use Rattle.pp_terms.specs.Store.{header}
-use Rattle.pp_terms.specs.Disk.{DiskState, History, IsKnown, IsRefusedWrite, DoesSync, after_write}
+use Rattle.pp_terms.specs.format.Descriptor.{Descriptor}
+use Rattle.pp_terms.specs.disk.Store.{header}
+use Rattle.pp_terms.specs.disk.Disk.{DiskState, History, IsKnown, IsRefusedWrite, DoesSync, after_write}
 use Rattle.pp_terms.proofs.Knowing.{known_on}
 use Rattle.pp_store.specs.Keep.{DoesKeep, kept}
 use Rattle.pp_scan.specs.Look.{synced}

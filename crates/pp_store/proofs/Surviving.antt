@@ -2,24 +2,25 @@
 use Rattle.std.proofs.Common.{◌≡◌, ◌⊎◌, inl, inr, ⊎_elim, ℕ, zero, suc, ◌+◌, ◌-◌, ◌*◌, ◌/◌, ◌%◌, ◌^◌, ◌<◌, ◌≤◌, ◌==◌, nat_eq, nat_le, Bool, true, false, cond, Option, Some, None, List, length, get_or, take, drop, Result, Ok, Err, refl, sym, ◌∙◌, ap, subst, arith}
 use Rattle.std.specs.Prelude.{◌&&◌, ◌||◌, is_some}
 use Rattle.std.specs.Cmp.Lexicographic.{pointwise}
-use Rattle.std.proofs.lemmas.Bool.{cases_lt, cases_eq, cases_Bool, eqb-true, false≢true}
+use Rattle.std.proofs.lemmas.Bool.{cases_lt, cases_eq, cases_Bool, eqb-true, false≢true, and_parts}
 use Rattle.std.proofs.lemmas.Bool.Decides.{nat_tests}
 use Rattle.std.proofs.lemmas.Grind.{same_number_lists}
 use Rattle.std.proofs.lemmas.List.{places, length-take, length-drop}
 use Rattle.std.proofs.Math.Nat.{mul-le-mul_left}
 use Rattle.std.proofs.lemmas.Nat.{pow_pos}
 use Rattle.sha2.specs.Sha256.{sha256}
-use Rattle.pp_terms.specs.Content.{chunk_length}
-use Rattle.pp_terms.specs.Tree.{above}
-use Rattle.pp_terms.specs.Book.{LookUp}
-use Rattle.pp_terms.specs.Descriptor.{Descriptor, chunks_of, height_of, IsDescriptor}
-use Rattle.pp_terms.specs.Store.{header, chunk_place, pair_place, AreApart, Has}
-use Rattle.pp_terms.specs.Image.{slice, half, child, known, known_below, has_peaks, matches, StandsIn}
-use Rattle.pp_terms.specs.Disk.{DiskState, History, IsKnown, IsOver, DoesWrite, Throughout, written, pends}
+use Rattle.pp_terms.specs.tree.Content.{chunk_length}
+use Rattle.pp_terms.specs.tree.Tree.{above}
+use Rattle.pp_terms.specs.tree.Book.{LookUp, has_peaks, has_peaks_below}
+use Rattle.pp_terms.specs.format.Descriptor.{Descriptor, chunks_of, height_of, IsDescriptor}
+use Rattle.pp_terms.specs.disk.Store.{header, chunk_place, pair_place, AreApart, Has}
+use Rattle.pp_terms.specs.disk.Image.{slice, half, child, known, known_below, matches, StandsIn}
+use Rattle.pp_terms.specs.disk.Disk.{DiskState, History, IsKnown, IsOver, DoesWrite, Throughout, written, pends}
 use Rattle.pp_terms.proofs.Headers.{length-header}
 use Rattle.pp_terms.proofs.Heights.{height_is}
 use Rattle.pp_terms.proofs.Images.{length-written, written_outside, throughout_write, has_over}
-use Rattle.pp_tree.proofs.Halving.{doubled, above_is}
+use Rattle.pp_terms.proofs.Facts.{value_of}
+use Rattle.pp_terms.proofs.Peaks.{doubled, above_is}
 use Rattle.pp_tree.proofs.Sizes.{chunk_size_range, chunk_count_range}
 use Rattle.pp_paths.proofs.PeakNodes.{layer_within}
 use Rattle.pp_scan.specs.Holding.{is_there}
@@ -86,16 +87,12 @@ slice_over place size at n under image apart over inside =
     byte : (bytes : List ℕ) (k : ℕ) → k < n → get_or (take n (drop at bytes)) k 0 ≡ get_or bytes (at + k) 0
     byte bytes k lt = grind (arith, places)
 
--- of both tests of a pair of them
-pub and_both : (a b : Bool) → (a && b) ≡ true → (a ≡ true) × (b ≡ true)
-and_both a b e = elim a as (λ v. (v && b) ≡ true → (v ≡ true) × (b ≡ true)) [ true ↦ λ h. (refl, h) | false ↦ λ h. absurd (false≢true h) ] e
-
 pub there_over : (d : Descriptor) (book : LookUp) (i place size : ℕ) (under image : List ℕ) → 0 < chunk_length d.size d.chunk i
     → AreApart (chunk_place d.chunk i) (chunk_length d.size d.chunk i) place size → IsOver place size under image
     → is_there d under book i ≡ true → is_there d image book i ≡ true
 there_over d book i place size under image some apart over there =
     let want = chunk_length d.size d.chunk i in
-    let both = and_both (length (slice under (chunk_place d.chunk i) want) == want) _ there in
+    let both = and_parts (length (slice under (chunk_place d.chunk i) want) == want) _ there in
     let long : length (slice under (chunk_place d.chunk i) want) ≡ want = eqb-true _ _ both.0 in
     let same = slice_over place size (chunk_place d.chunk i) want under image apart over (slice_inside under (chunk_place d.chunk i) want some long) in
     ap (λ (bytes : List ℕ). (length bytes == want) && matches (book 0 i) (sha256 bytes)) same ∙ there
@@ -161,7 +158,7 @@ known_pair_over d place size k j under image (Some digest) x apart over is =
     let both = slice under (pair_place d.chunk k (j / 2)) 64 in
     ⊎_elim
     (λ whole.
-    let test = and_both (length both == 64) (pointwise nat_eq (sha256 both) digest) whole in
+    let test = and_parts (length both == 64) (pointwise nat_eq (sha256 both) digest) whole in
     let inside = slice_inside under (pair_place d.chunk k (j / 2)) 64 (omega arith) (eqb-true _ _ test.0) in
     ap (λ (bytes : List ℕ). child bytes j (Some digest)) (slice_over place size (pair_place d.chunk k (j / 2)) 64 under image apart over inside) ∙ is)
     (λ part. absurd (let none : child both j (Some digest) ≡ None = ap (λ (b : Bool). cond b (Some (half j both)) None) part in cc))
@@ -198,14 +195,10 @@ known_at d image k j low =
 
 -- ---- peaks
 
-pub is_some_of : {X : Type 0} (o : Option X) → is_some o ≡ true → (x : X) × (o ≡ Some x)
-is_some_of None e = absurd (false≢true e)
-is_some_of (Some x) e = (x, refl)
-
-pub peak_in : (book : LookUp) (n m k : ℕ) → has_peaks book n m ≡ true → k < m → above k n % 2 ≡ 1 → is_some (book k (above k n - 1)) ≡ true
+pub peak_in : (book : LookUp) (n m k : ℕ) → has_peaks_below book n m ≡ true → k < m → above k n % 2 ≡ 1 → is_some (book k (above k n - 1)) ≡ true
 peak_in book n zero k all lt odd = absurd (omega arith)
 peak_in book n (suc m) k all lt odd =
-    let both = and_both (above m n % 2 == 0 || is_some (book m (above m n - 1))) (has_peaks book n m) all in
+    let both = and_parts (above m n % 2 == 0 || is_some (book m (above m n - 1))) (has_peaks_below book n m) all in
     ⊎_elim
     (λ below. peak_in book n m k both.1 below odd)
     (λ last.
@@ -216,16 +209,16 @@ peak_in book n (suc m) k all lt odd =
     ap (λ (l : ℕ). is_some (book l (above l n - 1))) (sym e) ∙ here)
     (cases_lt k m)
 
-pub peaks_in : (book : LookUp) (n m : ℕ) → ((k : ℕ) → k < m → above k n % 2 ≡ 1 → is_some (book k (above k n - 1)) ≡ true) → has_peaks book n m ≡ true
+pub peaks_in : (book : LookUp) (n m : ℕ) → ((k : ℕ) → k < m → above k n % 2 ≡ 1 → is_some (book k (above k n - 1)) ≡ true) → has_peaks_below book n m ≡ true
 peaks_in book n zero each = refl
 peaks_in book n (suc m) each =
-    let rest : has_peaks book n m ≡ true = peaks_in book n m (λ k lt. each k (omega arith)) in
+    let rest : has_peaks_below book n m ≡ true = peaks_in book n m (λ k lt. each k (omega arith)) in
     let one : (above m n % 2 == 0 || is_some (book m (above m n - 1))) ≡ true = ⊎_elim
     (λ even. let test : (above m n % 2 == 0) ≡ true = grind (arith, nat_tests) in ap (λ (b : Bool). b || is_some (book m (above m n - 1))) test)
     (λ odd. let test : (above m n % 2 == 0) ≡ false = grind (arith, nat_tests) in
     ap (λ (b : Bool). b || is_some (book m (above m n - 1))) test ∙ each m (omega arith) (omega arith))
     (cases_eq (above m n % 2) 0) in
-    ap (λ (b : Bool). b && has_peaks book n m) one ∙ rest
+    ap (λ (b : Bool). b && has_peaks_below book n m) one ∙ rest
 
 -- ---- a chunk that stands
 
@@ -256,12 +249,12 @@ pub stands_over : (d : Descriptor) (i place size : ℕ) (under image : List ℕ)
 stands_over d i place size under image valid clear over stands =
     let want = chunk_length d.size d.chunk i in
     let bytes = slice under (chunk_place d.chunk i) want in
-    let tests = and_both (has_peaks (known d under) (chunks_of d) 21 && (length bytes == want)) (matches (known d under 0 i) (sha256 bytes)) (sym (sym stands.held)) in
-    let front = and_both (has_peaks (known d under) (chunks_of d) 21) (length bytes == want) tests.0 in
+    let tests = and_parts (has_peaks (known d under) (chunks_of d) && (length bytes == want)) (matches (known d under 0 i) (sha256 bytes)) (sym (sym stands.held)) in
+    let front = and_parts (has_peaks (known d under) (chunks_of d)) (length bytes == want) tests.0 in
     let some = some_bytes d i valid stands.within in
     let same : slice image (chunk_place d.chunk i) want ≡ bytes =
     slice_over place size (chunk_place d.chunk i) want under image clear.chunk over (slice_inside under (chunk_place d.chunk i) want some (eqb-true _ _ front.1)) in
-    let peaks : has_peaks (known d image) (chunks_of d) 21 ≡ true = peaks_in (known d image) (chunks_of d) 21 (λ k lt odd.
+    let peaks : has_peaks (known d image) (chunks_of d) ≡ true = peaks_in (known d image) (chunks_of d) 21 (λ k lt odd.
     let low = peak_low d k valid odd in
     let up : AllUp (λ l j. AreApart (pair_place d.chunk l j) 64 place size) (height_of d - k) k (above k (chunks_of d) - 1) =
     up_peak d (λ l j. AreApart (pair_place d.chunk l j) 64 place size) (height_of d - k) k (omega arith) odd clear.unfilled in
@@ -278,7 +271,7 @@ stands_over d i place size under image valid clear over stands =
     kept : (k j : ℕ) → k ≤ height_of d → AllUp (λ l m. AreApart (pair_place d.chunk l m) 64 place size) (height_of d - k) k j
         → is_some (known d under k j) ≡ true → is_some (known d image k j) ≡ true
     kept k j low up some =
-        let (x, at) = is_some_of (known d under k j) some in
+        let (x, at) = value_of (known d under k j) some in
         let here : known_below d under (height_of d - k) j ≡ Some x = sym (known_at d under k j low) ∙ at in
         ap (λ (o : Option (List ℕ)). is_some o)
         (known_at d image k j low ∙ known_below_over d place size under image (height_of d - k) k j x (omega arith) up over here)

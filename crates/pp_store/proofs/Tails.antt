@@ -5,16 +5,17 @@ use Rattle.std.proofs.lemmas.Nat.{pow_pos}
 use Rattle.std.proofs.lemmas.Bool.{cases_lt}
 use Rattle.std.proofs.Math.Pow.{pow_mono}
 use Rattle.sha2.specs.Sha256.{sha256}
-use Rattle.pp_terms.specs.Tree.{empty_hash, pair, leaf_of, root_of, above, height, IsHeight}
-use Rattle.pp_terms.specs.Store.{pair_slot, pair_place, a_chunk, a_pair}
-use Rattle.pp_terms.specs.Disk.{DiskState, IsKnown, written}
+use Rattle.pp_terms.specs.tree.Tree.{empty_hash, pair, leaf_of, root_of, above, height, IsHeight}
+use Rattle.pp_terms.specs.disk.Store.{pair_slot, pair_place, a_chunk, a_pair}
+use Rattle.pp_terms.specs.disk.Disk.{DiskState, IsKnown, written}
 use Rattle.pp_terms.proofs.Heights.{height_is, height_of_least}
-use Rattle.pp_tree.proofs.Halving.{doubled, above_is}
+use Rattle.pp_terms.proofs.Nodes.{node_empty}
+use Rattle.pp_terms.proofs.Peaks.{doubled, above_is}
 use Rattle.pp_tree.proofs.Clashes.{node_is}
 use Rattle.pp_store.specs.Behind.{DoesPut}
 use Rattle.pp_store.specs.Growing.{IsContent, IsPartial, IsTail, IsStoredTail, IsTailing, IsBuilt, chunks_in, digest_of, HasPair}
 use Rattle.pp_store.proofs.Writings.{put_reads}
-use Rattle.pp_store.proofs.Pieces.{has_written, piece_kept, staged_more, pair_low, slot_is, node_empty, count_range}
+use Rattle.pp_store.proofs.Pieces.{has_written, piece_kept, staged_more, pair_low, slot_is, count_range}
 use Rattle.pp_store.proofs.Carrying.{layer_low}
 
 pub tail_first : (count : ℕ) → IsTail count 0 count 1

@@ -1,14 +1,14 @@
 -- Calls of a disk one after the other, of which none syncs.
 use Rattle.std.proofs.Common.{◌≡◌, inl, inr, ℕ, ◌<◌, ◌≤◌, List, Result, Ok, Err, refl, sym, ◌∙◌, ap, subst, arith}
 use Rattle.pp_terms.specs.Count.{HasCause}
-use Rattle.pp_terms.specs.Disk.{DiskState, History, IsKnown, IsRefusedWrite, DoesWrite, written, after_write}
+use Rattle.pp_terms.specs.disk.Disk.{DiskState, History, IsKnown, IsRefusedWrite, DoesWrite, written, after_write}
 use Rattle.pp_terms.proofs.Knowing.{known_on}
 use Rattle.pp_terms.proofs.Images.{written_outside}
 use Rattle.pp_store.specs.Keep.{KeepsDisk}
 use Rattle.pp_store.specs.Behind.{IsBehind, KeepsBehind, DoesBehind, DoesPut}
 
 pub behind_same : (h : History) → IsBehind h h
-behind_same h = record { past = refl; attachment = record { start = refl; first = refl; found = refl }; header = λ k lt. refl }
+behind_same h = record { past = refl; attachment = record { start = refl; first = refl; found = refl; names = refl }; header = λ k lt. refl }
 
 pub behind_more : (old mid new : History) → IsBehind old mid → IsBehind mid new → IsBehind old new
 behind_more old mid new one two = record {
@@ -17,6 +17,7 @@ behind_more old mid new one two = record {
     start = two.attachment.start ∙ one.attachment.start;
     first = two.attachment.first ∙ one.attachment.first;
     found = two.attachment.found ∙ one.attachment.found;
+    names = two.attachment.names ∙ one.attachment.names;
   };
   header = λ k lt. two.header k lt ∙ one.header k lt;
 }
@@ -78,7 +79,7 @@ known_back old new keeps known = known_on new old (sym keeps.tells) (sym keeps.h
 written_behind : (old : History) (place : ℕ) (bytes : List ℕ) → 64 ≤ place → IsBehind old (after_write old place bytes)
 written_behind old place bytes far = record {
   past = refl;
-  attachment = record { start = refl; first = refl; found = refl };
+  attachment = record { start = refl; first = refl; found = refl; names = refl };
   header = λ k lt. written_outside old.reads place bytes k (λ w. omega (arith, w.0));
 }
 
@@ -86,7 +87,7 @@ refused_behind : (old : History) (place : ℕ) (bytes : List ℕ) (new : History
 refused_behind old place bytes new far (inl same) = subst (λ (h : History). IsBehind old h) (sym same) (behind_same old)
 refused_behind old place bytes new far (inr (torn, is, same)) = subst (λ (h : History). IsBehind old h) (sym same) (record {
   past = refl;
-  attachment = record { start = refl; first = refl; found = refl };
+  attachment = record { start = refl; first = refl; found = refl; names = refl };
   header = λ k lt. is.outside k (λ w. omega (arith, w.0));
 })
 

@@ -5,11 +5,11 @@ use Rattle.std.proofs.Math.ListN.{set}
 use Rattle.std.proofs.lemmas.Bool.{cases_Bool, false≢true}
 use Rattle.std.proofs.lemmas.Bool.Decides.{nat_tests}
 use Rattle.std.proofs.lemmas.List.{map-append}
-use Rattle.pp_terms.specs.Tree.{above}
-use Rattle.pp_terms.specs.Book.{LookUp, IsJoined}
-use Rattle.pp_terms.specs.Descriptor.{Descriptor, chunks_of, IsDescriptor}
-use Rattle.pp_terms.specs.Store.{chunk_place, pair_slot, pair_place}
-use Rattle.pp_terms.specs.Disk.{DiskState, History, IsKnown, Write, DoesWrite, after_write}
+use Rattle.pp_terms.specs.tree.Tree.{above}
+use Rattle.pp_terms.specs.tree.Book.{LookUp, IsJoined}
+use Rattle.pp_terms.specs.format.Descriptor.{Descriptor, chunks_of, IsDescriptor}
+use Rattle.pp_terms.specs.disk.Store.{chunk_place, pair_slot, pair_place}
+use Rattle.pp_terms.specs.disk.Disk.{DiskState, History, IsKnown, Write, DoesWrite, after_write}
 use Rattle.pp_terms.proofs.Knowing.{known_on}
 use Rattle.pp_store.specs.Behind.{KeepsBehind}
 use Rattle.pp_store.specs.Pairs.{has_pair}

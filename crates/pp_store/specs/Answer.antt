@@ -1,9 +1,9 @@
 -- What a store answers to bytes that came as a chunk, and what its book has afterwards (RFC 7574, sections 5.3 and 5.6).
 use Rattle.std.specs.Prelude.{ℕ, ◌==◌, Bool, true, false, cond, List, length}
 use Rattle.sha2.specs.Sha256.{sha256}
-use Rattle.pp_terms.specs.Content.{chunk_length}
-use Rattle.pp_terms.specs.Book.{LookUp}
-use Rattle.pp_terms.specs.Descriptor.{Descriptor, chunks_of, height_of}
+use Rattle.pp_terms.specs.tree.Content.{chunk_length}
+use Rattle.pp_terms.specs.tree.Book.{LookUp}
+use Rattle.pp_terms.specs.format.Descriptor.{Descriptor, chunks_of, height_of}
 use Rattle.pp_tree.specs.declared.node.Node.{Node}
 use Rattle.pp_paths.specs.declared.judging.Verdict as verdict
 use Rattle.pp_paths.specs.declared.judging.Verdict.TheVariants as judged_as

@@ -1,7 +1,7 @@
 -- Writes behind the header of a store, before a sync.
 use Rattle.std.specs.Prelude.{◌≡◌, ℕ, ◌<◌, ◌≤◌, List, slice_index, Result, OnOk}
 use Rattle.pp_terms.specs.Count.{HasCause}
-use Rattle.pp_terms.specs.Disk.{DiskState, History, IsKnown, moment_of, written}
+use Rattle.pp_terms.specs.disk.Disk.{DiskState, History, IsKnown, moment_of, written}
 use Rattle.pp_store.specs.Keep.{SameAttachment}
 
 -- Nothing but writes behind the header was done, and refused ones among them.

@@ -1,9 +1,9 @@
 -- A content's store while an import writes it, a chunk after the other, with the pairs that come to be known.
 use Rattle.std.specs.Prelude.{◌≡◌, ◌⊎◌, ℕ, suc, ◌+◌, ◌-◌, ◌*◌, ◌%◌, ◌^◌, ◌<◌, ◌≤◌, List, [], length, take, drop, slice_index, slice_index_or}
-use Rattle.pp_terms.specs.Content.{chunk_of, chunk_count, IsChunkSize, IsContentSize}
-use Rattle.pp_terms.specs.Tree.{node, pair, leaf_of, above, height}
-use Rattle.pp_terms.specs.Store.{chunk_place, pair_place, IsWithin, Has, IsPiece}
-use Rattle.pp_terms.specs.Disk.{DiskState, IsKnown}
+use Rattle.pp_terms.specs.tree.Content.{chunk_of, chunk_count, IsChunkSize, IsContentSize}
+use Rattle.pp_terms.specs.tree.Tree.{node, pair, leaf_of, above, height}
+use Rattle.pp_terms.specs.disk.Store.{chunk_place, pair_place, IsWithin, Has, IsPiece}
+use Rattle.pp_terms.specs.disk.Disk.{DiskState, IsKnown}
 use Rattle.pp_store.specs.Imported.{imported}
 
 -- A content that can be imported.

@@ -1,11 +1,11 @@
 -- What an import does to a source and to a disk.
 use Rattle.std.specs.Prelude.{◌≡◌, ◌⊎◌, ℕ, ◌+◌, ◌*◌, ◌^◌, ◌<◌, ◌≤◌, min, Some, Ok, Err, List, [], length, drop, Result}
 use Rattle.pp_terms.specs.Count.{HasRisen}
-use Rattle.pp_terms.specs.Content.{IsContentSize}
-use Rattle.pp_terms.specs.Descriptor.{Descriptor}
-use Rattle.pp_terms.specs.Store.{header, Has, IsStoreOf, IsNoStore}
-use Rattle.pp_terms.specs.Disk.{DiskState, History, IsKnown, Throughout, moment_of}
-use Rattle.pp_terms.specs.Stream.{SourceState}
+use Rattle.pp_terms.specs.tree.Content.{IsContentSize}
+use Rattle.pp_terms.specs.format.Descriptor.{Descriptor}
+use Rattle.pp_terms.specs.disk.Store.{header, Has, IsStoreOf, IsNoStore}
+use Rattle.pp_terms.specs.disk.Disk.{DiskState, History, IsKnown, Throughout, moment_of}
+use Rattle.pp_terms.specs.command.Stream.{SourceState}
 use Rattle.pp_store.specs.declared.importing.ImportFault.{ImportFault}
 use Rattle.pp_store.specs.declared.importing.ImportFault.TheVariants.{NotEmpty, ContentSize, Source, Disk}
 use Rattle.pp_store.specs.Keep.{KeepsDisk}

@@ -1,7 +1,7 @@
 -- What a write and then a sync do to a disk.
 use Rattle.std.specs.Prelude.{◌≡◌, ◌⊎◌, ℕ, ◌≤◌, List, Result, OnOk, OnErr}
 use Rattle.pp_terms.specs.Count.{HasCause}
-use Rattle.pp_terms.specs.Disk.{DiskState, History, IsKnown, IsRefusedWrite, moment_of, written, after_write, settled}
+use Rattle.pp_terms.specs.disk.Disk.{DiskState, History, IsKnown, IsRefusedWrite, moment_of, written, after_write, settled}
 
 -- These bytes were written at this place, and all that was written is on the disk.
 abbrev pub kept : History → ℕ → List ℕ → History
@@ -17,11 +17,12 @@ pub record DoesKeep {E : Type 0} (old : DiskState) (place : ℕ) (bytes : List �
   pub cause : HasCause old.faults new.faults result
   pub hard_cause : HasCause old.hard new.hard result
 
--- the last attachment is the same
+-- the last attachment is the same, and there was no other
 pub record SameAttachment (old new : History) : Type 0 where
   pub start : new.start ≡ old.start
   pub first : new.first ≡ old.first
   pub found : new.found ≡ old.found
+  pub names : new.names ≡ old.names
 
 -- What every import keeps, whatever it answers.
 pub record KeepsDisk (old new : DiskState) : Type 0 where

@@ -1,8 +1,8 @@
 -- A law of stores, which a function of this crate states.
 use Rattle.std.specs.Prelude.{ℕ, ◌<◌, List}
-use Rattle.pp_terms.specs.Descriptor.{chunks_of}
-use Rattle.pp_terms.specs.Store.{IsStoreOf}
-use Rattle.pp_terms.specs.Image.{StandsIn}
+use Rattle.pp_terms.specs.format.Descriptor.{chunks_of}
+use Rattle.pp_terms.specs.disk.Store.{IsStoreOf}
+use Rattle.pp_terms.specs.disk.Image.{StandsIn}
 use Rattle.pp_store.specs.Imported.{imported}
 use Rattle.pp_store.specs.Growing.{IsContent}
 

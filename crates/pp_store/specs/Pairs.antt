@@ -1,12 +1,12 @@
 -- The pairs of digests that a store keeps behind its chunks, and which of them a chunk needs.
 use Rattle.std.specs.Prelude.{◌≡◌, ℕ, suc, ◌*◌, ◌^◌, ◌<◌, ◌≤◌, Bool, true, false, List, ◌++◌, length, slice_index_or, is_some}
-use Rattle.pp_terms.specs.Content.{chunk_length}
-use Rattle.pp_terms.specs.Tree.{above}
-use Rattle.pp_terms.specs.Book.{LookUp, IsJoined}
-use Rattle.pp_terms.specs.Descriptor.{Descriptor, chunks_of, height_of}
-use Rattle.pp_terms.specs.Store.{pair_slot, pair_place, Has}
-use Rattle.pp_terms.specs.Image.{StandsIn}
-use Rattle.pp_terms.specs.Disk.{DiskState, History, IsKnown, Throughout, moment_of}
+use Rattle.pp_terms.specs.tree.Content.{chunk_length}
+use Rattle.pp_terms.specs.tree.Tree.{above}
+use Rattle.pp_terms.specs.tree.Book.{LookUp, IsJoined}
+use Rattle.pp_terms.specs.format.Descriptor.{Descriptor, chunks_of, height_of}
+use Rattle.pp_terms.specs.disk.Store.{pair_slot, pair_place, Has}
+use Rattle.pp_terms.specs.disk.Image.{StandsIn}
+use Rattle.pp_terms.specs.disk.Disk.{DiskState, History, IsKnown, Throughout, moment_of}
 use Rattle.pp_scan.specs.Holding.{is_there}
 use Rattle.pp_store.specs.Behind.{KeepsBehind}
 

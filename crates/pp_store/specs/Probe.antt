@@ -1,8 +1,8 @@
 -- What a disk's file is found to be.
 use Rattle.std.specs.Prelude.{◌≡◌, ℕ, ◌<◌, Ok, Err, List, [], length, Result}
 use Rattle.pp_terms.specs.Count.{HasRisen}
-use Rattle.pp_terms.specs.Descriptor.{Descriptor}
-use Rattle.pp_terms.specs.Disk.{DiskState, IsKnown}
+use Rattle.pp_terms.specs.format.Descriptor.{Descriptor}
+use Rattle.pp_terms.specs.disk.Disk.{DiskState, IsKnown}
 use Rattle.pp_scan.specs.Header.{HasHeader}
 use Rattle.pp_scan.specs.Scan.{IsOther}
 use Rattle.pp_store.specs.declared.findings.Probe.{Probe}

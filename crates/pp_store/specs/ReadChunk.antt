@@ -2,11 +2,11 @@
 use Rattle.std.specs.Prelude.{◌≡◌, ℕ, Ok, Err, Some, List, take, Result}
 use Rattle.sha2.specs.Sha256.{sha256}
 use Rattle.pp_terms.specs.Count.{HasRisen}
-use Rattle.pp_terms.specs.Content.{chunk_length}
-use Rattle.pp_terms.specs.Book.{LookUp}
-use Rattle.pp_terms.specs.Descriptor.{Descriptor}
-use Rattle.pp_terms.specs.Disk.{DiskState, IsKnown, IsRead}
-use Rattle.pp_terms.specs.Store.{chunk_place}
+use Rattle.pp_terms.specs.tree.Content.{chunk_length}
+use Rattle.pp_terms.specs.tree.Book.{LookUp}
+use Rattle.pp_terms.specs.format.Descriptor.{Descriptor}
+use Rattle.pp_terms.specs.disk.Disk.{DiskState, IsKnown, IsRead}
+use Rattle.pp_terms.specs.disk.Store.{chunk_place}
 use Rattle.pp_store.specs.declared.reading.ReadFault.{ReadFault}
 use Rattle.pp_store.specs.declared.reading.ReadFault.TheVariants.{Disk, Absent, Damaged}
 

@@ -1,9 +1,9 @@
 -- The end of an import: what was written is synced, then the header is written and synced.
 use Rattle.std.specs.Prelude.{◌≡◌, ◌≤◌, Result, OnOk}
 use Rattle.pp_terms.specs.Count.{HasCause}
-use Rattle.pp_terms.specs.Descriptor.{Descriptor}
-use Rattle.pp_terms.specs.Store.{header}
-use Rattle.pp_terms.specs.Disk.{DiskState, History, IsKnown, IsRefusedWrite, moment_of, after_write}
+use Rattle.pp_terms.specs.format.Descriptor.{Descriptor}
+use Rattle.pp_terms.specs.disk.Store.{header}
+use Rattle.pp_terms.specs.disk.Disk.{DiskState, History, IsKnown, IsRefusedWrite, moment_of, after_write}
 use Rattle.pp_scan.specs.Look.{synced}
 use Rattle.pp_store.specs.Keep.{kept}
 

@@ -1,10 +1,10 @@
 -- What is meant by an open store.
 use Rattle.std.specs.Prelude.{◌≡◌, ℕ, ◌*◌, ◌<◌, ◌||◌, Bool, true, false, List, [], length, replicate, slice_index_or, slice_set, is_some}
-use Rattle.pp_terms.specs.Book.{LookUp}
-use Rattle.pp_terms.specs.Descriptor.{Descriptor, chunks_of}
-use Rattle.pp_terms.specs.Store.{header}
-use Rattle.pp_terms.specs.Image.{has_peaks, StandsIn}
-use Rattle.pp_terms.specs.Disk.{History, Throughout, moment_of}
+use Rattle.pp_terms.specs.tree.Book.{LookUp, has_peaks}
+use Rattle.pp_terms.specs.format.Descriptor.{Descriptor, chunks_of}
+use Rattle.pp_terms.specs.disk.Store.{header}
+use Rattle.pp_terms.specs.disk.Image.{StandsIn}
+use Rattle.pp_terms.specs.disk.Disk.{History, Throughout, moment_of}
 use Rattle.pp_scan.specs.Look.{synced}
 use Rattle.pp_scan.specs.Header.{HasHeader}
 use Rattle.pp_scan.specs.Holding.{is_there}
@@ -79,4 +79,4 @@ pub record HasCommitted (old new : StoreState) : Type 0 where
 -- The book has the leaf of each chunk that is committed or pending, and all peaks where there is one.
 pub record KnowsHeld (s : StoreState) (book : LookUp) : Type 0 where
   pub leaf : (i : ℕ) → is_held s i ≡ true → is_some (book 0 i) ≡ true
-  pub peaks : (i : ℕ) → is_held s i ≡ true → has_peaks book (chunks_of s.descriptor) 21 ≡ true
+  pub peaks : (i : ℕ) → is_held s i ≡ true → has_peaks book (chunks_of s.descriptor) ≡ true

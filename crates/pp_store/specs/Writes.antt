@@ -1,10 +1,10 @@
 -- What a put writes, in its order.
 use Rattle.std.specs.Prelude.{◌≡◌, ℕ, zero, suc, ◌+◌, ◌*◌, ◌^◌, nat_lt, Bool, true, cond, unwrap_or, map, List, [], ◌∷◌, ◌++◌, slice_set}
-use Rattle.pp_terms.specs.Tree.{above}
-use Rattle.pp_terms.specs.Book.{LookUp}
-use Rattle.pp_terms.specs.Descriptor.{Descriptor, chunks_of, height_of}
-use Rattle.pp_terms.specs.Store.{chunk_place, pair_slot, pair_place}
-use Rattle.pp_terms.specs.Disk.{DiskState, History, IsKnown, Write, after_write}
+use Rattle.pp_terms.specs.tree.Tree.{above}
+use Rattle.pp_terms.specs.tree.Book.{LookUp}
+use Rattle.pp_terms.specs.format.Descriptor.{Descriptor, chunks_of, height_of}
+use Rattle.pp_terms.specs.disk.Store.{chunk_place, pair_slot, pair_place}
+use Rattle.pp_terms.specs.disk.Disk.{DiskState, History, IsKnown, Write, after_write}
 use Rattle.pp_store.specs.Pairs.{has_pair}
 
 -- these writes, one after the other

@@ -1,12 +1,12 @@
 // Chunks that peers send are admitted by their digests.
 ghost use Rattle.std.specs.Prelude.{◌≡◌, ℕ, ◌<◌, None};
 ghost use Rattle.sha2.specs.Sha256.{sha256};
-ghost use Rattle.pp_terms.specs.Book.{IsRooted, IsBacked};
-ghost use Rattle.pp_terms.specs.Descriptor as terms;
-ghost use Rattle.pp_terms.specs.Descriptor.{chunks_of, height_of, IsDescriptor};
-ghost use Rattle.pp_terms.specs.Proves.{first_absent};
+ghost use Rattle.pp_terms.specs.tree.Book.{IsRooted, IsBacked};
+ghost use Rattle.pp_terms.specs.format.Descriptor as terms;
+ghost use Rattle.pp_terms.specs.format.Descriptor.{chunks_of, height_of, IsDescriptor};
+ghost use Rattle.pp_terms.specs.tree.Proves.{first_absent};
 ghost use Rattle.pp_tree.specs.Book.{entry};
-ghost use Rattle.pp_paths.specs.Claims.{claimed};
+ghost use Rattle.pp_terms.specs.tree.Claims.{latest};
 ghost use Rattle.pp_paths.specs.Climb.{path};
 ghost use Rattle.pp_paths.specs.Judge.{judged, KeepsEntries};
 ghost use Rattle.pp_store.specs.Answer.{admitted, learned, by_verdict, with_path};
@@ -48,14 +48,14 @@ pub(crate) fn admit(
     requires within { i < chunks_of descriptor.now }
     requires rooted { IsRooted descriptor.now (entry book.old) }
 
-    ensures answer { result ≡ admitted descriptor.now (entry book.old) (claimed claims.now) i chunk.now }
-    ensures learned { (k j : ℕ) → entry book.new k j ≡ learned descriptor.now (entry book.old) (claimed claims.now) i chunk.now k j }
+    ensures answer { result ≡ admitted descriptor.now (entry book.old) (latest claims.now) i chunk.now }
+    ensures learned { (k j : ℕ) → entry book.new k j ≡ learned descriptor.now (entry book.old) (latest claims.now) i chunk.now k j }
     ensures backed { result ≡ Put.Stored → IsBacked descriptor.now (entry book.new) i chunk.now }
     ensures peaks { result ≡ Put.Stored → first_absent (entry book.new) (chunks_of descriptor.now) ≡ None }
 
     ensures kept { KeepsEntries (entry book.old) (entry book.new) }
     ensures rooted { (d : terms.Descriptor) → IsRooted d (entry book.old) → IsRooted d (entry book.new) }
-    ensures chunks { book.new.chunks ≡ book.old.chunks }
+    ensures descriptor { book.new.descriptor ≡ book.old.descriptor }
     ensures valid { IsDescriptor descriptor.now }
 {
     let want = descriptor.chunk_len(i);
@@ -86,15 +86,15 @@ fn admit_judged(
     requires rooted { IsRooted descriptor.now (entry book.old) }
     requires peaks { first_absent (entry book.old) (chunks_of descriptor.now) ≡ None }
 
-    ensures answer { result ≡ by_verdict (judged descriptor.now (entry book.old) (claimed claims.now) i chunk.now) }
-    ensures learned { (k j : ℕ) → entry book.new k j ≡ with_path (judged descriptor.now (entry book.old) (claimed claims.now) i chunk.now)
-        (entry book.old) (path (claimed claims.now) (height_of descriptor.now) 0 i (sha256 chunk.now)) k j }
+    ensures answer { result ≡ by_verdict (judged descriptor.now (entry book.old) (latest claims.now) i chunk.now) }
+    ensures learned { (k j : ℕ) → entry book.new k j ≡ with_path (judged descriptor.now (entry book.old) (latest claims.now) i chunk.now)
+        (entry book.old) (path (latest claims.now) (height_of descriptor.now) 0 i (sha256 chunk.now)) k j }
     ensures backed { result ≡ Put.Stored → IsBacked descriptor.now (entry book.new) i chunk.now }
     ensures peaks { first_absent (entry book.new) (chunks_of descriptor.now) ≡ None }
 
     ensures kept { KeepsEntries (entry book.old) (entry book.new) }
     ensures rooted { (d : terms.Descriptor) → IsRooted d (entry book.old) → IsRooted d (entry book.new) }
-    ensures chunks { book.new.chunks ≡ book.old.chunks }
+    ensures descriptor { book.new.descriptor ≡ book.old.descriptor }
 {
     match judge(book, claims, descriptor, i, chunk) {
         Verdict::Fits => {

@@ -1,10 +1,10 @@
 // The hash tree of a content whose chunks come one after the other, while they are stored.
 ghost use Rattle.std.specs.Prelude.{◌≡◌, ℕ, ◌+◌, ◌-◌, ◌*◌, ◌/◌, ◌^◌, ◌<◌, ◌≤◌, ◌++◌, List, length, slice_index_or, [], OnOk, IfOk};
 ghost use Rattle.sha2.specs.Sha256.{sha256};
-ghost use Rattle.pp_terms.specs.Content.{chunk_of, chunk_count, IsChunkSize};
-ghost use Rattle.pp_terms.specs.Tree.{root_of};
-ghost use Rattle.pp_terms.specs.Disk.{IsKnown, DoesWrite};
-ghost use Rattle.pp_terms.specs.Store.{chunk_place};
+ghost use Rattle.pp_terms.specs.tree.Content.{chunk_of, chunk_count, IsChunkSize};
+ghost use Rattle.pp_terms.specs.tree.Tree.{root_of};
+ghost use Rattle.pp_terms.specs.disk.Disk.{IsKnown, DoesWrite};
+ghost use Rattle.pp_terms.specs.disk.Store.{chunk_place};
 ghost use Rattle.pp_store.specs.Behind.{DoesBehind, DoesPut};
 ghost use Rattle.pp_store.specs.Growing.{IsPartial, IsCarrying, IsTail, IsTailing, IsBuilt, IsNext, chunks_in};
 

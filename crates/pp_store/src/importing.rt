@@ -1,10 +1,10 @@
 // A content becomes a store.
 ghost use Rattle.std.specs.Prelude.{◌≡◌, ◌↔◌, ℕ, ◌+◌, ◌*◌, ◌^◌, ◌<◌, ◌≤◌, min, Some, [], List, length, drop, IsTrue, OnOk, IfOk, IfErr};
 ghost use Rattle.pp_terms.specs.Count.{HasCause};
-ghost use Rattle.pp_terms.specs.Content.{chunk_count, IsChunkSize, IsContentSize};
-ghost use Rattle.pp_terms.specs.Tree.{root_of};
-ghost use Rattle.pp_terms.specs.Store.{IsNoStore, IsStoreOf};
-ghost use Rattle.pp_terms.specs.Disk.{IsKnown, Throughout, moment_of};
+ghost use Rattle.pp_terms.specs.tree.Content.{chunk_count, IsChunkSize, IsContentSize};
+ghost use Rattle.pp_terms.specs.tree.Tree.{root_of};
+ghost use Rattle.pp_terms.specs.disk.Store.{IsNoStore, IsStoreOf};
+ghost use Rattle.pp_terms.specs.disk.Disk.{IsKnown, Throughout, moment_of};
 ghost use Rattle.pp_store.specs.Keep.{KeepsDisk};
 ghost use Rattle.pp_store.specs.Behind.{KeepsBehind};
 ghost use Rattle.pp_store.specs.Imported.{imported};

@@ -1,18 +1,18 @@
 // A store that is open.
-ghost use Rattle.std.specs.Prelude.{◌≡◌, ◌↔◌, ℕ, ◌^◌, ◌<◌, ◌≤◌, true, false, None, Ok, Err, List, length, replicate, drop, count_by, is_some, slice_index_or, IsOk, OnOk, OnErr, IfOk, IfErr};
+ghost use Rattle.std.specs.Prelude.{◌≡◌, ◌↔◌, ℕ, ◌^◌, ◌<◌, ◌≤◌, true, false, None, Some, Ok, Err, List, length, replicate, drop, count_by, is_some, slice_index_or, IsOk, OnOk, OnErr, IfOk, IfErr};
 ghost use Rattle.std.specs.Result.{result_map_both};
 ghost use Rattle.pp_terms.specs.Count.{HasCause, HasRisen};
-ghost use Rattle.pp_terms.specs.Content.{chunk_length};
-ghost use Rattle.pp_terms.specs.Book.{LookUp, IsRooted, IsBacked};
-ghost use Rattle.pp_terms.specs.Descriptor.{chunks_of, IsDescriptor};
-ghost use Rattle.pp_terms.specs.Store.{header};
-ghost use Rattle.pp_terms.specs.Disk.{IsKnown, MayLeave, Throughout, moment_of};
-ghost use Rattle.pp_terms.specs.Image.{StandsIn};
-ghost use Rattle.pp_terms.specs.Proves.{first_absent};
-ghost use Rattle.pp_tree.specs.Book.{entry, HasRootAlone};
-ghost use Rattle.pp_paths.specs.Claims.{claimed};
+ghost use Rattle.pp_terms.specs.tree.Content.{chunk_length};
+ghost use Rattle.pp_terms.specs.tree.Book.{LookUp, IsRooted, IsBacked};
+ghost use Rattle.pp_terms.specs.format.Descriptor.{chunks_of, IsDescriptor};
+ghost use Rattle.pp_terms.specs.disk.Store.{header};
+ghost use Rattle.pp_terms.specs.disk.Disk.{IsKnown, MayLeave, Throughout, moment_of};
+ghost use Rattle.pp_terms.specs.disk.Image.{StandsIn};
+ghost use Rattle.pp_terms.specs.tree.Proves.{first_absent};
+ghost use Rattle.pp_tree.specs.Book.{entry, IsBookOf, HasRootAlone};
+ghost use Rattle.pp_terms.specs.tree.Claims.{latest};
 ghost use Rattle.pp_paths.specs.Judge.{KeepsEntries};
-ghost use Rattle.pp_scan.specs.Look.{KeepsAll, synced};
+ghost use Rattle.pp_scan.specs.Look.{KeepsAll, SyncsAtMost, synced};
 ghost use Rattle.pp_scan.specs.Header.{HasHeader};
 ghost use Rattle.pp_scan.specs.Layers.{HasOnlyKnown};
 ghost use Rattle.pp_scan.specs.Holding.{is_there};
@@ -44,18 +44,19 @@ pub(crate) fn open_file<D: Disk>(
     set: ChunkSet,
 ) -> Result<ChunkSet, ScanFault>
     requires alone { HasRootAlone descriptor.now (entry book.old) }
-    requires chunks { book.old.chunks ≡ chunks_of descriptor.now }
+    requires descriptor { book.old.descriptor ≡ Some descriptor.now }
     requires none { set ≡ replicate (chunks_of descriptor.now) false }
     requires valid { IsDescriptor descriptor.now }
 
     ensures found { HasFound ⊥ descriptor.now (D.state disk.old) (D.state disk.new) (entry book.new) result }
     ensures opened { IsKnown (D.state disk.old)
         → OnOk result (IsOpened descriptor.now (D.state disk.old).history (D.state disk.new).history) }
+    ensures unwritten { IsKnown (D.state disk.old) → 0 < length (D.state disk.old).history.reads
+        → SyncsAtMost (D.state disk.old).history (D.state disk.new).history }
     ensures goes_on { IsKnown (D.state disk.old) → GoesOn descriptor.now (D.state disk.old).history (D.state disk.new).history }
     ensures disk { KeepsDisk (D.state disk.old) (D.state disk.new) }
-    ensures rooted { IsRooted descriptor.now (entry book.new) }
+    ensures book { IsBookOf descriptor.now book.new }
     ensures only { IsKnown (D.state disk.old) → HasOnlyKnown descriptor.now (D.state disk.old).history.reads (entry book.new) }
-    ensures kept { book.new.chunks ≡ book.old.chunks }
 {
     match disk.len() {
         Ok(0) => begin(descriptor, disk, set),
@@ -132,7 +133,7 @@ impl Store {
         book: &mut Book,
     ) -> Result<Store, ScanFault>
         requires alone { HasRootAlone descriptor.now (entry book.old) }
-        requires chunks { book.old.chunks ≡ chunks_of descriptor.now }
+        requires descriptor { book.old.descriptor ≡ Some descriptor.now }
 
         // The book has leaf and peaks of each held chunk; the pairs that it has the digests of are stored.
         ensures knows { IfOk result (λ s. KnowsHeld s (entry book.new)) }
@@ -142,6 +143,9 @@ impl Store {
             (D.state disk.old) (D.state disk.new) (entry book.new) (result_map_both (λ s. s.committed) (λ fault. fault) result) }
         ensures opened { IsKnown (D.state disk.old)
             → OnOk result (IsOpened descriptor.now (D.state disk.old).history (D.state disk.new).history) }
+        // Whatever it answers, a file that isn't empty is not written to, and synced once at the most.
+        ensures unwritten { IsKnown (D.state disk.old) → 0 < length (D.state disk.old).history.reads
+            → SyncsAtMost (D.state disk.old).history (D.state disk.new).history }
         // Each image begins with the header, and each committed chunk stands in it.
         ensures begins { IsKnown (D.state disk.old)
             → OnOk result (Throughout (D.state disk.new).history (moment_of (D.state disk.new).history) (HasHeader descriptor.now)) }
@@ -158,9 +162,8 @@ impl Store {
         ensures goes_on { IsKnown (D.state disk.old) → GoesOn descriptor.now (D.state disk.old).history (D.state disk.new).history }
 
         ensures disk { KeepsDisk (D.state disk.old) (D.state disk.new) }
-        ensures rooted { IsRooted descriptor.now (entry book.new) }
+        ensures book { IsBookOf descriptor.now book.new }
         ensures only { IsKnown (D.state disk.old) → HasOnlyKnown descriptor.now (D.state disk.old).history.reads (entry book.new) }
-        ensures kept { book.new.chunks ≡ book.old.chunks }
     {
         let pending = match ChunkSet::none(alloc, descriptor.chunks()) {
             Ok(set) => set,
@@ -205,8 +208,8 @@ impl Store {
         requires rooted { IsRooted self.old.descriptor (entry book.old) }
 
         // The answer, which a refused write alone takes the place of.
-        ensures answer { IfOk result (λ put. put ≡ put_answer (is_held self.old i) self.old.descriptor (entry book.old) (claimed claims.now) i chunk.now) }
-        ensures refused { OnErr result (put_answer (is_held self.old i) self.old.descriptor (entry book.old) (claimed claims.now) i chunk.now ≡ Put.Stored) }
+        ensures answer { IfOk result (λ put. put ≡ put_answer (is_held self.old i) self.old.descriptor (entry book.old) (latest claims.now) i chunk.now) }
+        ensures refused { OnErr result (put_answer (is_held self.old i) self.old.descriptor (entry book.old) (latest claims.now) i chunk.now ≡ Put.Stored) }
         ensures hard { HasCause (D.state disk.old).hard (D.state disk.new).hard result }
         ensures cause { HasCause (D.state disk.old).faults (D.state disk.new).faults result }
 
@@ -215,11 +218,11 @@ impl Store {
         ensures dead { OnErr result (self.new ≡ record self.old { pairs = self.new.pairs; live = false }) }
         ensures descriptor { self.new.descriptor ≡ self.old.descriptor }
         ensures untouched { (result ≡ Ok Put.Stored → ⊥) → IsOk result → (self.new ≡ self.old) × (D.state disk.new ≡ D.state disk.old) }
-        ensures learned { (k j : ℕ) → entry book.new k j ≡ put_learned (is_held self.old i) self.old.descriptor (entry book.old) (claimed claims.now) i chunk.now k j }
+        ensures learned { (k j : ℕ) → entry book.new k j ≡ put_learned (is_held self.old i) self.old.descriptor (entry book.old) (latest claims.now) i chunk.now k j }
         ensures backed { result ≡ Ok Put.Stored → IsBacked self.old.descriptor (entry book.new) i chunk.now }
         ensures kept { KeepsEntries (entry book.old) (entry book.new) }
         ensures rooted { IsRooted self.old.descriptor (entry book.new) }
-        ensures chunks { book.new.chunks ≡ book.old.chunks }
+        ensures book { book.new.descriptor ≡ book.old.descriptor }
         ensures knows { KnowsHeld self.old (entry book.old) → KnowsHeld self.new (entry book.new) }
 
         // Over a disk that is honest and tells a chunk that is stored is written, and each pair that it needs and that wasn't

@@ -1,7 +1,7 @@
 // The leaf digests of a buffer of chunks.
 ghost use Rattle.std.specs.Prelude.{◌≡◌, ℕ, ◌+◌, ◌*◌, ◌<◌, ◌≤◌, ◌%◌, [], length, slice_index_or};
 ghost use Rattle.sha2.specs.Sha256.{sha256};
-ghost use Rattle.pp_terms.specs.Content.{chunk_of};
+ghost use Rattle.pp_terms.specs.tree.Content.{chunk_of};
 ghost use Rattle.pp_store.specs.Leaves.{HasLeaves};
 
 use pp_lanes::digest_four;

@@ -1,13 +1,13 @@
 // The pairs of digests that a store keeps behind its chunks.
 ghost use Rattle.std.specs.Prelude.{[], ◌∷◌, ◌≡◌, ℕ, suc, ◌+◌, ◌*◌, ◌^◌, ◌<◌, ◌≤◌, true, false, None, List, length, is_some, replicate, OnOk};
 ghost use Rattle.sha2.specs.Sha256.{sha256};
-ghost use Rattle.pp_terms.specs.Content.{chunk_length};
-ghost use Rattle.pp_terms.specs.Tree.{above};
-ghost use Rattle.pp_terms.specs.Book.{IsRooted, IsJoined, IsBacked};
-ghost use Rattle.pp_terms.specs.Descriptor.{chunks_of, height_of, IsDescriptor};
-ghost use Rattle.pp_terms.specs.Disk.{IsKnown};
-ghost use Rattle.pp_terms.specs.Proves.{first_absent};
-ghost use Rattle.pp_terms.specs.Store.{pair_slot};
+ghost use Rattle.pp_terms.specs.tree.Content.{chunk_length};
+ghost use Rattle.pp_terms.specs.tree.Tree.{above};
+ghost use Rattle.pp_terms.specs.tree.Book.{IsRooted, IsJoined, IsBacked};
+ghost use Rattle.pp_terms.specs.format.Descriptor.{chunks_of, height_of, IsDescriptor};
+ghost use Rattle.pp_terms.specs.disk.Disk.{IsKnown};
+ghost use Rattle.pp_terms.specs.tree.Proves.{first_absent};
+ghost use Rattle.pp_terms.specs.disk.Store.{pair_slot};
 ghost use Rattle.pp_tree.specs.Book.{entry};
 ghost use Rattle.pp_scan.specs.Holding.{is_there};
 ghost use Rattle.pp_store.specs.Behind.{DoesBehind};

@@ -1,6 +1,6 @@
 // Whose file a disk has.
 ghost use Rattle.std.specs.Prelude.{ℕ, ◌<◌, length};
-ghost use Rattle.pp_terms.specs.Disk.{IsKnown};
+ghost use Rattle.pp_terms.specs.disk.Disk.{IsKnown};
 ghost use Rattle.pp_scan.specs.Look.{KeepsAll};
 ghost use Rattle.pp_store.specs.Probe.{HasProbed};
 

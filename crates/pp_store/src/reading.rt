@@ -1,8 +1,8 @@
 // Chunks are read back.
 ghost use Rattle.std.specs.Prelude.{◌≡◌, ℕ, ◌≤◌, ◌<◌, true, Err, List, is_some, length, drop};
-ghost use Rattle.pp_terms.specs.Content.{chunk_length};
-ghost use Rattle.pp_terms.specs.Descriptor.{chunks_of};
-ghost use Rattle.pp_terms.specs.Disk.{IsKnown};
+ghost use Rattle.pp_terms.specs.tree.Content.{chunk_length};
+ghost use Rattle.pp_terms.specs.format.Descriptor.{chunks_of};
+ghost use Rattle.pp_terms.specs.disk.Disk.{IsKnown};
 ghost use Rattle.pp_tree.specs.Book.{entry};
 ghost use Rattle.pp_scan.specs.Look.{KeepsAll};
 ghost use Rattle.pp_scan.specs.Holding.{is_there};

@@ -1,22 +1,18 @@
 -- Options in which no difference is found.
-use Rattle.std.proofs.Common.{◌≡◌, ◌≢◌, ℕ, Bool, true, false, not, cond, eqb, List, Option, Some, None, refl, sym, ap, ◌∙◌, eq-eqb, arith}
+use Rattle.std.proofs.Common.{◌≡◌, ℕ, Bool, true, false, not, cond, List, Option, Some, None, refl, sym, ap, ◌∙◌, eq-eqb}
 use Rattle.std.specs.Prelude.{MatchOption, nat_eq, unwrap_or}
 use Rattle.std.specs.Cmp.Lexicographic.{pointwise, same_text, other_text}
-use Rattle.std.proofs.lemmas.Bool.{eqb-true, eqb-false, ltb-false, le-ltb}
-use Rattle.std.proofs.lemmas.Bool.Decides.{nat_tests}
+use Rattle.std.proofs.lemmas.Bool.{eqb-true, eqb-false, ltb-false, le-ltb, ne_eqb, not-false}
 use Rattle.pp_terms.proofs.Spellings.{pass}
-use Rattle.pp_terms.specs.Descriptor.{Descriptor, method_number}
-use Rattle.pp_terms.specs.Options.{Options}
-use Rattle.pp_terms.specs.Mismatch.{Mismatch, Agrees, is_swarm, mismatch_of, NoneDiffers}
+use Rattle.pp_terms.specs.format.Descriptor.{Descriptor, method_number}
+use Rattle.pp_terms.specs.format.Options.{Options}
+use Rattle.pp_terms.specs.format.Mismatch.{Mismatch, Agrees, is_swarm, mismatch_of, NoneDiffers}
 
 passed : (b : Bool) (x : Mismatch) (rest : Option Mismatch) → cond b (Some x) rest ≡ None → (b ≡ false) × (rest ≡ None)
 passed b x rest e = elim b as (λ v. cond v (Some x) rest ≡ None → (v ≡ false) × (rest ≡ None)) [
   | true ↦ λ h. absurd cc
   | false ↦ λ h. (refl, h)
 ] e
-
-is_false : (b : Bool) → not b ≡ false → b ≡ true
-is_false b e = elim b as (λ v. not v ≡ false → v ≡ true) [ true ↦ λ h. refl | false ↦ λ h. absurd cc ] e
 
 same_swarm : (d : Descriptor) (reply : Bool) (swarm : Option (List ℕ)) → is_swarm d reply swarm ≡ true
     → MatchOption swarm (reply ≡ true) (λ bytes. bytes ≡ d.root)
@@ -32,9 +28,6 @@ swarm_same : (d : Descriptor) (reply : Bool) (swarm : Option (List ℕ)) → Mat
 swarm_same d reply None h = h
 swarm_same d reply (Some bytes) h = text_same bytes d.root (pointwise nat_eq bytes d.root) refl h
 
-other : (a b : ℕ) → a ≢ b → eqb a b ≡ false
-other a b ne = grind (arith, nat_tests)
-
 found_none : (d : Descriptor) (reply : Bool) (o : Options) → mismatch_of d reply o ≡ None → Agrees d reply o
 unfolding mismatch_of
 found_none d reply o e =
@@ -48,17 +41,17 @@ found_none d reply o e =
     record {
       version = eqb-false _ _ a.0;
       minimum = ltb-false _ _ b.0;
-      swarm = same_swarm d reply o.swarm (is_false _ s.0);
-      integrity = eqb-true _ _ (is_false _ i.0);
-      hash = eqb-true _ _ (is_false _ h.0);
-      addressing = eqb-true _ _ (is_false _ m.0);
-      chunk = eqb-true _ _ (is_false _ c.0);
+      swarm = same_swarm d reply o.swarm (not-false _ s.0);
+      integrity = eqb-true _ _ (not-false _ i.0);
+      hash = eqb-true _ _ (not-false _ h.0);
+      addressing = eqb-true _ _ (not-false _ m.0);
+      chunk = eqb-true _ _ (not-false _ c.0);
     }
 
 none_found : (d : Descriptor) (reply : Bool) (o : Options) → Agrees d reply o → mismatch_of d reply o ≡ None
 unfolding mismatch_of
 none_found d reply o h =
-    pass _ _ (other (unwrap_or o.version 1) 0 h.version)
+    pass _ _ (ne_eqb (unwrap_or o.version 1) 0 h.version)
     ∙ pass _ _ (le-ltb 1 (unwrap_or o.minimum 1) h.minimum)
     ∙ pass _ _ (ap not (swarm_same d reply o.swarm h.swarm))
     ∙ pass _ _ (ap not (eq-eqb (unwrap_or o.integrity 1) 1 h.integrity))

@@ -3,9 +3,10 @@ use Rattle.std.proofs.Common.{◌≡◌, ℕ, zero, suc, ◌+◌, ◌*◌, ◌/�
 use Rattle.std.proofs.lemmas.Bool.{eq-eqb, ne_eqb, cases_eq}
 use Rattle.std.proofs.Math.Nat.{pow-suc, mul_assoc, add-mul}
 use Rattle.std.proofs.lemmas.Nat.{pow_pos}
-use Rattle.pp_terms.specs.Tree.{Node}
-use Rattle.pp_terms.specs.Bins.{bin_of, first_leaf, last_leaf}
-use Rattle.pp_terms.specs.Messages.{Span, IsBinSpan, only, leaves_of}
+use Rattle.pp_terms.specs.tree.Tree.{Node}
+use Rattle.pp_terms.specs.tree.Bins.{bin_of, first_leaf, last_leaf}
+use Rattle.pp_terms.specs.format.Messages.{IsBinSpan, only, leaves_of}
+use Rattle.pp_terms.specs.tree.Range.{Span}
 
 pub span_same : (s t : Span) → s.first ≡ t.first → s.last ≡ t.last → s ≡ t
 span_same s t p q =

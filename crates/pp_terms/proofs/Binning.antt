@@ -7,8 +7,8 @@ use Rattle.std.proofs.lemmas.Nat.{pow_pos, pow-add}
 use Rattle.std.proofs.lemmas.Nat.Bits.{bit_at_lowest, bit_at-suc, bit_at-trailing_ones}
 use Rattle.std.proofs.Math.Nat.{div-div-eq-div-mul, mul-le-mul_right}
 use Rattle.std.proofs.Math.Pow.{pow_mono}
-use Rattle.pp_terms.specs.Tree.{Node}
-use Rattle.pp_terms.specs.Bins.{bin_number, IsBin, bin_of, first_leaf, last_leaf, BinsAreNumbers}
+use Rattle.pp_terms.specs.tree.Tree.{Node}
+use Rattle.pp_terms.specs.tree.Bins.{bin_number, IsBin, bin_of, first_leaf, last_leaf, BinsAreNumbers}
 
 doubled : (k : ℕ) → 2 ^ suc k ≡ 2 * 2 ^ k
 doubled k = grind arith

@@ -4,10 +4,11 @@ use Rattle.std.specs.List.{AllByRecursion}
 use Rattle.std.proofs.lemmas.List.{take-append-le, drop_all, drop-append-le, take-append-drop, length-append, length-take, length-drop}
 use Rattle.std.proofs.lemmas.Bool.{cases_lt, le-ltb}
 use Rattle.std.specs.Int.{w32, from_be_bytes}
-use Rattle.pp_terms.specs.Descriptor.{Method}
-use Rattle.pp_terms.specs.Options.{IsBytes}
-use Rattle.pp_terms.specs.Messages.{Message, Handshake, Data, Ack, Have, Integrity, Pex4, PexReq, Request, Cancel, Choke, Unchoke, Pex6, IsSpelt, MayPrecede, IsFull, AtMostFull, WireKind, Step, Read, End, Cut, next_message, Messages, with_first, with_last, messages_from, messages_at, Datagram, datagram, OneByOne}
-use Rattle.pp_terms.proofs.MessageLaws.{IsBytes-drop, read_is_spelt, spelt_is_read, ended, spelt_some}
+use Rattle.pp_terms.specs.format.Descriptor.{Method}
+use Rattle.pp_terms.specs.format.Options.{IsBytes}
+use Rattle.pp_terms.specs.format.Messages.{Message, Handshake, Data, Ack, Have, Integrity, Pex4, PexReq, Request, Cancel, Choke, Unchoke, Pex6, IsSpelt, MayPrecede, IsFull, AtMostFull, WireKind, Step, Read, End, Cut, next_message, Messages, with_first, with_last, messages_from, messages_at, Datagram, datagram, OneByOne}
+use Rattle.pp_terms.proofs.MessageLaws.{read_is_spelt, spelt_is_read, ended, spelt_some}
+use Rattle.pp_terms.proofs.Spellings.{IsBytes-drop}
 
 abbrev nothing : Messages
 nothing = record { read = []; fault = None }

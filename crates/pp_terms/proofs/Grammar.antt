@@ -1,8 +1,8 @@
 -- Messages that are read are those that are spelled.
 use Rattle.std.proofs.Common.{◌≡◌, ℕ, zero, suc, ◌+◌, ◌≤◌, ◌⊎◌, Bool, true, false, cond, not, eqb, ltb, ◌&&◌, List, [], ◌∷◌, length, get_or, drop, Option, Some, None, Result, Ok, Err, refl, sym, ap, ◌∙◌, arith, inl, inr}
 use Rattle.std.proofs.lemmas.List.{length-drop}
-use Rattle.pp_terms.specs.Options.{Options, none, OptionFault, Short, Unknown, Twice, BadLength, is_known, is_given, with_option, option_of, value_length, fault_at, unless, read_from, read_options}
-use Rattle.pp_terms.specs.Messages.{place_of}
+use Rattle.pp_terms.specs.format.Options.{Options, none, OptionFault, Short, Unknown, Twice, BadLength, is_known, is_given, with_option, option_of, value_length, fault_at, unless, read_from, read_options}
+use Rattle.pp_terms.specs.format.Messages.{place_of}
 use Rattle.pp_terms.proofs.Spellings.{no_fault}
 
 -- ---- where the faults of options are

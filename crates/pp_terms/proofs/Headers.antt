@@ -1,8 +1,8 @@
 -- The header of a store.
 use Rattle.std.proofs.Common.{◌≡◌, length, get_or, replicate, refl, arith}
 use Rattle.std.proofs.lemmas.List.{length-append}
-use Rattle.pp_terms.specs.Descriptor.{Descriptor}
-use Rattle.pp_terms.specs.Store.{header}
+use Rattle.pp_terms.specs.format.Descriptor.{Descriptor}
+use Rattle.pp_terms.specs.disk.Store.{header}
 
 pub length-header : (d : Descriptor) → length d.root ≡ 32 → length (header d) ≡ 64
 unfolding header

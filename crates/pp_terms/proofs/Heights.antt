@@ -8,7 +8,7 @@ use Rattle.std.proofs.Math.Pow.{pow_mono}
 use Rattle.std.proofs.lemmas.Bool.{cases_lt}
 use Rattle.std.proofs.lemmas.Bool.Decides.{nat_tests}
 use Rattle.std.proofs.lemmas.List.Sums.{sum_by-cons}
-use Rattle.pp_terms.specs.Tree.{height, IsHeight}
+use Rattle.pp_terms.specs.tree.Tree.{height, IsHeight}
 
 -- of the numbers from s on those below h are counted
 counted : (p : ℕ → Bool) (h : ℕ) → ((k : ℕ) → k < h → p k ≡ true) → ((k : ℕ) → h ≤ k → p k ≡ false)

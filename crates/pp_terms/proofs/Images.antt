@@ -5,8 +5,8 @@ use Rattle.std.proofs.lemmas.Grind.{same_number_lists}
 use Rattle.std.proofs.lemmas.Bool.{cases_lt}
 use Rattle.std.specs.List.{range_with_len}
 use Rattle.std.proofs.lemmas.List.FromFn.{length-map-range_with_len, get_or-map-range_with_len}
-use Rattle.pp_terms.specs.Store.{IsWithin, AreApart, Has}
-use Rattle.pp_terms.specs.Disk.{Write, Epoch, History, IsPending, end_of, IsImage, WasImage, MayLeave, MayLeaveSince, Throughout, moment_of, written, pends, after_write, settled, IsOver}
+use Rattle.pp_terms.specs.disk.Store.{IsWithin, AreApart, Has}
+use Rattle.pp_terms.specs.disk.Disk.{Write, Epoch, History, IsPending, end_of, IsImage, WasImage, MayLeave, MayLeaveSince, Throughout, moment_of, written, pends, after_write, settled, IsOver}
 
 pub length-written : (old : List ℕ) (place : ℕ) (bytes : List ℕ) → length (written old place bytes) ≡ max (length old) (place + length bytes)
 length-written old place bytes = grind (arith, places)

@@ -1,4 +1,5 @@
 pub mod Images
+pub mod Untouched
 pub mod Headers
 pub mod Examples
 pub mod Knowing
@@ -9,5 +10,14 @@ pub mod Spellings
 pub mod Agreeing
 pub mod BinSpans
 pub mod Grammar
+pub mod Peaks
 pub mod MessageLaws
 pub mod DatagramLaws
+mod ClaimExamples
+mod ReportExamples
+pub mod Facts
+pub mod Nodes
+pub mod Halves
+pub mod Within
+pub mod MovedSteps
+pub mod PeakBooks

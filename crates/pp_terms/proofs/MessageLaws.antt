@@ -2,18 +2,17 @@
 use Rattle.std.proofs.Common.{◌≡◌, ◌↔◌, ℕ, suc, ◌+◌, ◌-◌, ◌^◌, ◌<◌, ◌≤◌, ◌⊎◌, Bool, true, false, cond, eqb, ltb, List, [], ◌∷◌, ◌++◌, length, take, drop, Result, Ok, Err, refl, sym, ap, subst, ◌∙◌, append_assoc, append-nil, arith, inl, inr}
 use Rattle.std.specs.Int.{Width, w16, w32, w64, byte_len, from_be_bytes, to_be_bytes}
 use Rattle.std.proofs.lemmas.Bool.{cases_lt, ltb-false, le-ltb, eqb-true, eqb-false, eq-eqb, ne_eqb}
-use Rattle.std.proofs.lemmas.List.{take_at, take_all, drop_at, drop_all, take-append-drop, length-append, length-take, length-drop, get_or-drop, get_or-take, get_or_past}
+use Rattle.std.proofs.lemmas.List.{take_at, take_all, drop_at, drop_all, take-append-drop, length-append, length-take, length-drop, get_or-take, get_or_past}
 use Rattle.std.proofs.lemmas.Nat.{be_bytes_2, be_bytes_4, be_bytes_8, from_be_bytes-to_be_bytes_2, from_be_bytes-to_be_bytes_4, from_be_bytes-to_be_bytes_8}
-use Rattle.pp_terms.specs.Descriptor.{Method, Bin32, Range32, Bin64, Range64}
-use Rattle.pp_terms.specs.Options.{Options, OptionFault, IsSpelling, read_options, IsBytes}
-use Rattle.pp_terms.specs.Messages.{Span, Message, Handshake, Data, Ack, Have, Integrity, Pex4, PexReq, Request, Cancel, Choke, Unchoke, Pex6, type_of, IsBinSpan, bin_number_of, IsNamed, spell_span, only, spell_fields, spell, IsSpelt, MayPrecede, BeginsWith, WireKind, Short, Range, Wide, ◌>>=◌, bytes_at, number_at, span_length, leaves_of, span_of_bin, span_of_range, span_in, one_chunk, options_in, handshake_at, chunk_bytes_at, data_at, ack_at, integrity_at, span_at, spanned, address_at, addressed, message_at, Step, Read, End, Cut, step_over, next_message, moved}
-use Rattle.pp_terms.proofs.Spellings.{spelled_is_read, read_is_spelled}
+use Rattle.pp_terms.specs.format.Descriptor.{Method, Bin32, Range32, Bin64, Range64}
+use Rattle.pp_terms.specs.format.Options.{Options, OptionFault, IsSpelling, read_options, IsBytes}
+use Rattle.pp_terms.specs.format.Messages.{Message, Handshake, Data, Ack, Have, Integrity, Pex4, PexReq, Request, Cancel, Choke, Unchoke, Pex6, type_of, IsBinSpan, bin_number_of, IsNamed, spell_span, only, spell_fields, spell, IsSpelt, MayPrecede, BeginsWith, WireKind, Short, Range, Wide, ◌>>=◌, bytes_at, number_at, span_length, leaves_of, span_of_bin, span_of_range, span_in, one_chunk, options_in, handshake_at, chunk_bytes_at, data_at, ack_at, integrity_at, span_at, spanned, address_at, addressed, message_at, Step, Read, End, Cut, step_over, next_message, moved}
+use Rattle.pp_terms.specs.tree.Range.{Span}
+use Rattle.pp_terms.proofs.Spellings.{spelled_is_read, read_is_spelled, IsBytes-drop}
 use Rattle.pp_terms.proofs.BinSpans.{leaves_of_bin, leaves_are, AreLeaves, span_same}
+use Rattle.pp_terms.proofs.MovedSteps.{moved_end}
 
 -- ---- numbers and bytes
-
-pub IsBytes-drop : (n : ℕ) (bytes : List ℕ) → IsBytes bytes → IsBytes (drop n bytes)
-IsBytes-drop n bytes h i = rw get_or-drop (h (n + i))
 
 pub IsBytes-take : (n : ℕ) (bytes : List ℕ) → IsBytes bytes → IsBytes (take n bytes)
 IsBytes-take n bytes h i =
@@ -641,11 +640,6 @@ pub ended : (method : Method) (chunk : ℕ) (bytes : List ℕ) → next_message 
 unfolding next_message
 ended method chunk [] e = refl
 ended method chunk (type ∷ rest) e = absurd (over_end (1 + length rest) (message_at method chunk type rest) e)
-
-moved_end : (at : ℕ) (s : Step) → moved at s ≡ End → s ≡ End
-moved_end at (Read m n) e = absurd cc
-moved_end at End e = refl
-moved_end at (Cut p kind) e = absurd cc
 
 pub nothing_left : (method : Method) (chunk : ℕ) → next_message method chunk [] ≡ End
 unfolding next_message

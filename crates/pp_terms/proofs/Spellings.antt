@@ -8,10 +8,10 @@ use Rattle.std.proofs.lemmas.Bool.Decides.{nat_tests}
 use Rattle.std.proofs.lemmas.List.{take_at, drop_at, drop-drop, take-append-drop, length-append, length-take, length-drop, get_or-drop, get_or-take, get_or_past}
 use Rattle.std.proofs.lemmas.List.Concat.{flat_map-cons}
 use Rattle.std.proofs.lemmas.Nat.{be_bytes_2, be_bytes_4, from_be_bytes-to_be_bytes_2, from_be_bytes-to_be_bytes_4}
-use Rattle.pp_terms.specs.OptionLaw.{ReadsSpellings, WrittenIsRead}
-use Rattle.pp_terms.specs.Options.{Options, none, OneOption, Version, Minimum, Swarm, Integrity, Hash, Addressing, Messages, Chunk, code_of, value_bytes, spelled, FitsOption, with_option, is_given, Adds, IsSpelling, FitOptions, spelled_if, spelling_of, OptionFault, is_known, value_length, option_of, fault_at, unless, read_from, read_options, IsBytes}
+use Rattle.pp_terms.specs.format.OptionLaw.{ReadsSpellings, WrittenIsRead}
+use Rattle.pp_terms.specs.format.Options.{Options, none, OneOption, Version, Minimum, Swarm, Integrity, Hash, Addressing, Messages, Chunk, code_of, value_bytes, spelled, FitsOption, with_option, is_given, Adds, IsSpelling, FitOptions, spelled_if, spelling_of, OptionFault, is_known, value_length, option_of, fault_at, unless, read_from, read_options, IsBytes}
 
-IsBytes-drop : (n : ℕ) (bytes : List ℕ) → IsBytes bytes → IsBytes (drop n bytes)
+pub IsBytes-drop : (n : ℕ) (bytes : List ℕ) → IsBytes bytes → IsBytes (drop n bytes)
 IsBytes-drop n bytes h i = rw get_or-drop (h (n + i))
 
 IsBytes-take : (n : ℕ) (bytes : List ℕ) → IsBytes bytes → IsBytes (take n bytes)

@@ -1,7 +1,14 @@
 -- Counts of a device's faults: a count never falls, and stands still at the greatest number of 64 bits.
-use Rattle.std.specs.Prelude.{ℕ, ◌-◌, ◌^◌, ◌<◌, ◌≤◌, Result, IsErr}
+use Rattle.std.specs.Prelude.{ℕ, ◌+◌, ◌-◌, ◌^◌, ◌<◌, ◌≤◌, min, Result, IsErr}
 
--- It rose, or stands at the greatest number, where a rise can't be seen.
+-- a number, but at most the greatest of 64 bits; and one more, so too
+abbrev pub capped : ℕ → ℕ
+capped n = min n (2 ^ 64 - 1)
+
+abbrev pub one_more : ℕ → ℕ
+one_more n = capped (n + 1)
+
+-- The count rose, or stands at the greatest number, where a rise can't be seen.
 abbrev pub HasRisen : ℕ → ℕ → Type 0
 HasRisen before now = now < 2 ^ 64 - 1 → before < now
 

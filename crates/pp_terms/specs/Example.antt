@@ -1,11 +1,11 @@
 -- Worked examples: a content of 7,000 bytes in chunks of 1,024, and the store of "abc".
 use Rattle.std.specs.Prelude.{◌≡◌, ℕ, ◌+◌, ◌*◌, ◌/◌, ◌%◌, ◌^◌, true, false, Some, List, [], ◌∷◌, ◌++◌, length, map, take, codes}
 use Rattle.std.specs.List.{range_with_len}
-use Rattle.pp_terms.specs.Content.{chunk_count, chunk_length}
-use Rattle.pp_terms.specs.Tree.{empty_hash, node, height, root_of, is_full, peaks}
-use Rattle.pp_terms.specs.Descriptor.{Descriptor, Range32, descriptor_of, descriptor_text}
-use Rattle.pp_terms.specs.Store.{header, pair_place}
-use Rattle.pp_terms.specs.Image.{known, holds}
+use Rattle.pp_terms.specs.tree.Content.{chunk_count, chunk_length}
+use Rattle.pp_terms.specs.tree.Tree.{empty_hash, node, height, root_of, is_full, peaks}
+use Rattle.pp_terms.specs.format.Descriptor.{Descriptor, Range32, descriptor_of, descriptor_text}
+use Rattle.pp_terms.specs.disk.Store.{header, slot_size, pair_place}
+use Rattle.pp_terms.specs.disk.Image.{known, holds, is_found}
 
 -- 7,000 bytes: 5, 12, 19 .., with a step more at each 256th
 abbrev pub seven : List ℕ
@@ -48,6 +48,8 @@ pub record TreeExamples : Type 0 where
 
 -- Where pairs stand, and the store of "abc".
 pub record StoreExamples : Type 0 where
+  -- the room of a chunk of 1,024 bytes and its pair
+  pub slot : slot_size 1024 ≡ 1088
   -- the places of the pairs of nodes (1, 0), (2, 0), (1, 1), (3, 0), (1, 2), (2, 1) and (1, 3), chunks of 1,024 bytes
   pub pair_places : (pair_place 1024 0 0 ≡ 1088) × (pair_place 1024 1 0 ≡ 2176) × (pair_place 1024 0 1 ≡ 3264)
       × (pair_place 1024 2 0 ≡ 4352) × (pair_place 1024 0 2 ≡ 5440) × (pair_place 1024 1 1 ≡ 6528)
@@ -65,3 +67,5 @@ pub record StoreExamples : Type 0 where
   pub abc_is_held : (known abc store_of_abc 0 0 ≡ Some (root_of (codes "abc") 1024)) × (holds abc store_of_abc 0 ≡ true)
   -- one byte less, or another last byte, and it doesn't hold it
   pub abc_is_not_held : (holds abc (header abc ++ codes "ab") 0 ≡ false) × (holds abc (header abc ++ codes "abd") 0 ≡ false)
+  -- an opening finds it there, and doesn't without its last byte
+  pub abc_is_found : (is_found abc store_of_abc 0 ≡ true) × (is_found abc (header abc ++ codes "ab") 0 ≡ false)

@@ -1,8 +1,12 @@
 -- Laws of the disk and of trees, which the functions of this crate state.
-use Rattle.std.specs.Prelude.{◌≡◌, ℕ, ◌^◌, ◌<◌, ◌≤◌, List, length}
-use Rattle.pp_terms.specs.Tree.{height, IsHeight}
-use Rattle.pp_terms.specs.Store.{AreApart, Has}
-use Rattle.pp_terms.specs.Disk.{History, MayLeave, Throughout, moment_of, after_write, settled}
+use Rattle.std.specs.Prelude.{◌≡◌, ◌↔◌, ℕ, ◌^◌, ◌<◌, ◌≤◌, true, not, ◌&&◌, None, is_some, List, length}
+use Rattle.std.specs.List.{list_all}
+use Rattle.pp_terms.specs.tree.Tree.{Node, height, IsHeight, is_full, peaks, is_peak}
+use Rattle.pp_terms.specs.tree.Book.{LookUp, has_peaks}
+use Rattle.pp_terms.specs.tree.Proves.{first_absent}
+use Rattle.pp_terms.specs.tree.Bins.{parent_of}
+use Rattle.pp_terms.specs.disk.Store.{AreApart, Has}
+use Rattle.pp_terms.specs.disk.Disk.{History, MayLeave, Throughout, moment_of, after_write, settled}
 
 -- Bytes that stand throughout at a place stand on after a write elsewhere, though it may be torn.
 abbrev pub WriteElsewhereKeeps : Type 0
@@ -21,3 +25,12 @@ SyncKeeps = (h : History) (moment at : ℕ) (kept : List ℕ) → moment ≤ mom
 -- The height of a tree is the least that holds its leaves.
 abbrev pub HeightIsLeast : Type 0
 HeightIsLeast = (n : ℕ) → 0 < n → n ≤ 2 ^ 20 → IsHeight n (height n)
+
+-- A book has all peaks where it has each node of their list, and where none of them is absent.
+abbrev pub PeaksOfBooks : Type 0
+PeaksOfBooks = (book : LookUp) (n : ℕ) → (has_peaks book n ≡ list_all (λ at. is_some (book at.layer at.offset)) (peaks n))
+    × ((first_absent book n ≡ None) ↔ (has_peaks book n ≡ true))
+
+-- The peaks are the full nodes whose parent isn't full.
+abbrev pub PeaksAreTopmost : Type 0
+PeaksAreTopmost = (n : ℕ) (at : Node) → n < 2 ^ 21 → is_peak n at ≡ (is_full n at && not (is_full n (parent_of at)))

@@ -4,8 +4,10 @@
 //! Its functions do nothing. Their contracts are laws on those words, and worked examples of them.
 #![tactic(auto)]
 
-ghost use Rattle.pp_terms.specs.Law.{WriteElsewhereKeeps, SyncLeavesOne, SyncKeeps, HeightIsLeast};
+ghost use Rattle.pp_terms.specs.Law.{WriteElsewhereKeeps, SyncLeavesOne, SyncKeeps, HeightIsLeast, PeaksAreTopmost, PeaksOfBooks};
 ghost use Rattle.pp_terms.specs.Example.{TreeExamples, StoreExamples};
+ghost use Rattle.pp_terms.specs.tree.ClaimExample.{ClaimExamples};
+ghost use Rattle.pp_terms.specs.command.ReportExample.{ReportExamples};
 
 /// What a crash may leave after a write and after a sync.
 pub fn laws_of_the_disk()
@@ -14,13 +16,17 @@ pub fn laws_of_the_disk()
     ensures sync_keeps { SyncKeeps }
 {}
 
-/// How high a tree is.
+/// How high a tree is, which of its nodes are peaks, and when a book has them all.
 pub fn laws_of_the_tree()
-    ensures { HeightIsLeast }
+    ensures height { HeightIsLeast }
+    ensures peaks { PeaksAreTopmost }
+    ensures books { PeaksOfBooks }
 {}
 
 /// The words at contents that were worked out elsewhere.
 pub fn worked_examples()
     ensures tree { TreeExamples }
     ensures store { StoreExamples }
+    ensures claims { ClaimExamples }
+    ensures report { ReportExamples }
 {}

@@ -2,9 +2,10 @@
 use Rattle.std.proofs.Common.{◌≡◌, ⊎_elim, ℕ, eqb, true, not, ◌&&◌, List, [], ◌∷◌, ◌++◌, refl, sym, ap, subst}
 use Rattle.std.proofs.lemmas.Bool.{and_parts, and_from, or_cases, or_left, or_right, not-true, not_from_false, eqb-false, ne_eqb}
 use Rattle.std.specs.List.{AllByRecursion}
-use Rattle.pp_terms.specs.Messages.{Span, Handshake, Data, Ack, Have, Integrity, Pex4, PexReq, Request, Cancel, Choke, Unchoke, Pex6}
+use Rattle.pp_terms.specs.format.Messages.{Handshake, Data, Ack, Have, Integrity, Pex4, PexReq, Request, Cancel, Choke, Unchoke, Pex6}
+use Rattle.pp_terms.specs.tree.Range.{Span, within}
 use Rattle.pp_traffic.specs.Story.{Line, Heard, Said, Taken}
-use Rattle.pp_traffic.specs.Asking.{covers, choked, asked}
+use Rattle.pp_traffic.specs.Asking.{choked, asked}
 use Rattle.pp_traffic.specs.Places.{LeavesOpen, IsAskedByPlaces, LeavesChoked, IsChokedByPlaces, AskedByPlaces, ChokedByPlaces}
 
 -- a line that leaves a request open, before an older one
@@ -20,9 +21,9 @@ older i line story leaves by = record {
   since = (leaves, by.since);
 }
 
-fresh : (i now : ℕ) (span : Span) (story : List Line) → (covers span i && not (choked story)) ≡ true → IsAskedByPlaces i (Heard now (Request span) ∷ story)
+fresh : (i now : ℕ) (span : Span) (story : List Line) → (within span i && not (choked story)) ≡ true → IsAskedByPlaces i (Heard now (Request span) ∷ story)
 fresh i now span story e =
-    let parts = and_parts (covers span i) (not (choked story)) e in
+    let parts = and_parts (within span i) (not (choked story)) e in
     record { after = []; now = now; span = span; before = story; split = refl; covered = parts.0; unchoked = not-true (choked story) parts.1; since = tt }
 
 asked_places : (i : ℕ) (story : List Line) → asked i story ≡ true → IsAskedByPlaces i story
@@ -35,9 +36,9 @@ asked_places i (Heard now (Integrity span digest) ∷ story) e = older i _ story
 asked_places i (Heard now (Pex4 address port) ∷ story) e = older i _ story tt (asked_places i story e)
 asked_places i (Heard now PexReq ∷ story) e = older i _ story tt (asked_places i story e)
 asked_places i (Heard now (Request span) ∷ story) e = ⊎_elim (λ here. fresh i now span story here) (λ before. older i _ story tt (asked_places i story before))
-    (or_cases (covers span i && not (choked story)) (asked i story) e)
-asked_places i (Heard now (Cancel span) ∷ story) e = let parts = and_parts (not (covers span i)) (asked i story) e in
-    older i _ story (not-true (covers span i) parts.0) (asked_places i story parts.1)
+    (or_cases (within span i && not (choked story)) (asked i story) e)
+asked_places i (Heard now (Cancel span) ∷ story) e = let parts = and_parts (not (within span i)) (asked i story) e in
+    older i _ story (not-true (within span i) parts.0) (asked_places i story parts.1)
 asked_places i (Heard now Choke ∷ story) e = older i _ story tt (asked_places i story e)
 asked_places i (Heard now Unchoke ∷ story) e = older i _ story tt (asked_places i story e)
 asked_places i (Heard now (Pex6 address port) ∷ story) e = older i _ story tt (asked_places i story e)
@@ -65,8 +66,8 @@ stays i (Heard now (Have span)) story leaves e = e
 stays i (Heard now (Integrity span digest)) story leaves e = e
 stays i (Heard now (Pex4 address port)) story leaves e = e
 stays i (Heard now PexReq) story leaves e = e
-stays i (Heard now (Request span)) story leaves e = or_right (covers span i && not (choked story)) (asked i story) e
-stays i (Heard now (Cancel span)) story leaves e = and_from (not (covers span i)) (asked i story) (not_from_false (covers span i) leaves) e
+stays i (Heard now (Request span)) story leaves e = or_right (within span i && not (choked story)) (asked i story) e
+stays i (Heard now (Cancel span)) story leaves e = and_from (not (within span i)) (asked i story) (not_from_false (within span i) leaves) e
 stays i (Heard now Choke) story leaves e = e
 stays i (Heard now Unchoke) story leaves e = e
 stays i (Heard now (Pex6 address port)) story leaves e = e
@@ -91,7 +92,7 @@ asked_behind i (line ∷ after) story all e = stays i line (after ++ story) all.
 places_asked : (i : ℕ) (story : List Line) → IsAskedByPlaces i story → asked i story ≡ true
 places_asked i story by = subst (λ (xs : List Line). asked i xs ≡ true) (sym by.split)
     (asked_behind i by.after (Heard by.now (Request by.span) ∷ by.before) by.since
-    (or_left (covers by.span i && not (choked by.before)) (asked i by.before) (and_from (covers by.span i) (not (choked by.before)) by.covered (not_from_false (choked by.before) by.unchoked))))
+    (or_left (within by.span i && not (choked by.before)) (asked i by.before) (and_from (within by.span i) (not (choked by.before)) by.covered (not_from_false (choked by.before) by.unchoked))))
 
 pub asked_by_places : AskedByPlaces
 asked_by_places i story = (asked_places i story, places_asked i story)

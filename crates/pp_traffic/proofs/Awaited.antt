@@ -2,8 +2,8 @@
 use Rattle.std.proofs.Common.{◌≡◌, ◌⊎◌, inl, inr, ⊎_elim, ℕ, ◌+◌, ◌<◌, ◌≤◌, ltb, leb, Bool, true, false, cond, not, ◌&&◌, ◌||◌, Option, Some, List, ◌∷◌, length, refl, sym, ◌∙◌, ap, subst, arith}
 use Rattle.std.proofs.lemmas.Bool.{and_parts, and_from, and_right, or_cases, or_left, or_right, or_parts, or_from, and_cases, cases_Bool, both_ways, cond-true, cond-false, le-leb, le-ltb, not-true, not_from_false, lt-ltb}
 use Rattle.std.specs.Prelude.{MatchBool}
-use Rattle.pp_terms.specs.Traffic.{Address, Record, Received, Quiet, Sent}
-use Rattle.pp_terms.specs.Descriptor.{Descriptor}
+use Rattle.pp_terms.specs.format.Traffic.{Address, Record, Received, Quiet, Sent}
+use Rattle.pp_terms.specs.format.Descriptor.{Descriptor}
 use Rattle.pp_traffic.specs.Past.{now, now_at, read, comes_from, goes_to, is_event, is_number, some_since, some_until, is_at}
 use Rattle.pp_traffic.specs.Life.{Life, greets, answers, comes_on, closes_on, begins_as, begins_fitting}
 use Rattle.pp_traffic.specs.Plain.{concerns, greets_once, asks_anew, first_since, none_until_first, heard_at, is_in_time, is_timely, silence_time, IsPlainAnswer, IsPlainDial, IsPlain, IsPlainNow, IsPlainUpTo}

@@ -8,3 +8,11 @@ pub mod Paths
 pub mod Served
 pub mod Plains
 pub mod Awaited
+mod Examples
+pub mod Fresh
+pub mod Fates
+pub mod Finals
+pub mod Timers
+pub mod Measures
+pub mod Moments
+pub mod PlansInBooks

@@ -1,8 +1,8 @@
 -- Lives in words by places.
 use Rattle.std.proofs.Common.{◌≡◌, ⊎_elim, ◌<◌, ltb, true, false, not, ◌&&◌, ◌||◌, List, [], ◌∷◌, ◌++◌, length, refl, ap, subst}
 use Rattle.std.proofs.lemmas.Bool.{and_parts, and_from, or_cases, or_parts, or_from, and_cases, not-false, not-true, lt-ltb, ltb-true, both_ways, false_from_ne_true}
-use Rattle.pp_terms.specs.Traffic.{Record}
-use Rattle.pp_terms.specs.Descriptor.{Descriptor}
+use Rattle.pp_terms.specs.format.Traffic.{Record}
+use Rattle.pp_terms.specs.format.Descriptor.{Descriptor}
 use Rattle.pp_traffic.specs.Past.{some_since}
 use Rattle.pp_traffic.specs.Life.{Life, IsLife, greets, answers, shakes_on, closes_on, is_closed}
 use Rattle.pp_traffic.specs.Places.{StandsFrom, IsLifeByPlaces, LivesByPlaces}

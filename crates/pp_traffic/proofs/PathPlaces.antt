@@ -2,9 +2,9 @@
 use Rattle.std.proofs.Common.{◌≡◌, ◌⊎◌, inl, inr, ⊎_elim, ℕ, zero, suc, ◌+◌, ◌<◌, Bool, true, false, not, ◌&&◌, ◌||◌, arith}
 use Rattle.std.proofs.lemmas.Bool.{and_parts, and_from, or_cases, or_left, or_right, not-true, not_from_false, cases_Bool}
 use Rattle.std.specs.List.{list_all}
-use Rattle.pp_terms.specs.Tree.{Node, height, peaks}
-use Rattle.pp_terms.specs.Bins.{parent_of, sibling_of}
-use Rattle.pp_traffic.specs.Hashes.{is_peak, leaf_at, completes_from, completes}
+use Rattle.pp_terms.specs.tree.Tree.{Node, height, peaks, is_peak, leaf_at}
+use Rattle.pp_terms.specs.tree.Bins.{parent_of, sibling_of}
+use Rattle.pp_traffic.specs.Hashes.{completes_from, completes}
 use Rattle.pp_traffic.specs.Places.{ancestor, CompletesByPlaces, PathsByPlaces}
 
 -- the same from any node, within so many layers

@@ -1,12 +1,15 @@
 -- Complete paths: they stay complete with more hashes, and a plan completes one.
-use Rattle.std.proofs.Common.{◌≡◌, inl, inr, ⊎_elim, ℕ, zero, suc, ◌+◌, ◌-◌, ◌*◌, ◌/◌, ◌%◌, ◌^◌, ◌<◌, ◌≤◌, eqb, Bool, true, false, cond, not, ◌&&◌, ◌||◌, List, [], ◌∷◌, ◌++◌, refl, sym, ◌∙◌, ap, subst, arith, add-one, pow-suc}
-use Rattle.std.proofs.lemmas.Bool.{and_parts, and_from, or_cases, or_left, or_right, or_from, not-true, cases_Bool, cases_eq, cases_lt, both_ways, cond-false, eq-eqb}
+use Rattle.std.proofs.Common.{◌≡◌, inl, inr, ⊎_elim, ℕ, zero, suc, ◌+◌, ◌*◌, ◌^◌, ◌<◌, ◌≤◌, Bool, true, false, cond, not, ◌&&◌, ◌||◌, List, [], ◌∷◌, ◌++◌, refl, ◌∙◌, ap, arith, add-one, pow-suc}
+use Rattle.std.proofs.lemmas.Bool.{and_parts, and_from, or_cases, or_left, or_right, or_from, not-true, cases_Bool, cond-false}
 use Rattle.std.specs.List.{list_any, list_all}
 use Rattle.std.proofs.lemmas.List.Folds.{list_any-append}
-use Rattle.pp_terms.specs.Tree.{Node, height, peaks, peaks_below, above, IsHeight}
-use Rattle.pp_terms.specs.Bins.{parent_of, sibling_of}
+use Rattle.pp_terms.specs.tree.Tree.{Node, height, peaks, above, same_node, is_peak, leaf_at}
+use Rattle.pp_terms.specs.tree.Bins.{parent_of, sibling_of}
 use Rattle.pp_terms.proofs.Heights.{height_is}
-use Rattle.pp_traffic.specs.Hashes.{same_node, is_peak, leaf_at, completes_from}
+use Rattle.pp_traffic.specs.Hashes.{completes_from}
+use Rattle.pp_terms.proofs.Nodes.{goes_on, above_up, fewer, height_bound}
+use Rattle.pp_terms.proofs.Facts.{all_weaker}
+use Rattle.pp_terms.proofs.Peaks.{no_last, same_is}
 use Rattle.pp_traffic.specs.Laws.{PathsGrow, uncles_from, plan, PlansComplete}
 use Rattle.pp_traffic.proofs.PathPlaces.{ends_here, goes_up}
 
@@ -42,55 +45,18 @@ paths_grow chunks brought more told known i b t e = grows_from (height chunks + 
 
 -- ---- peaks on the way up
 
-same_is : (k j : ℕ) → same_node (record { layer = k; offset = j }) (record { layer = k; offset = j }) ≡ true
-same_is k j = and_from (eqb k k) (eqb j j) (eq-eqb k k refl) (eq-eqb j j refl)
-
-peak_in : (layers chunks k : ℕ) → k < layers → above k chunks % 2 ≡ 1 → list_any (same_node (record { layer = k; offset = above k chunks - 1 })) (peaks_below layers chunks) ≡ true
-peak_in zero chunks k lt odd = absurd (omega arith)
-peak_in (suc layers) chunks k lt odd = ⊎_elim
-    (λ e. subst (λ (l : ℕ). list_any (same_node (record { layer = k; offset = above k chunks - 1 })) (cond (eqb (above l chunks % 2) 1) (record { layer = l; offset = above l chunks - 1 } ∷ peaks_below l chunks) (peaks_below l chunks)) ≡ true) e (first k odd))
-    (λ ne. later (eqb (above layers chunks % 2) 1) (peak_in layers chunks k (omega arith) odd))
-    (cases_eq k layers)
-  where
-    first : (l : ℕ) → above l chunks % 2 ≡ 1 → list_any (same_node (record { layer = l; offset = above l chunks - 1 })) (cond (eqb (above l chunks % 2) 1) (record { layer = l; offset = above l chunks - 1 } ∷ peaks_below l chunks) (peaks_below l chunks)) ≡ true
-    first l is_odd = rw (eq-eqb (above l chunks % 2) 1 is_odd) (or_left (same_node (record { layer = l; offset = above l chunks - 1 }) (record { layer = l; offset = above l chunks - 1 })) (list_any (same_node (record { layer = l; offset = above l chunks - 1 })) (peaks_below l chunks)) (same_is l (above l chunks - 1)))
-
-    later : (b : Bool) → list_any (same_node (record { layer = k; offset = above k chunks - 1 })) (peaks_below layers chunks) ≡ true
-        → list_any (same_node (record { layer = k; offset = above k chunks - 1 })) (cond b (record { layer = layers; offset = above layers chunks - 1 } ∷ peaks_below layers chunks) (peaks_below layers chunks)) ≡ true
-    later true e = or_right (same_node (record { layer = k; offset = above k chunks - 1 }) (record { layer = layers; offset = above layers chunks - 1 })) (list_any (same_node (record { layer = k; offset = above k chunks - 1 })) (peaks_below layers chunks)) e
-    later false e = e
-
--- where the node of an offset below the count of full nodes isn't a peak, so is its parent's
-goes_on : (count offset : ℕ) → offset < count → ((count % 2 ≡ 1) × (offset ≡ count - 1) → ⊥) → offset / 2 < count / 2
-goes_on count offset lt none = ⊎_elim
-    (λ last. ⊎_elim (λ odd. absurd (none (odd, last))) (λ even. omega arith) (cases_eq (count % 2) 1))
-    (λ other. omega arith)
-    (cases_eq offset (count - 1))
-
 -- A node that is brought, told or needed by its list
 abbrev Brings : List Node → Node → Bool
 Brings xs n = list_any (same_node n) xs
 
 some_own : (xs : List Node) (n : Node) → list_any (same_node n) (xs ++ n ∷ []) ≡ true
-some_own xs n = list_any-append (same_node n) xs (n ∷ []) ∙ or_right (list_any (same_node n) xs) (same_node n n || false) (or_left (same_node n n) false (same_is n.layer n.offset))
+some_own xs n = list_any-append (same_node n) xs (n ∷ []) ∙ or_right (list_any (same_node n) xs) (same_node n n || false) (or_left (same_node n n) false (same_is n))
 
 in_front : (xs ys : List Node) (n : Node) → Brings xs n ≡ true → Brings (xs ++ ys) n ≡ true
 in_front xs ys n e = list_any-append (same_node n) xs ys ∙ or_left (list_any (same_node n) xs) (list_any (same_node n) ys) e
 
 in_back : (xs ys : List Node) (n : Node) → Brings ys n ≡ true → Brings (xs ++ ys) n ≡ true
 in_back xs ys n e = list_any-append (same_node n) xs ys ∙ or_right (list_any (same_node n) xs) (list_any (same_node n) ys) e
-
--- no node of the way before a peak is the last full one of an odd count
-no_last : (chunks : ℕ) (n : Node) → n.layer < 21 → is_peak chunks n ≡ false → (above n.layer chunks % 2 ≡ 1) × (n.offset ≡ above n.layer chunks - 1) → ⊥
-no_last chunks n lt no_peak both =
-    both_ways (is_peak chunks n) no_peak
-    (subst (λ (o : ℕ). is_peak chunks (record { layer = n.layer; offset = o }) ≡ true) (sym both.1) (peak_in 21 chunks n.layer lt both.0))
-
-above_up : (k c : ℕ) → above (k + 1) c ≡ above k c / 2
-above_up k c = rw add-one refl
-
-fewer : (layers c : ℕ) → c < 2 ^ suc layers → c / 2 < 2 ^ layers
-fewer layers c lt = let e : 2 ^ suc layers ≡ 2 ^ layers * 2 = pow-suc 2 layers in omega (arith, e)
 
 uncles_are : (layers chunks : ℕ) (told : Node → Bool) (n : Node) → told n ≡ false → is_peak chunks n ≡ false
     → uncles_from (suc layers) chunks told n ≡ uncles_from layers chunks told (parent_of n) ++ cond (told (sibling_of n)) [] (sibling_of n ∷ [])
@@ -141,13 +107,8 @@ all_own : (xs ys : List Node) (q : Node → Bool) → ((n : Node) → list_any (
     → list_all q xs ≡ true
 all_own [] ys q has within = refl
 all_own (x ∷ xs) ys q has within = and_from (q x) (list_all q xs)
-    (has x (within x (or_left (same_node x x) (list_any (same_node x) xs) (same_is x.layer x.offset))))
+    (has x (within x (or_left (same_node x x) (list_any (same_node x) xs) (same_is x))))
     (all_own xs ys q has (λ n e. within n (or_right (same_node n x) (list_any (same_node n) xs) e)))
-
-all_weaker : (p q : Node → Bool) (xs : List Node) → list_all q xs ≡ true → list_all (λ n. p n || q n) xs ≡ true
-all_weaker p q [] e = refl
-all_weaker p q (x ∷ xs) e = let parts = and_parts (q x) (list_all q xs) e in
-    and_from (p x || q x) (list_all (λ n. p n || q n) xs) (or_right (p x) (q x) parts.0) (all_weaker p q xs parts.1)
 
 peaks_ready : (chunks : ℕ) (told : Node → Bool) (i : ℕ)
     → list_all (λ p. list_any (same_node p) (plan chunks told i) || told p) (peaks chunks) ≡ true
@@ -168,6 +129,3 @@ plans_complete chunks told i le lt =
     planned (height chunks + 1) chunks (λ n. list_any (same_node n) (plan chunks told i)) told (leaf_at i) lt (omega (arith, is.covers, up)) (omega arith)
     (peaks_ready chunks told i)
     (λ m e. in_back (cond (list_all told (peaks chunks)) [] (peaks chunks)) (uncles_from (height chunks + 1) chunks told (leaf_at i)) m e)
-  where
-    height_bound : (chunks : ℕ) → IsHeight chunks (height chunks) → chunks ≤ 2 ^ 20 → height chunks ≤ 20
-    height_bound chunks is le = ⊎_elim (λ more. absurd (let few : 2 ^ 20 < chunks = is.least 20 more in omega arith)) (λ fits. fits) (cases_lt 20 (height chunks))

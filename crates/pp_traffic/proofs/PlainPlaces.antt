@@ -4,8 +4,8 @@ use Rattle.std.proofs.lemmas.Bool.{and_parts, and_from, or_cases, or_left, or_ri
 use Rattle.std.specs.Prelude.{MatchBool}
 use Rattle.std.specs.List.{AllByRecursion}
 use Rattle.std.proofs.lemmas.List.{length-append}
-use Rattle.pp_terms.specs.Traffic.{Record}
-use Rattle.pp_terms.specs.Descriptor.{Descriptor}
+use Rattle.pp_terms.specs.format.Traffic.{Record}
+use Rattle.pp_terms.specs.format.Descriptor.{Descriptor}
 use Rattle.pp_traffic.specs.Past.{now, now_at, comes_from, goes_to, is_event, some_since, some_until}
 use Rattle.pp_traffic.specs.Life.{Life, greets, answers, comes_on, closes_on}
 use Rattle.pp_traffic.specs.Plain.{greets_once, asks_anew, concerns, first_since, none_until_first, heard_at, greeting_time, silence_time, is_in_time, is_timely, IsPlainAnswer, IsPlainDial, IsPlain}

@@ -4,9 +4,9 @@ use Rattle.std.proofs.lemmas.Bool.{and_parts, and_from, or_cases, or_left, or_ri
 use Rattle.std.specs.Prelude.{MatchBool}
 use Rattle.std.specs.List.{list_any}
 use Rattle.std.proofs.lemmas.List.{length-append}
-use Rattle.pp_terms.specs.Traffic.{Address, Record, Received, Quiet, Sent}
-use Rattle.pp_terms.specs.Descriptor.{Descriptor}
-use Rattle.pp_terms.specs.Messages.{Message, Handshake, Data, Ack, Have, Integrity, Pex4, PexReq, Request, Cancel, Choke, Unchoke, Pex6}
+use Rattle.pp_terms.specs.format.Traffic.{Address, Record, Received, Quiet, Sent}
+use Rattle.pp_terms.specs.format.Descriptor.{Descriptor}
+use Rattle.pp_terms.specs.format.Messages.{Message, Handshake, Data, Ack, Have, Integrity, Pex4, PexReq, Request, Cancel, Choke, Unchoke, Pex6}
 use Rattle.pp_traffic.specs.Past.{now, now_at, read, comes_from, goes_to, is_event, is_number, some_since, some_until, is_at}
 use Rattle.pp_traffic.specs.Life.{Life, greets, answers, closes_on, begins_fitting}
 use Rattle.pp_traffic.specs.Plain.{is_handshake, concerns, greets_once, asks_anew, first_since, none_until_first, heard_at, is_in_time, is_timely, IsPlainAnswer, IsPlainDial, IsPlainNow}

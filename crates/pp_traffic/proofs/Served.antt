@@ -1,10 +1,10 @@
 -- What was served by a book was served by a larger one.
 use Rattle.std.proofs.Common.{ℕ, Option, List, [], ◌∷◌, ◌++◌}
 use Rattle.std.specs.List.{AllByRecursion}
-use Rattle.pp_terms.specs.Traffic.{Address, Record, Received, Quiet, Sent}
-use Rattle.pp_terms.specs.Descriptor.{Descriptor}
-use Rattle.pp_terms.specs.Book.{LookUp, IsRooted}
-use Rattle.pp_terms.specs.Messages.{Message, Handshake, Data, Ack, Have, Integrity, Pex4, PexReq, Request, Cancel, Choke, Unchoke, Pex6}
+use Rattle.pp_terms.specs.format.Traffic.{Address, Record, Received, Quiet, Sent}
+use Rattle.pp_terms.specs.format.Descriptor.{Descriptor}
+use Rattle.pp_terms.specs.tree.Book.{LookUp, IsRooted}
+use Rattle.pp_terms.specs.format.Messages.{Message, Handshake, Data, Ack, Have, Integrity, Pex4, PexReq, Request, Cancel, Choke, Unchoke, Pex6}
 use Rattle.pp_traffic.specs.Past.{read}
 use Rattle.pp_traffic.specs.Hashes.{Carries}
 use Rattle.pp_traffic.specs.Serving.{Window, ServesFrom, Serves}

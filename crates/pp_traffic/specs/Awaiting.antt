@@ -1,7 +1,7 @@
 -- Plain channels that await their reply (RFC 7574, sections 3.1.1 and 8.4), and what one record more does to a plain channel.
 use Rattle.std.specs.Prelude.{◌≡◌, ◌⊎◌, ◌↔◌, ℕ, ◌<◌, Bool, true, false, List, ◌∷◌, length, MatchBool}
-use Rattle.pp_terms.specs.Traffic.{Address, Record, Received, Quiet, Sent}
-use Rattle.pp_terms.specs.Descriptor.{Descriptor}
+use Rattle.pp_terms.specs.format.Traffic.{Address, Record, Received, Quiet, Sent}
+use Rattle.pp_terms.specs.format.Descriptor.{Descriptor}
 use Rattle.pp_traffic.specs.Past.{now, now_at, comes_from, goes_to, some_since, some_until, is_at}
 use Rattle.pp_traffic.specs.Life.{Life, greets, answers, closes_on}
 use Rattle.pp_traffic.specs.Plain.{concerns, greets_once, asks_anew, none_until_first, heard_at, is_in_time, is_timely, IsPlain, IsPlainNow, IsPlainUpTo}

@@ -1,12 +1,12 @@
 -- Chunks on their way: sent, and not acknowledged since (RFC 7574, sections 3.3 and 8.16).
 use Rattle.std.specs.Prelude.{ℕ, nat_lt, Bool, not, List, [], ◌∷◌, length, filter}
-use Rattle.pp_terms.specs.Messages.{Message, Data, Ack}
+use Rattle.pp_terms.specs.format.Messages.{Message, Data, Ack}
 use Rattle.pp_traffic.specs.Story.{Line, Heard, Said, Taken}
-use Rattle.pp_traffic.specs.Asking.{covers}
+use Rattle.pp_terms.specs.tree.Range.{within}
 
 -- a message that came, or was sent, and the chunks on their way
 abbrev pub landed : Message → List ℕ → List ℕ
-landed (Ack span delay) flying = filter (λ i. not (covers span i)) flying
+landed (Ack span delay) flying = filter (λ i. not (within span i)) flying
 landed _ flying = flying
 
 abbrev pub launched : Message → List ℕ → List ℕ

@@ -1,21 +1,12 @@
 -- The hashes that a chunk needs, and those that a peer has told it knows (RFC 7574, sections 5.2 to 5.5).
 use Rattle.std.specs.Prelude.{◌≡◌, ℕ, zero, suc, ◌+◌, ◌==◌, nat_le, nat_lt, Bool, true, false, not, ◌&&◌, ◌||◌, List, [], ◌∷◌, Some}
 use Rattle.std.specs.List.{list_any, list_all}
-use Rattle.pp_terms.specs.Tree.{Node, height, peaks}
-use Rattle.pp_terms.specs.Bins.{first_leaf, last_leaf, parent_of, sibling_of}
-use Rattle.pp_terms.specs.Book.{LookUp}
-use Rattle.pp_terms.specs.Messages.{Span, Message, Ack, Have, Integrity}
+use Rattle.pp_terms.specs.tree.Tree.{Node, height, peaks, is_peak, leaf_at}
+use Rattle.pp_terms.specs.tree.Bins.{first_leaf, last_leaf, parent_of, sibling_of}
+use Rattle.pp_terms.specs.tree.Book.{LookUp}
+use Rattle.pp_terms.specs.format.Messages.{Message, Ack, Have, Integrity}
+use Rattle.pp_terms.specs.tree.Range.{Span}
 use Rattle.pp_traffic.specs.Story.{Line, Heard, Said, Taken}
-
-abbrev pub same_node : Node → Node → Bool
-same_node a b = a.layer == b.layer && a.offset == b.offset
-
--- the node is a peak of the tree over so many chunks
-abbrev pub is_peak : ℕ → Node → Bool
-is_peak chunks n = list_any (same_node n) (peaks chunks)
-
-abbrev pub leaf_at : ℕ → Node
-leaf_at i = record { layer = 0; offset = i }
 
 -- some chunk of the content that the span names lies under the node
 abbrev pub meets : ℕ → Span → Node → Bool

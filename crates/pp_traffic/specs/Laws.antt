@@ -1,15 +1,15 @@
 -- Laws on these words: what one record more does, and what stays.
-use Rattle.std.specs.Prelude.{◌≡◌, ℕ, zero, suc, ◌+◌, ◌^◌, ◌<◌, ◌≤◌, max, Bool, true, false, ◌||◌, Some, List, [], ◌∷◌, ◌++◌, length, if◌then◌else◌}
-use Rattle.std.specs.List.{list_any, list_all}
-use Rattle.pp_terms.specs.Traffic.{Address, Record, Received, Quiet, Sent}
-use Rattle.pp_terms.specs.Tree.{Node, height, peaks}
-use Rattle.pp_terms.specs.Bins.{parent_of, sibling_of}
-use Rattle.pp_terms.specs.Book.{LookUp, IsRooted}
-use Rattle.pp_terms.specs.Descriptor.{Descriptor}
+use Rattle.std.specs.Prelude.{◌≡◌, ℕ, zero, suc, ◌+◌, ◌^◌, ◌<◌, ◌≤◌, max, Bool, true, false, ◌||◌, Some, is_some, List, [], ◌∷◌, ◌++◌, length, if◌then◌else◌}
+use Rattle.std.specs.List.{AllByRecursion, list_any, list_all}
+use Rattle.pp_terms.specs.format.Traffic.{Address, Record, Received, Quiet, Sent}
+use Rattle.pp_terms.specs.tree.Tree.{Node, height, is_full, peaks, same_node, is_peak, leaf_at}
+use Rattle.pp_terms.specs.tree.Bins.{parent_of, sibling_of}
+use Rattle.pp_terms.specs.tree.Book.{LookUp, IsRooted, has_peaks}
+use Rattle.pp_terms.specs.format.Descriptor.{Descriptor, chunks_of}
 use Rattle.pp_traffic.specs.Past.{now}
 use Rattle.pp_traffic.specs.Life.{Life, IsLife, closes_on}
 use Rattle.pp_traffic.specs.Story.{Line, Taken, hear, say, heard_in, said_in, story}
-use Rattle.pp_traffic.specs.Hashes.{same_node, is_peak, leaf_at, is_told, completes}
+use Rattle.pp_traffic.specs.Hashes.{is_told, completes}
 use Rattle.pp_traffic.specs.Serving.{Window, ServesAll}
 
 -- A longer past keeps a life, unless a closing handshake came for it.
@@ -61,6 +61,16 @@ plan chunks told i =
 abbrev pub PlansComplete : Type 0
 PlansComplete = (chunks : ℕ) (told : Node → Bool) (i : ℕ) → chunks ≤ 2 ^ 20 → i < chunks
     → completes chunks (λ n. list_any (same_node n) (plan chunks told i)) told i ≡ true
+
+-- All leaves under the node are chunks, and the book has it.
+abbrev pub IsInBook : Descriptor → LookUp → Node → Type 0
+IsInBook d book n = (is_full (chunks_of d) n ≡ true) × (is_some (book n.layer n.offset) ≡ true)
+
+-- A rooted book that has all peaks, and the leaf of a chunk, has every node of the chunk's plan.
+abbrev pub PlansAreInBooks : Type 0
+PlansAreInBooks = (d : Descriptor) (book : LookUp) (told : Node → Bool) (i : ℕ) → 0 < chunks_of d → chunks_of d ≤ 2 ^ 20
+    → IsRooted d book → has_peaks book (chunks_of d) ≡ true → i < chunks_of d → is_some (book 0 i) ≡ true
+    → AllByRecursion (IsInBook d book) (plan (chunks_of d) told i)
 
 -- What was served by a book was served by a larger one that is rooted.
 abbrev pub Extends : LookUp → LookUp → Type 0

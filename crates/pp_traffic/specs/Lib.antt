@@ -3,11 +3,14 @@ pub mod Life
 pub mod Story
 pub mod Asking
 pub mod Hashes
+pub mod Claims
 pub mod Serving
 pub mod Keeping
 pub mod Plain
 pub mod Awaiting
 pub mod Turns
+pub mod Tallied
+pub mod Committed
 pub mod Places
 pub mod Laws
 pub mod Flight
@@ -16,3 +19,7 @@ pub mod Gain
 pub mod Delays
 pub mod Trips
 pub mod Meter
+pub mod Example
+pub mod Fates
+pub mod FatesLaws
+pub mod FatesExamples

@@ -2,11 +2,11 @@
 -- and 8.2 to 8.4). It is opened by a handshake of each of the two. A record can lie on several lives, since a handshake can
 -- come again and numbers can be used again.
 use Rattle.std.specs.Prelude.{◌≡◌, ℕ, ◌<◌, ◌==◌, nat_lt, Bool, true, false, not, ◌&&◌, ◌||◌, if◌then◌else◌, is_none, List, [], ◌∷◌, length}
-use Rattle.pp_terms.specs.Traffic.{Address, Record}
-use Rattle.pp_terms.specs.Descriptor.{Descriptor}
-use Rattle.pp_terms.specs.Options.{Options}
-use Rattle.pp_terms.specs.Mismatch.{mismatch_of}
-use Rattle.pp_terms.specs.Messages.{Message, Handshake}
+use Rattle.pp_terms.specs.format.Traffic.{Address, Record}
+use Rattle.pp_terms.specs.format.Descriptor.{Descriptor}
+use Rattle.pp_terms.specs.format.Options.{Options}
+use Rattle.pp_terms.specs.format.Mismatch.{mismatch_of}
+use Rattle.pp_terms.specs.format.Messages.{Message, Handshake}
 use Rattle.pp_traffic.specs.Past.{read, comes_from, goes_to, is_number, some_since, is_at}
 
 -- The peer's address; this peer's number for the channel, to which the other one sends, and the other one's, to which this

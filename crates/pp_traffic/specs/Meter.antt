@@ -2,7 +2,7 @@
 -- It is a fold over the channel's story. Bytes and microseconds; each chunk counts as one of full size.
 use Rattle.std.specs.Prelude.{ℕ, ◌+◌, ◌-◌, ◌*◌, ◌/◌, ◌==◌, min, max, nat_lt, nat_le, Bool, true, false, not, ◌&&◌, ◌||◌, if◌then◌else◌, Option, Some, None, List, [], ◌∷◌, ◌++◌, length}
 use Rattle.std.specs.List.{count_by}
-use Rattle.pp_terms.specs.Messages.{Message, Data, Ack}
+use Rattle.pp_terms.specs.format.Messages.{Message, Data, Ack}
 use Rattle.pp_traffic.specs.Story.{Line, Heard, Said, Taken}
 use Rattle.pp_traffic.specs.Gain.{fewest, gained}
 use Rattle.pp_traffic.specs.Delays.{Delays, no_delays, sample_of, is_near, sampled, queuing}
@@ -21,9 +21,10 @@ pub record Meter : Type 0 where
   pub halved : Option ℕ
   pub timer : ℕ
 
-abbrev pub new_meter : (chunk now : ℕ) → Meter
-new_meter chunk now =
-    record { chunk = chunk; window = fewest * chunk; entries = []; delays = no_delays; trips = no_trips; halved = None; timer = now }
+-- Nothing is due before something flies, and the first sending sets the moment.
+abbrev pub new_meter : (chunk : ℕ) → Meter
+new_meter chunk =
+    record { chunk = chunk; window = fewest * chunk; entries = []; delays = no_delays; trips = no_trips; halved = None; timer = 0 }
 
 -- the bytes in flight, and whether there is room for a chunk more
 abbrev pub flight : Meter → ℕ
@@ -138,7 +139,7 @@ timed_out now m = record {
 abbrev pub ended : ℕ → Meter → Meter
 ended now m = if is_due now m then timed_out now m else m
 
--- ---- the meter of a story, for a chunk size and the moment of the opening
+-- ---- the meter of a story, for a chunk size
 
 abbrev pub heard_by : ℕ → Message → Meter → Meter
 heard_by now (Ack span delay) m = acked span.first span.last delay now m
@@ -148,12 +149,12 @@ abbrev pub said_by : ℕ → Message → Meter → Meter
 said_by now (Data chunk sent_at bytes) m = sent chunk now m
 said_by now _ m = m
 
-abbrev pub meter : (chunk opened : ℕ) → List Line → Meter
-meter chunk opened [] = new_meter chunk opened
-meter chunk opened (Heard now message ∷ before) = heard_by now message (meter chunk opened before)
-meter chunk opened (Said now message ∷ before) = said_by now message (meter chunk opened before)
-meter chunk opened (Taken now ∷ before) = ended now (meter chunk opened before)
+abbrev pub meter : (chunk : ℕ) → List Line → Meter
+meter chunk [] = new_meter chunk
+meter chunk (Heard now message ∷ before) = heard_by now message (meter chunk before)
+meter chunk (Said now message ∷ before) = said_by now message (meter chunk before)
+meter chunk (Taken now ∷ before) = ended now (meter chunk before)
 
 -- the story lets one more chunk be sent
 abbrev pub lets_send : (chunk : ℕ) → List Line → Bool
-lets_send chunk story = has_room (meter chunk 0 story)
+lets_send chunk story = has_room (meter chunk story)

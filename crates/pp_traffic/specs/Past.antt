@@ -1,9 +1,9 @@
 -- What a link carried (RFC 7574, section 8): a list of records, the newest first. The place of a record is the number of
 -- the records before it, so it stays when records are added.
 use Rattle.std.specs.Prelude.{ℕ, max, ◌==◌, nat_lt, nat_le, Bool, true, false, ◌&&◌, ◌||◌, if◌then◌else◌, Option, Some, None, List, [], ◌∷◌, length}
-use Rattle.pp_terms.specs.Traffic.{Address, same_address, Record, Received, Quiet, Sent}
-use Rattle.pp_terms.specs.Descriptor.{Descriptor}
-use Rattle.pp_terms.specs.Messages.{Datagram, datagram}
+use Rattle.pp_terms.specs.format.Traffic.{Address, same_address, Record, Received, Quiet, Sent}
+use Rattle.pp_terms.specs.format.Descriptor.{Descriptor}
+use Rattle.pp_terms.specs.format.Messages.{Datagram, datagram}
 
 -- the moment now: the greatest that the link handed in, in microseconds; 0 before the first
 abbrev pub now : List Record → ℕ

@@ -2,16 +2,17 @@
 -- it, the record, and what was before it.
 use Rattle.std.specs.Prelude.{◌≡◌, ◌≢◌, ◌⊎◌, ℕ, zero, suc, ◌+◌, ◌<◌, ◌≤◌, Bool, true, false, ◌||◌, List, ◌∷◌, ◌++◌, length, MatchBool, ◌↔◌}
 use Rattle.std.specs.List.{AllByRecursion, list_all}
-use Rattle.pp_terms.specs.Traffic.{Record}
-use Rattle.pp_terms.specs.Tree.{Node, height, peaks}
-use Rattle.pp_terms.specs.Bins.{parent_of, sibling_of}
-use Rattle.pp_terms.specs.Descriptor.{Descriptor}
-use Rattle.pp_terms.specs.Messages.{Span, Data, Request, Cancel, Choke, Unchoke}
+use Rattle.pp_terms.specs.format.Traffic.{Record}
+use Rattle.pp_terms.specs.tree.Tree.{Node, height, peaks, is_peak, leaf_at}
+use Rattle.pp_terms.specs.tree.Bins.{parent_of, sibling_of}
+use Rattle.pp_terms.specs.format.Descriptor.{Descriptor}
+use Rattle.pp_terms.specs.format.Messages.{Data, Request, Cancel, Choke, Unchoke}
+use Rattle.pp_terms.specs.tree.Range.{Span, within}
 use Rattle.pp_traffic.specs.Past.{now, now_at, comes_from, goes_to, is_event}
 use Rattle.pp_traffic.specs.Life.{Life, greets, answers, comes_on, shakes_on, closes_on, IsLife}
 use Rattle.pp_traffic.specs.Story.{Line, Heard, Said, Taken}
-use Rattle.pp_traffic.specs.Asking.{covers, choked, asked, is_heard}
-use Rattle.pp_traffic.specs.Hashes.{is_peak, leaf_at, completes}
+use Rattle.pp_traffic.specs.Asking.{choked, asked, is_heard}
+use Rattle.pp_traffic.specs.Hashes.{completes}
 use Rattle.pp_traffic.specs.Plain.{greets_once, asks_anew, concerns, greeting_time, silence_time, IsPlain}
 
 -- One that passes a test stands somewhere, and its place is one of these.
@@ -47,7 +48,7 @@ pub record IsLifeByPlaces (d : Descriptor) (life : Life) (past : List Record) : 
 
 -- Nothing in this line ends a request of the chunk.
 abbrev pub LeavesOpen : ℕ → Line → Type 0
-LeavesOpen i (Heard now (Cancel span)) = covers span i ≡ false
+LeavesOpen i (Heard now (Cancel span)) = within span i ≡ false
 LeavesOpen i (Heard now m) = Unit {0}
 LeavesOpen i (Said now (Data chunk sent_at bytes)) = chunk ≢ i
 LeavesOpen i (Said now Choke) = ⊥
@@ -61,7 +62,7 @@ pub record IsAskedByPlaces (i : ℕ) (story : List Line) : Type 0 where
   pub span : Span
   pub before : List Line
   pub split : story ≡ after ++ Heard now (Request span) ∷ before
-  pub covered : covers span i ≡ true
+  pub covered : within span i ≡ true
   pub unchoked : choked before ≡ false
   pub since : AllByRecursion (LeavesOpen i) after
 

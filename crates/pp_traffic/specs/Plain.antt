@@ -2,9 +2,9 @@
 -- long (RFC 7574, sections 3.1.1, 8.3 and 8.4; the times are this profile's). To these the promises of completeness are made.
 use Rattle.std.specs.Prelude.{◌≡◌, ℕ, ◌+◌, ◌<◌, nat_lt, nat_le, Bool, true, false, not, ◌&&◌, ◌||◌, if◌then◌else◌, Option, Some, None, List, [], ◌∷◌, length, drop, MatchBool}
 use Rattle.std.specs.List.{list_any}
-use Rattle.pp_terms.specs.Traffic.{Address, Record}
-use Rattle.pp_terms.specs.Descriptor.{Descriptor}
-use Rattle.pp_terms.specs.Messages.{Message, Handshake}
+use Rattle.pp_terms.specs.format.Traffic.{Address, Record}
+use Rattle.pp_terms.specs.format.Descriptor.{Descriptor}
+use Rattle.pp_terms.specs.format.Messages.{Message, Handshake}
 use Rattle.pp_traffic.specs.Past.{now, now_at, read, comes_from, goes_to, is_event, is_number, some_since, some_until, is_at}
 use Rattle.pp_traffic.specs.Life.{Life, greets, answers, comes_on, closes_on}
 

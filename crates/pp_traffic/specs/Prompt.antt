@@ -1,13 +1,13 @@
 -- What a peer owes at the end of each of its turns while nothing fails (RFC 7574, sections 3.1.1 and 3.7).
-use Rattle.std.specs.Prelude.{◌≡◌, ℕ, ◌==◌, Bool, true, false, not, ◌&&◌, List, ◌∷◌, ◌++◌, drop}
+use Rattle.std.specs.Prelude.{◌≡◌, ℕ, ◌≤◌, ◌==◌, Bool, true, false, not, ◌&&◌, List, ◌∷◌, ◌++◌, drop}
 use Rattle.std.specs.List.{list_any}
-use Rattle.pp_terms.specs.Traffic.{Record, Received, Quiet, Sent}
-use Rattle.pp_terms.specs.Descriptor.{Descriptor}
-use Rattle.pp_terms.specs.Messages.{Message, Handshake}
+use Rattle.pp_terms.specs.format.Traffic.{Record, Received, Quiet, Sent}
+use Rattle.pp_terms.specs.format.Descriptor.{Descriptor}
+use Rattle.pp_terms.specs.format.Messages.{Message, Handshake}
 use Rattle.pp_traffic.specs.Past.{read, goes_to, is_number}
 use Rattle.pp_traffic.specs.Life.{Life, begins, fits}
 use Rattle.pp_traffic.specs.Story.{story}
-use Rattle.pp_traffic.specs.Asking.{asked, is_heard}
+use Rattle.pp_traffic.specs.Asking.{asked, asks_in, most_asks, is_heard}
 use Rattle.pp_traffic.specs.Serving.{Window}
 use Rattle.pp_traffic.specs.Plain.{is_handshake, IsPlainNow}
 
@@ -45,7 +45,8 @@ abbrev pub LetsInFirst : Descriptor → List Record → Type 0
 LetsInFirst d past = (after : List Record) (r : Record) (before : List Record) → past ≡ after ++ r ∷ before
     → knocks_in d r ≡ true → knocks_once d r ≡ true → list_any (knocks_in d) before ≡ false → list_any (lets_in d r) after ≡ true
 
--- On a plain channel on which something came the chunk isn't left asked for while the window lets it be sent.
+-- On a plain channel on which something came, and no more requests and cancellations than there is room for, the chunk isn't
+-- left asked for while the window lets it be sent.
 abbrev pub ServesAsked : Descriptor → Window → ℕ → List Record → Type 0
-ServesAsked d window i past = (life : Life) → IsPlainNow d life past → is_heard d life past ≡ true → asked i (story d life past) ≡ true
-    → window (story d life past) ≡ false
+ServesAsked d window i past = (life : Life) → IsPlainNow d life past → is_heard d life past ≡ true
+    → asks_in (story d life past) ≤ most_asks → asked i (story d life past) ≡ true → window (story d life past) ≡ false

@@ -2,19 +2,24 @@
 -- peer, brings the hashes that the peer lacks, and fits the window (RFC 7574, sections 3.5 to 3.9, 5.3 and 8.16).
 use Rattle.std.specs.Prelude.{◌≡◌, ℕ, Bool, true, false, Option, Some, List, [], ◌∷◌, ◌++◌}
 use Rattle.std.specs.List.{AllByRecursion}
-use Rattle.pp_terms.specs.Traffic.{Address, Record, Received, Quiet, Sent}
-use Rattle.pp_terms.specs.Descriptor.{Descriptor, chunks_of}
-use Rattle.pp_terms.specs.Book.{LookUp, IsBacked}
-use Rattle.pp_terms.specs.Messages.{Message, Data}
+use Rattle.pp_terms.specs.format.Traffic.{Address, Record, Received, Quiet, Sent}
+use Rattle.pp_terms.specs.format.Descriptor.{Descriptor, chunks_of}
+use Rattle.pp_terms.specs.tree.Book.{LookUp, IsBacked}
+use Rattle.pp_terms.specs.format.Messages.{Message, Data}
 use Rattle.pp_traffic.specs.Past.{read, EachRecord}
 use Rattle.pp_traffic.specs.Life.{Life, IsLife}
 use Rattle.pp_traffic.specs.Story.{Line, story}
 use Rattle.pp_traffic.specs.Asking.{choked, asked, is_heard}
+use Rattle.pp_traffic.specs.Flight.{fewer_than_two}
 use Rattle.pp_traffic.specs.Hashes.{is_told, completes, brings, Carries}
 
 -- Which stories let one more chunk be sent: a congestion window, as a test.
 abbrev pub Window : Type 0
 Window = List Line → Bool
+
+-- the window of a swarm's channels
+abbrev pub window_of : Descriptor → Window
+window_of d = fewer_than_two
 
 -- A chunk, behind some messages, answers the peer on this life.
 pub record AnswersOn (d : Descriptor) (window : Window) (past : List Record) (life : Life) (i : ℕ) (front : List Message) : Type 0 where

@@ -1,8 +1,8 @@
 -- The story of a life: its messages, and the moments at which this peer looked up, the newest first.
 use Rattle.std.specs.Prelude.{ℕ, ◌==◌, nat_le, Bool, not, ◌&&◌, if◌then◌else◌, List, [], ◌∷◌, length, drop}
-use Rattle.pp_terms.specs.Traffic.{Record, Received, Quiet, Sent}
-use Rattle.pp_terms.specs.Descriptor.{Descriptor}
-use Rattle.pp_terms.specs.Messages.{Message, Handshake}
+use Rattle.pp_terms.specs.format.Traffic.{Record, Received, Quiet, Sent}
+use Rattle.pp_terms.specs.format.Descriptor.{Descriptor}
+use Rattle.pp_terms.specs.format.Messages.{Message, Handshake}
 use Rattle.pp_traffic.specs.Past.{now, read, goes_to, is_number}
 use Rattle.pp_traffic.specs.Life.{Life, greets, comes_on}
 

@@ -8,7 +8,10 @@ mod entries;
 
 ghost use Rattle.pp_traffic.specs.Places.{LivesByPlaces, AskedByPlaces, ChokedByPlaces, HeardByPlaces, PathsByPlaces, PlainByPlaces, MomentsByPlaces};
 ghost use Rattle.pp_traffic.specs.Awaiting.{PlainGrows};
-ghost use Rattle.pp_traffic.specs.Laws.{LivesStay, LivesBegan, StoriesGrow, ToldStays, PathsGrow, PlansComplete, ServedStays};
+ghost use Rattle.pp_traffic.specs.Laws.{LivesStay, LivesBegan, StoriesGrow, ToldStays, PathsGrow, PlansComplete, PlansAreInBooks, ServedStays};
+ghost use Rattle.pp_traffic.specs.Example.{TurnExamples, CountExamples, WindowExamples, ClaimedExamples, KeepExamples};
+ghost use Rattle.pp_traffic.specs.FatesLaws.{FatesAreOfAll, FatesAreFinal, AcksDecide, TimeoutsDecide, MetersFly, MetersTimeOut, StoriesNeverFall, MetersMeasure};
+ghost use Rattle.pp_traffic.specs.FatesExamples.{FatesExamples};
 
 pub use entries::{Entry, Minute};
 
@@ -31,6 +34,34 @@ pub fn laws_of_traffic()
     ensures told { ToldStays }
     ensures paths { PathsGrow }
     ensures plans { PlansComplete }
+    ensures books { PlansAreInBooks }
     ensures served { ServedStays }
     ensures plain { PlainGrows }
+{}
+
+/// The definitions on small traffic that was worked out by hand.
+pub fn worked_examples()
+    ensures turns { TurnExamples }
+    ensures counts { CountExamples }
+    ensures windows { WindowExamples }
+    ensures claims { ClaimedExamples }
+    ensures keeping { KeepExamples }
+{}
+
+/// What becomes of each DATA that was sent, and that the meter of a story, which drops and counts, is a summary of it: what
+/// flies, what is lost, when a timeout is due, and the delays (RFC 6817, sections 2.4 and 3.4.2; RFC 6298, section 5).
+pub fn laws_of_fates()
+    ensures all { FatesAreOfAll }
+    ensures stay { FatesAreFinal }
+    ensures acks { AcksDecide }
+    ensures timeouts { TimeoutsDecide }
+    ensures flight { MetersFly }
+    ensures timer { MetersTimeOut }
+    ensures moments { StoriesNeverFall }
+    ensures delays { MetersMeasure }
+{}
+
+/// Fates and samples in examples that were worked out by hand.
+pub fn examples_of_fates()
+    ensures { FatesExamples }
 {}

@@ -6,7 +6,7 @@ use Rattle.std.proofs.Math.Nat.{mod-eq_of_lt}
 use Rattle.std.proofs.lemmas.Bool.{cases_lt}
 use Rattle.std.proofs.lemmas.List.{get_or_past}
 use Rattle.pp_tree.specs.Book.{cell_of}
-use Rattle.pp_tree.proofs.Halving.{doubled}
+use Rattle.pp_terms.proofs.Peaks.{doubled}
 
 -- twice a number, under a power of two
 twice : (k n : ℕ) → 2 ^ suc k * n ≡ 2 * (2 ^ k * n)

@@ -1,51 +1,25 @@
 -- Rooted books agree with one another and with the content's tree, or two texts have one digest.
-use Rattle.std.proofs.Common.{◌≡◌, ◌⊎◌, ℕ, zero, suc, ◌+◌, ◌*◌, ◌/◌, ◌^◌, ◌≤◌, ◌<◌, nat_lt, true, false, cond, Some, List, ◌++◌, length, take, drop, refl, sym, ◌∙◌, ap, inl, inr, arith}
+use Rattle.std.proofs.Common.{◌≡◌, ◌⊎◌, ℕ, zero, suc, ◌+◌, ◌*◌, ◌/◌, ◌^◌, ◌≤◌, ◌<◌, nat_lt, true, Some, List, ◌++◌, length, refl, sym, ◌∙◌, ap, inl, inr, arith}
 use Rattle.std.proofs.Math.Nat.{mul-le-mul_left}
-use Rattle.std.proofs.Math.Seq.{take-append_seam, drop-append_seam}
-use Rattle.std.proofs.lemmas.Bool.{cases_Bool}
 use Rattle.std.proofs.lemmas.Bool.Decides.{nat_tests}
-use Rattle.std.proofs.lemmas.Slice.Eq.{bytes_eq-Decides}
-use Rattle.std.proofs.lemmas.List.{length-replicate}
-use Rattle.std.specs.Str.{bytes_eq}
 use Rattle.sha2.specs.Sha256.{sha256}
 use Rattle.sha2.proofs.Facts256.{length-sha256}
-use Rattle.pp_terms.specs.Content.{chunk_of, chunk_count}
-use Rattle.pp_terms.specs.Tree.{empty_hash, node, pair, leaf_of, height}
-use Rattle.pp_terms.specs.Book.{LookUp, IsJoined, IsRooted, IsBacked, PairsClash, Clash}
-use Rattle.pp_terms.specs.Descriptor.{Descriptor, chunks_of, height_of, IsDescriptor, IsContentOf}
+use Rattle.pp_terms.specs.tree.Content.{chunk_of, chunk_count}
+use Rattle.pp_terms.specs.tree.Tree.{node, pair, leaf_of, height}
+use Rattle.pp_terms.specs.tree.Book.{LookUp, IsJoined, IsRooted, IsBacked, PairsClash, Clash}
+use Rattle.pp_terms.specs.format.Descriptor.{Descriptor, chunks_of, height_of, IsDescriptor, IsContentOf}
 use Rattle.pp_terms.proofs.Heights.{height_is}
+use Rattle.pp_terms.proofs.Nodes.{hung, length-node}
+use Rattle.pp_terms.proofs.Facts.{front_same, back_same, bytes_cases, which_half}
 use Rattle.pp_tree.specs.Law.{BooksClash}
-use Rattle.pp_tree.proofs.Halving.{doubled}
-use Rattle.pp_tree.proofs.Rootedness.{which_child, some_same}
+use Rattle.pp_terms.proofs.Peaks.{doubled}
+use Rattle.pp_tree.proofs.Rootedness.{some_same}
 use Rattle.pp_tree.proofs.Sizes.{chunk_count_range, chunk_size_range}
-
-same_bytes : (xs ys : List ℕ) → (xs ≡ ys) ⊎ (xs ≡ ys → ⊥)
-same_bytes xs ys = elim (cases_Bool (bytes_eq xs ys)) [
-  | inl t ↦ inl ((bytes_eq-Decides xs ys).0 t)
-  | inr f ↦ inr (λ e. let t = (bytes_eq-Decides xs ys).1 e in cc)
-]
-
--- two pairs of digests are equal half by half
-left_same : (a b c d : List ℕ) → length a ≡ length c → a ++ b ≡ c ++ d → a ≡ c
-left_same a b c d long e =
-    sym (take-append_seam a b) ∙ ap (λ xs. take (length a) xs) e ∙ ap (λ n. take n (c ++ d)) long ∙ take-append_seam c d
-
-right_same : (a b c d : List ℕ) → length a ≡ length c → a ++ b ≡ c ++ d → b ≡ d
-right_same a b c d long e =
-    sym (drop-append_seam a b) ∙ ap (λ xs. drop (length a) xs) e ∙ ap (λ n. drop n (c ++ d)) long ∙ drop-append_seam c d
-
--- where an entry hangs, below the root
-hung : (d : Descriptor) (book : LookUp) (k n j : ℕ) (x : List ℕ) → IsRooted d book → k + suc n ≡ height_of d
-    → book k j ≡ Some x → (a : List ℕ) × (b : List ℕ) × IsJoined book k (j / 2) a b
-hung d book k n j x rooted low at = elim (rooted.hangs k j x at) [
-  | inl (top, first) ↦ absurd (omega arith)
-  | inr pair ↦ pair
-]
 
 -- the entry is its half of the pair
 half_is : (book : LookUp) (k j : ℕ) (x a b : List ℕ) → IsJoined book k (j / 2) a b → book k j ≡ Some x
     → ((j ≡ 2 * (j / 2)) × (x ≡ a)) ⊎ ((j ≡ 2 * (j / 2) + 1) × (x ≡ b))
-half_is book k j x a b joined at = elim (which_child j (j / 2) refl) [
+half_is book k j x a b joined at = elim (which_half j (j / 2) refl) [
   | inl e ↦ inl (e, some_same x a (book k j) at (ap (λ i. book k i) e ∙ joined.left_is))
   | inr e ↦ inr (e, some_same x b (book k j) at (ap (λ i. book k i) e ∙ joined.right_is))
 ]
@@ -63,18 +37,18 @@ rooted_agree d book other k (suc n) j x y rooted rooted' layer within at at' =
     let (a', b', two) = hung d other k n j y rooted' layer at' in
     let up : suc k + n ≡ height_of d = omega arith in
     let less : j / 2 < 2 ^ n = omega (arith, doubled n) in
-    elim (same_bytes (a ++ b) (a' ++ b')) [
+    elim (bytes_cases (a ++ b) (a' ++ b')) [
       | inl same ↦
           let long : length a ≡ length a' =
           rooted.digests k (2 * (j / 2)) a one.left_is ∙ sym (rooted'.digests k (2 * (j / 2)) a' two.left_is) in
           inl (elim (half_is book k j x a b one at) [
             | inl (even, x_is) ↦ elim (half_is other k j y a' b' two at') [
-              | inl (_, y_is) ↦ x_is ∙ left_same a b a' b' long same ∙ sym y_is
+              | inl (_, y_is) ↦ x_is ∙ front_same a b a' b' long same ∙ sym y_is
               | inr (odd, _) ↦ absurd (omega arith)
             ]
             | inr (odd, x_is) ↦ elim (half_is other k j y a' b' two at') [
               | inl (even, _) ↦ absurd (omega arith)
-              | inr (_, y_is) ↦ x_is ∙ right_same a b a' b' long same ∙ sym y_is
+              | inr (_, y_is) ↦ x_is ∙ back_same a b a' b' long same ∙ sym y_is
             ]
           ])
       | inr differ ↦ elim (rooted_agree d book other (suc k) n (j / 2) (sha256 (a ++ b)) (sha256 (a' ++ b'))
@@ -83,15 +57,6 @@ rooted_agree d book other k (suc n) j x y rooted rooted' layer within at at' =
             | inr clash ↦ inr (inr clash)
           ]
     ]
-
--- a node's digest has 32 bytes
-length-node : (leaf : ℕ → List ℕ) (n k j : ℕ) → ((i : ℕ) → length (leaf i) ≡ 32) → length (node leaf n k j) ≡ 32
-unfolding node empty_hash
-length-node leaf n zero j long = elim (nat_lt j n) as (λ b. length (cond b (leaf j) empty_hash) ≡ 32)
-    [ true ↦ long j | false ↦ length-replicate {A = ℕ} 32 0 ]
-length-node leaf n (suc k) j long = elim (nat_lt (j * 2 ^ suc k) n)
-    as (λ b. length (cond b (sha256 (node leaf n k (2 * j) ++ node leaf n k (2 * j + 1))) empty_hash) ≡ 32)
-    [ true ↦ length-sha256 (node leaf n k (2 * j) ++ node leaf n k (2 * j + 1)) | false ↦ length-replicate {A = ℕ} 32 0 ]
 
 -- a node that covers a chunk is the digest of its pair
 pub node_is : (leaf : ℕ → List ℕ) (n k j : ℕ) → j * 2 ^ suc k < n → node leaf n (suc k) j ≡ sha256 (pair leaf n k j)
@@ -128,14 +93,14 @@ tree_agree d book leaf k (suc n) j x long root rooted layer within covers at =
     let over = parent_covers k j (chunks_of d) covers in
     let left = node leaf (chunks_of d) k (2 * (j / 2)) in
     let right = node leaf (chunks_of d) k (2 * (j / 2) + 1) in
-    elim (same_bytes (pair leaf (chunks_of d) k (j / 2)) (a ++ b)) [
+    elim (bytes_cases (pair leaf (chunks_of d) k (j / 2)) (a ++ b)) [
       | inl same ↦
           let size : length (node leaf (chunks_of d) k (2 * (j / 2))) ≡ length a =
           length-node leaf (chunks_of d) k (2 * (j / 2)) long ∙ sym (rooted.digests k (2 * (j / 2)) a one.left_is) in
           inl (elim (half_is book k j x a b one at) [
-            | inl (even, x_is) ↦ x_is ∙ sym (left_same (node leaf (chunks_of d) k (2 * (j / 2))) (node leaf (chunks_of d) k (2 * (j / 2) + 1)) a b size same)
+            | inl (even, x_is) ↦ x_is ∙ sym (front_same (node leaf (chunks_of d) k (2 * (j / 2))) (node leaf (chunks_of d) k (2 * (j / 2) + 1)) a b size same)
                 ∙ ap (λ i. node leaf (chunks_of d) k i) (sym even)
-            | inr (odd, x_is) ↦ x_is ∙ sym (right_same (node leaf (chunks_of d) k (2 * (j / 2))) (node leaf (chunks_of d) k (2 * (j / 2) + 1)) a b size same)
+            | inr (odd, x_is) ↦ x_is ∙ sym (back_same (node leaf (chunks_of d) k (2 * (j / 2))) (node leaf (chunks_of d) k (2 * (j / 2) + 1)) a b size same)
                 ∙ ap (λ i. node leaf (chunks_of d) k i) (sym odd)
           ])
       | inr differ ↦ elim (tree_agree d book leaf (suc k) n (j / 2) (sha256 (a ++ b)) long root rooted up less over one.joined) [
@@ -163,7 +128,7 @@ backed_is_chunk d content book i bytes is of backed =
     let covers : i * 2 ^ 0 < chunks_of d = omega (arith, backed.within) in
     elim (tree_agree d book (leaf_of content d.chunk) 0 (height_of d) i (sha256 bytes)
     (λ l. length-sha256 (chunk_of content d.chunk l)) (root_here d content of) backed.rooted bottom below covers backed.leaf) [
-      | inl same ↦ elim (same_bytes bytes (chunk_of content d.chunk i)) [
+      | inl same ↦ elim (bytes_cases bytes (chunk_of content d.chunk i)) [
         | inl e ↦ inl e
         | inr differ ↦ inr (inl (differ, same ∙ leaf_is (leaf_of content d.chunk) (chunks_of d) i backed.within))
       ]

@@ -1,8 +1,8 @@
 -- How many decimal digits the numbers of a descriptor have.
 use Rattle.std.proofs.Common.{ℕ, ◌≤◌, ◌<◌, length, decimal, arith}
 use Rattle.std.proofs.lemmas.Fmt.{length-decimal-le}
-use Rattle.pp_terms.specs.Content.{IsChunkSize, IsContentSize}
-use Rattle.pp_terms.specs.Descriptor.{Method, method_number, Bin32, Range32, Bin64, Range64}
+use Rattle.pp_terms.specs.tree.Content.{IsChunkSize, IsContentSize}
+use Rattle.pp_terms.specs.format.Descriptor.{Method, method_number, Bin32, Range32, Bin64, Range64}
 use Rattle.pp_tree.proofs.Sizes.{chunk_size_range, content_size_range}
 
 pub chunk_digits : (n : ℕ) → IsChunkSize n → length (decimal n) ≤ 4

@@ -2,7 +2,7 @@
 use Rattle.std.proofs.Common.{◌≡◌, ℕ, ◌+◌, ◌-◌, ◌<◌, ◌≤◌, ◌==◌, true, false, List, [], ◌∷◌, ◌++◌, length, take, drop, get_or, codes, replicate, refl, sym, ◌∙◌, ap, subst, arith, append_assoc}
 use Rattle.std.proofs.lemmas.Bool.Decides.{nat_tests}
 use Rattle.std.proofs.lemmas.List.{ext_get_or, take-take, take-append-drop, length-replicate, get_or-replicate, append-nil}
-use Rattle.pp_terms.specs.DescriptorRead.{is_digit, is_lower_hex, IsNumber, IsSpelled, HasForm, IsFormFault}
+use Rattle.pp_terms.specs.format.DescriptorRead.{is_digit, is_lower_hex, IsNumber, IsSpelled, HasForm, IsFormFault}
 use Rattle.pp_tree.specs.Scan.{as_word, as_hex}
 use Rattle.pp_tree.proofs.Languages.{Part, Fixed, Numeral, Matches, Made, Sample, IsApart, IsStopAt, false_true}
 

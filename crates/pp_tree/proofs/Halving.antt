@@ -1,17 +1,9 @@
--- Halving again and again is division by a power of two; the peaks of a count, layer by layer.
+-- The peaks of a count, layer by layer.
 use Rattle.std.proofs.Common.{◌≡◌, ℕ, zero, suc, ◌+◌, ◌-◌, ◌*◌, ◌/◌, ◌%◌, ◌^◌, ◌≤◌, ◌<◌, ◌==◌, true, false, nat_lt, nat_le, List, [], ◌∷◌, ◌++◌, refl, sym, ◌∙◌, ap, subst, arith, append_assoc}
-use Rattle.std.proofs.Math.Nat.{div-div-eq-div-mul}
 use Rattle.std.proofs.Math.Pow.{pow_mono}
 use Rattle.std.proofs.lemmas.Bool.Decides.{nat_tests}
-use Rattle.pp_terms.specs.Tree.{above, peaks_below, Node}
-
-pub doubled : (k : ℕ) → 2 ^ suc k ≡ 2 ^ k * 2
-doubled k = grind arith
-
-pub above_is : (k c : ℕ) → above k c ≡ c / 2 ^ k
-above_is zero c = grind arith
-above_is (suc k) c =
-    ap (λ (n : ℕ). n / 2) (above_is k c) ∙ div-div-eq-div-mul c (2 ^ k) 2 ∙ ap (λ (d : ℕ). c / d) (sym (doubled k))
+use Rattle.pp_terms.specs.tree.Tree.{above, peaks_below, Node}
+use Rattle.pp_terms.proofs.Peaks.{above_is}
 
 one_peak : (m n : ℕ) → n / 2 ^ m % 2 ≡ 1
     → peaks_below (suc m) n ≡ record { layer = m; offset = n / 2 ^ m - 1 } ∷ peaks_below m n

@@ -4,7 +4,7 @@ use Rattle.std.proofs.lemmas.Bool.{cases_lt}
 use Rattle.std.proofs.lemmas.Bool.Decides.{nat_tests}
 use Rattle.hex.specs.Hex.{encode_with, encode_lower, lower_digits, decode_of, decode_sized, IsBytes}
 use Rattle.hex.proofs.HexLemmas.{decode_of-encode_lower, decode_sized-twice}
-use Rattle.pp_terms.specs.DescriptorRead.{is_lower_hex}
+use Rattle.pp_terms.specs.format.DescriptorRead.{is_lower_hex}
 
 -- the digits below ten
 small_digit : (v : ℕ) → v < 10 → get_or lower_digits v 0 ≡ 48 + v

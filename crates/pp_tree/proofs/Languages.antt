@@ -3,8 +3,9 @@ use Rattle.std.proofs.Common.{◌≡◌, ◌⊎◌, ℕ, ◌+◌, ◌-◌, ◌<�
 use Rattle.std.proofs.lemmas.Bool.{cases_lt, cases_order}
 use Rattle.std.proofs.lemmas.List.{get_or-take, get_or-drop, get_or_past, length-take-le, length-append, length-drop, take-append-drop, drop-drop, append_cancel_left}
 use Rattle.std.proofs.Math.ListN.{get_or-append}
-use Rattle.std.proofs.Math.Seq.{get_or-append_right, take-append-add, take-append_seam}
-use Rattle.pp_terms.specs.DescriptorRead.{is_digit, IsNumber}
+use Rattle.std.proofs.Math.Seq.{get_or-append_right, take-append-add}
+use Rattle.pp_terms.specs.format.DescriptorRead.{is_digit, IsNumber}
+use Rattle.pp_terms.proofs.Facts.{front_same}
 use Rattle.pp_tree.specs.Scan.{IsRead, IsStopped, IsNumberRead, IsNoNumber}
 
 pub data Part : Type 0 where
@@ -36,11 +37,6 @@ pub record IsStop (ps : List Part) (t : List ℕ) (n : ℕ) : Type 0 where
 
 pub false_true : (b : Bool) → b ≡ false → b ≡ true → ⊥
 false_true b p q = cc
-
--- two fronts of one length
-pub front_same : (x s y v : List ℕ) → length x ≡ length y → x ++ s ≡ y ++ v → x ≡ y
-front_same x s y v long e =
-    sym (take-append_seam x s) ∙ ap (λ xs. take (length x) xs) e ∙ ap (λ n. take n (y ++ v)) long ∙ take-append_seam y v
 
 -- the first byte of a front that isn't empty
 first_of_front : (n : ℕ) (s rest : List ℕ) → n < length s → get_or (take (n + 1) s ++ rest) 0 0 ≡ get_or s 0 0

@@ -1,14 +1,14 @@
 -- The nodes of a layer that cover a chunk, and those of the layer above.
-use Rattle.std.proofs.Common.{◌≡◌, ℕ, zero, suc, ◌+◌, ◌-◌, ◌*◌, ◌/◌, ◌^◌, ◌≤◌, ◌<◌, min, nat_lt, false, List, [], ◌∷◌, ◌++◌, length, take, drop, get_or, replicate, refl, sym, ◌∙◌, ap, subst, inl, inr, arith}
+use Rattle.std.proofs.Common.{◌≡◌, ℕ, zero, suc, ◌+◌, ◌-◌, ◌*◌, ◌/◌, ◌^◌, ◌≤◌, ◌<◌, min, List, [], ◌∷◌, ◌++◌, length, take, drop, get_or, replicate, refl, sym, ◌∙◌, ap, subst, inl, inr, arith}
 use Rattle.std.proofs.lemmas.Bool.{cases_lt}
-use Rattle.std.proofs.lemmas.Bool.Decides.{nat_tests}
 use Rattle.std.proofs.lemmas.List.{get_or_past, length-drop, length-append, take_all}
 use Rattle.std.proofs.Math.ListN.{get_or-append}
 use Rattle.std.proofs.Math.Seq.{get_or-append_seam}
 use Rattle.sha2.specs.Sha256.{sha256}
-use Rattle.pp_terms.specs.Content.{chunk_of}
-use Rattle.pp_terms.specs.Tree.{empty_hash, node, leaf_of}
-use Rattle.pp_tree.proofs.Halving.{doubled}
+use Rattle.pp_terms.specs.tree.Content.{chunk_of}
+use Rattle.pp_terms.specs.tree.Tree.{empty_hash, node, leaf_of}
+use Rattle.pp_terms.proofs.Nodes.{node_empty}
+use Rattle.pp_terms.proofs.Peaks.{doubled}
 use Rattle.pp_tree.proofs.Clashes.{node_is, leaf_is}
 
 -- the digests of the nodes of layer k that cover a chunk
@@ -24,12 +24,6 @@ layer_of_leaves leaf n digests size is = record {
   covered = λ j lt. omega (arith, size);
   each = λ j lt. (let within : j < n = omega (arith, size) in is j lt ∙ sym (leaf_is leaf n j within));
 }
-
--- a node that covers no chunk
-node_empty : (leaf : ℕ → List ℕ) (n k j : ℕ) → n ≤ j * 2 ^ k → node leaf n k j ≡ empty_hash
-unfolding node
-node_empty leaf n zero j le = let test : nat_lt j n ≡ false = grind (arith, nat_tests) in rw test refl
-node_empty leaf n (suc k) j le = let test : nat_lt (j * 2 ^ suc k) n ≡ false = grind (arith, nat_tests) in rw test refl
 
 pub default_in : (digests : List (List ℕ)) (i : ℕ) (x y : List ℕ) → i < length digests → get_or digests i x ≡ get_or digests i y
 default_in [] i x y lt = absurd (omega arith)

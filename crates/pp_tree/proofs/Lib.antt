@@ -2,6 +2,7 @@ pub mod Sizes
 pub mod Halving
 pub mod BinNumbers
 pub mod PeakTests
+pub mod PeakNodes
 pub mod Rootedness
 pub mod HeldCounts
 pub mod Clashes

@@ -156,9 +156,6 @@ value_bit count words xs i view none = ap (λ (ys : List Bool). slice_index_or y
 pub value_size : (count : ℕ) (words : List ℕ) (xs : List Bool) → bits_of count words ≡ xs → length xs ≡ count
 value_size count words xs view = ap (λ (ys : List Bool). length ys) (sym view) ∙ count_is count words
 
-pub in_list : (xs : List Bool) (i : ℕ) → slice_index_or xs i false ≡ true → i < length xs
-in_list xs i member = ⊎_elim (λ lt. lt) (λ ge. absurd (both_ways (slice_index_or xs i false) (get_or_past xs i false ge) member)) (cases_lt i (length xs))
-
 -- the least member from a number on
 pub member_found : (count : ℕ) (words : List ℕ) (xs : List Bool) (from i : ℕ) → bits_of count words ≡ xs
     → ((k : ℕ) → count ≤ k → bit_of words k ≡ false) → from ≤ i → bit_of words i ≡ true

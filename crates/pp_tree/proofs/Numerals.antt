@@ -1,10 +1,10 @@
 -- Numbers in a text, digit by digit.
-use Rattle.std.proofs.Common.{◌≡◌, ℕ, suc, ◌+◌, ◌-◌, ◌*◌, ◌<◌, ◌≤◌, ◌^◌, true, List, [], ◌∷◌, ◌++◌, length, take, drop, get_or, slice_index, refl, sym, ◌∙◌, ap, inl, inr, arith}
+use Rattle.std.proofs.Common.{◌≡◌, ℕ, suc, ◌+◌, ◌-◌, ◌*◌, ◌<◌, ◌≤◌, ◌^◌, true, List, [], ◌∷◌, ◌++◌, length, take, drop, get_or, slice_index, refl, sym, ◌∙◌, ap, inl, inr, arith, pow-suc}
 use Rattle.std.proofs.lemmas.Bool.{cases_eq}
 use Rattle.std.proofs.lemmas.Bool.Decides.{nat_tests}
 use Rattle.std.proofs.lemmas.List.{get_or-drop, length-drop}
 use Rattle.std.proofs.Math.Seq.{take-suc}
-use Rattle.pp_terms.specs.DescriptorRead.{is_digit, number_after, number_of}
+use Rattle.pp_terms.specs.format.DescriptorRead.{is_digit, number_after, number_of}
 
 -- a number's digits so far; the first isn't a zero
 pub record IsRunSoFar (bytes : List ℕ) (at end value : ℕ) : Type 0 where
@@ -20,9 +20,6 @@ pub record IsRunSoFar (bytes : List ℕ) (at end value : ℕ) : Type 0 where
 pub number_more : (n : ℕ) (xs : List ℕ) (c : ℕ) → number_after n (xs ++ c ∷ []) ≡ number_after n xs * 10 + (c - 48)
 number_more n [] c = refl
 number_more n (x ∷ xs) c = number_more (n * 10 + (x - 48)) xs c
-
-tenfold : (n : ℕ) → 10 ^ suc n ≡ 10 ^ n * 10
-tenfold n = grind arith
 
 pub digit_range : (c : ℕ) → is_digit c ≡ true → (48 ≤ c) × (c ≤ 57)
 digit_range c h = (grind (arith, nat_tests), grind (arith, nat_tests))
@@ -41,7 +38,7 @@ run_grows bytes at end value digit run within short is digit_is =
     let text : take (end + 1 - at) (drop at bytes) ≡ take (end - at) (drop at bytes) ++ slice_index bytes end ∷ [] =
     ap (λ n. take n (drop at bytes)) next ∙ take-suc (drop at bytes) (end - at) 0 room
     ∙ ap (λ c. take (end - at) (drop at bytes) ++ c ∷ []) last in
-    let power : 10 ^ (end + 1 - at) ≡ 10 ^ (end - at) * 10 = ap (λ n. 10 ^ n) next ∙ tenfold (end - at) in
+    let power : 10 ^ (end + 1 - at) ≡ 10 ^ (end - at) * 10 = ap (λ n. 10 ^ n) next ∙ pow-suc 10 (end - at) in
     record {
       from = omega arith;
       most = omega arith;

@@ -10,6 +10,7 @@ use Rattle.std.proofs.lemmas.List.{get_or-set_same, get_or-set_other, get_or_pas
 use Rattle.std.proofs.lemmas.List.FromFn.{length-map-range_with_len, get_or-map-range_with_len}
 use Rattle.std.proofs.lemmas.Bool.{cases_eq, cases_lt, eqb-true, eq-eqb, ne_eqb}
 use Rattle.std.proofs.lemmas.Bool.Decides.{nat_tests}
+use Rattle.std.proofs.Math.Bool.{or-true, or-false}
 use Rattle.pp_tree.specs.Bits.{bit_of, bits_of, IsSummary, IsPacked}
 
 -- the word of ones from one place to another, as it is computed
@@ -39,10 +40,6 @@ either_bit a b low small = grind (arith, nat_tests)
 joined : (a m k : ℕ) → (bit_at (bit_or a m) k == 1) ≡ (bit_at a k == 1 || bit_at m k == 1)
 joined a m k = ap (λ (b : ℕ). b == 1) (bit_at_or a m k) ∙ either_bit (bit_at a k) (bit_at m k) (bit_at-lt a k) (bit_at-lt m k)
 
-or_none : (b : Bool) → b ≡ (b || false)
-or_none true = refl
-or_none false = refl
-
 in_word : (first last i : ℕ) → first / 64 ≡ last / 64 → i / 64 ≡ first / 64
     → (nat_le (first % 64) (i % 64) && nat_le (i % 64) (last % 64)) ≡ (nat_le first i && nat_le i last)
 in_word first last i one here = grind (arith, nat_tests)
@@ -62,7 +59,7 @@ word_filled words first last m order one inside is i = ⊎_elim
     ∙ ap (λ (b : Bool). bit_of words i || b) (ap (λ (w : ℕ). bit_at w (i % 64) == 1) is ∙ masked (first % 64) (last % 64) (i % 64) (omega arith) ∙ in_word first last i one here))
     (λ other.
     ap (λ (w : ℕ). bit_at w (i % 64) == 1) (get_or-set_other words (first / 64) (i / 64) (bit_or (slice_index words (first / 64)) m) 0 other)
-    ∙ or_none (bit_of words i)
+    ∙ sym (or-false (bit_of words i))
     ∙ ap (λ (b : Bool). bit_of words i || b) (sym (out_of_word first last i one other)))
     (cases_eq (i / 64) (first / 64))
 
@@ -91,7 +88,7 @@ bits_more count old new first last inside more i = ⊎_elim
     (λ lt. bit_in count new i lt ∙ more i ∙ ap (λ (b : Bool). b || (nat_le first i && nat_le i last)) (sym (bit_in count old i lt)))
     (λ ge.
     let out : (nat_le first i && nat_le i last) ≡ false = grind (arith, nat_tests) in
-    bit_past count new i ge ∙ sym (ap (λ (b : Bool). slice_index_or (bits_of count old) i false || b) out ∙ sym (or_none (slice_index_or (bits_of count old) i false)) ∙ bit_past count old i ge))
+    bit_past count new i ge ∙ sym (ap (λ (b : Bool). slice_index_or (bits_of count old) i false || b) out ∙ or-false (slice_index_or (bits_of count old) i false) ∙ bit_past count old i ge))
     (cases_lt i count)
 
 pub zero_at : (n k : ℕ) → slice_index (replicate n 0) k ≡ 0
@@ -117,17 +114,13 @@ pub one_set : (old new : List Bool) (i : ℕ) → length new ≡ length old → 
 one_set old new i size inside more = same_lists new (slice_set old i true) (size ∙ sym (length-set old i true))
     (λ k d lt. get_or_default new k d false lt ∙ more k ∙ ⊎_elim
     (λ here. let both : (nat_le i k && nat_le k i) ≡ true = grind (arith, nat_tests) in
-    ap (λ (b : Bool). slice_index_or old k false || b) both ∙ or_all (slice_index_or old k false)
+    ap (λ (b : Bool). slice_index_or old k false || b) both ∙ or-true (slice_index_or old k false)
     ∙ sym (ap (λ (j : ℕ). slice_index_or (slice_set old i true) j d) here ∙ get_or-set_same old i true d inside))
     (λ other. let neither : (nat_le i k && nat_le k i) ≡ false = grind (arith, nat_tests) in
-    ap (λ (b : Bool). slice_index_or old k false || b) neither ∙ sym (or_none (slice_index_or old k false))
+    ap (λ (b : Bool). slice_index_or old k false || b) neither ∙ or-false (slice_index_or old k false)
     ∙ get_or_default old k false d (omega (arith, lt, size))
     ∙ sym (get_or-set_other old i k true d other))
     (cases_eq k i))
-  where
-    or_all : (b : Bool) → (b || true) ≡ true
-    or_all true = refl
-    or_all false = refl
 
 -- The summary over words of which one was written: full now, or not full.
 pub summary_more : (words new summary changed : List ℕ) (w : ℕ) → IsSummary summary words
@@ -137,16 +130,12 @@ pub summary_more : (words new summary changed : List ℕ) (w : ℕ) → IsSummar
     → IsSummary changed new
 summary_more words new summary changed w is others full more k = ⊎_elim
     (λ here. let both : (nat_le w k && nat_le k w) ≡ true = grind (arith, nat_tests) in
-    more k ∙ ap (λ (b : Bool). bit_of summary k || b) both ∙ or_all (bit_of summary k)
+    more k ∙ ap (λ (b : Bool). bit_of summary k || b) both ∙ or-true (bit_of summary k)
     ∙ sym (eq-eqb (slice_index new k) (2 ^ 64 - 1) (ap (λ (j : ℕ). slice_index new j) here ∙ full)))
     (λ other. let neither : (nat_le w k && nat_le k w) ≡ false = grind (arith, nat_tests) in
-    more k ∙ ap (λ (b : Bool). bit_of summary k || b) neither ∙ sym (or_none (bit_of summary k)) ∙ is k
+    more k ∙ ap (λ (b : Bool). bit_of summary k || b) neither ∙ or-false (bit_of summary k) ∙ is k
     ∙ ap (λ (v : ℕ). v == 2 ^ 64 - 1) (sym (others k other)))
     (cases_eq k w)
-  where
-    or_all : (b : Bool) → (b || true) ≡ true
-    or_all true = refl
-    or_all false = refl
 
 pub summary_same : (words new summary : List ℕ) (w : ℕ) → IsSummary summary words
     → ((k : ℕ) → (k ≡ w → ⊥) → slice_index new k ≡ slice_index words k)

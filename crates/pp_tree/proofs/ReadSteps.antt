@@ -2,7 +2,7 @@
 use Rattle.std.proofs.Common.{◌≡◌, ℕ, zero, suc, ◌+◌, ◌<◌, ◌≤◌, Bool, List, [], ◌∷◌, ◌++◌, length, drop, codes, refl, ◌∙◌, ap, arith}
 use Rattle.std.proofs.lemmas.List.{length-append, drop_all}
 use Rattle.hex.specs.Hex.{encode_lower, IsBytes}
-use Rattle.pp_terms.specs.DescriptorRead.{IsFormFault}
+use Rattle.pp_terms.specs.format.DescriptorRead.{IsFormFault}
 use Rattle.pp_tree.specs.declared.form.Words.{Words}
 use Rattle.pp_tree.specs.Scan.{as_word, as_hex, IsRead, IsStopped, IsNumberRead, IsNoNumber, AreWords}
 use Rattle.pp_tree.proofs.Languages.{Part, Fixed, Numeral, Made, IsApart, IsStopAt, piece, length-piece, split_at, on_fixed, on_number, stop_fixed, stop_number, stop_end, matches_fixed, matches_number}

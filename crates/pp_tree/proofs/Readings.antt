@@ -8,15 +8,16 @@ use Rattle.std.proofs.lemmas.Fmt.{digits_decimal, digits_value-decimal, decimal-
 use Rattle.std.proofs.lemmas.Str.Parse.{IsNumeralModel, numerals_by_fold, tells_by_index}
 use Rattle.hex.specs.Hex.{encode_lower, decode_of, IsBytes, lower_digits}
 use Rattle.hex.proofs.HexLemmas.{decode_of-encode_lower, length-encode_with}
-use Rattle.pp_terms.specs.Content.{IsChunkSize, IsContentSize}
-use Rattle.pp_terms.specs.Descriptor.{Descriptor, Method, Bin32, Range32, Bin64, Range64, method_number, descriptor_text, IsDescriptor}
-use Rattle.pp_terms.specs.DescriptorRead.{is_digit, IsNumber, number_after, number_of, Spelling, IsSpelled, IsChunkFault, before_method}
+use Rattle.pp_terms.specs.tree.Content.{IsChunkSize, IsContentSize}
+use Rattle.pp_terms.specs.format.Descriptor.{Descriptor, Method, Bin32, Range32, Bin64, Range64, method_number, descriptor_text, IsDescriptor}
+use Rattle.pp_terms.specs.format.DescriptorRead.{is_digit, IsNumber, number_after, number_of, Spelling, IsSpelled, IsChunkFault, before_method}
+use Rattle.pp_terms.proofs.Facts.{front_same}
 use Rattle.pp_tree.specs.declared.descriptor.DescriptorFault.{DescriptorFault}
 use Rattle.pp_tree.specs.declared.descriptor.DescriptorFault.TheVariants.{Form, Chunk, Size, Method as OfMethod}
 use Rattle.pp_tree.specs.Faults.{IsFaultOf}
 use Rattle.pp_tree.specs.Scan.{AreWords}
 use Rattle.pp_tree.specs.declared.form.Words.{Words}
-use Rattle.pp_tree.proofs.Languages.{front_same, number_same, false_true}
+use Rattle.pp_tree.proofs.Languages.{number_same, false_true}
 use Rattle.pp_tree.proofs.Digits.{method_below}
 use Rattle.pp_tree.proofs.HexDigits.{encoded_lower}
 use Rattle.pp_tree.proofs.Numerals.{digit_range}

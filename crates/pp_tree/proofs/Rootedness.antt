@@ -5,11 +5,12 @@ use Rattle.std.proofs.lemmas.Bool.{cases_eq, cases_lt}
 use Rattle.std.proofs.lemmas.List.{get_or_past, get_or-replicate, length-replicate}
 use Rattle.std.proofs.lemmas.Nat.{pow_pos}
 use Rattle.sha2.specs.Sha256.{sha256}
-use Rattle.pp_terms.specs.Book.{LookUp, IsRooted}
-use Rattle.pp_terms.specs.Descriptor.{Descriptor, height_of}
-use Rattle.pp_tree.specs.Book.{cell_of, in_cells, HasRootAlone, IsAdopted}
+use Rattle.pp_terms.specs.tree.Book.{LookUp, IsRooted}
+use Rattle.pp_terms.specs.format.Descriptor.{Descriptor, height_of}
+use Rattle.pp_terms.proofs.Facts.{which_half}
+use Rattle.pp_tree.specs.Book.{BookState, cell_of, in_cells, entry, IsBookOf, HasRootAlone, IsAdopted}
 use Rattle.pp_tree.specs.Cells.{AreOfTree}
-use Rattle.pp_tree.proofs.Halving.{doubled}
+use Rattle.pp_terms.proofs.Peaks.{doubled}
 use Rattle.pp_tree.proofs.BinNumbers.{same_cell, shifted, child_cells}
 
 -- whether two nodes are one
@@ -18,10 +19,6 @@ same_node k j l i = elim (cases_eq k l) [
   | inl e ↦ elim (cases_eq j i) [ inl f ↦ inl (e, f) | inr ne ↦ inr (λ both. ne both.1) ]
   | inr ne ↦ inr (λ both. ne both.0)
 ]
-
--- the left or the right child
-pub which_child : (j i : ℕ) → j / 2 ≡ i → (j ≡ 2 * i) ⊎ (j ≡ 2 * i + 1)
-which_child j i e = elim (cases_eq (j % 2) 0) [ inl even ↦ inl (omega arith) | inr odd ↦ inr (omega arith) ]
 
 pub some_same : {X : Type 0} (x y : X) (o : Option X) → o ≡ Some x → o ≡ Some y → x ≡ y
 some_same x y o p q = cc
@@ -40,6 +37,11 @@ rooted_alone d book long alone = record {
     | inr other ↦ let none = alone.others k j other in cc
   ];
 }
+
+-- and so it is the descriptor's book, where it was prepared for it
+pub book_alone : (d : Descriptor) (book : BookState) → length d.root ≡ 32 → book.descriptor ≡ Some d → HasRootAlone d (entry book)
+    → IsBookOf d book
+book_alone d book long is alone = record { descriptor_is = is; rooted = rooted_alone d (entry book) long alone }
 
 -- one cell of absent ones was filled
 pub alone_in : (d : Descriptor) (book : List (Option (List ℕ))) (n : ℕ) → n ≡ 2 ^ height_of d - 1
@@ -88,7 +90,7 @@ pub adopted_keeps : (k i : ℕ) (left right : List ℕ) (old new : LookUp) → I
     → old k (2 * i) ≡ None → old k (2 * i + 1) ≡ None → (l j : ℕ) (x : List ℕ) → old l j ≡ Some x → new l j ≡ Some x
 adopted_keeps k i left right old new is no_left no_right l j x at = elim (same_node l (j / 2) k i) [
   | inr other ↦ is.others l j other ∙ at
-  | inl same ↦ elim (which_child j i same.1) [
+  | inl same ↦ elim (which_half j i same.1) [
     | inl e ↦ let none : old l j ≡ None = ap (λ (m : ℕ). old m j) same.0 ∙ ap (λ (n : ℕ). old k n) e ∙ no_left in cc
     | inr e ↦ let none : old l j ≡ None = ap (λ (m : ℕ). old m j) same.0 ∙ ap (λ (n : ℕ). old k n) e ∙ no_right in cc
   ]
@@ -97,7 +99,7 @@ adopted_keeps k i left right old new is no_left no_right l j x at = elim (same_n
 -- one of the pair
 adopted_digest : (k i : ℕ) (left right : List ℕ) (old new : LookUp) → IsAdopted k i left right old new
     → length left ≡ 32 → length right ≡ 32 → (l j : ℕ) (x : List ℕ) → l ≡ k → j / 2 ≡ i → new l j ≡ Some x → length x ≡ 32
-adopted_digest k i left right old new is left_long right_long l j x layer half at = elim (which_child j i half) [
+adopted_digest k i left right old new is left_long right_long l j x layer half at = elim (which_half j i half) [
   | inl e ↦
       let there : new l j ≡ Some left = ap (λ (m : ℕ). new m j) layer ∙ ap (λ (n : ℕ). new k n) e ∙ is.left_is in
       let same = some_same left x (new l j) there at in ap (λ ys. length ys) (sym same) ∙ left_long

@@ -4,7 +4,7 @@ use Rattle.std.proofs.lemmas.Grind.{div_ceil_times}
 use Rattle.std.specs.List.{list_any}
 use Rattle.std.specs.Int.{div_ceil}
 use Rattle.std.proofs.lemmas.Bool.Decides.{nat_tests}
-use Rattle.pp_terms.specs.Content.{IsChunkSize, IsContentSize, chunk_count}
+use Rattle.pp_terms.specs.tree.Content.{IsChunkSize, IsContentSize, chunk_count}
 
 -- the chunk sizes
 abbrev sizes : List ℕ

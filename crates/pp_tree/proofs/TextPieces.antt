@@ -1,7 +1,7 @@
 -- The text of a descriptor, put together from left to right.
 use Rattle.std.proofs.Common.{◌≡◌, ℕ, List, ◌++◌, codes, decimal, ap, ◌∙◌, refl}
 use Rattle.hex.specs.Hex.{encode_lower}
-use Rattle.pp_terms.specs.Descriptor.{Descriptor, descriptor_text, method_number}
+use Rattle.pp_terms.specs.format.Descriptor.{Descriptor, descriptor_text, method_number}
 
 pub text_of_pieces : (d : Descriptor) (root : List ℕ) (chunk size method : ℕ) (t1 t2 t3 t4 t5 t6 t7 t8 : List ℕ)
     → root ≡ d.root → chunk ≡ d.chunk → size ≡ d.size → method ≡ method_number d.method

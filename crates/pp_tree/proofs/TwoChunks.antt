@@ -1,8 +1,8 @@
 -- A book prepared for two chunks, for a test.
 use Rattle.std.proofs.Common.{◌≡◌, ℕ, List, Some, None, refl, sym, ◌∙◌, ap, arith}
-use Rattle.pp_terms.specs.Tree.{height}
-use Rattle.pp_terms.specs.Book.{LookUp}
-use Rattle.pp_terms.specs.Descriptor.{Descriptor, Method, height_of}
+use Rattle.pp_terms.specs.tree.Tree.{height}
+use Rattle.pp_terms.specs.tree.Book.{LookUp}
+use Rattle.pp_terms.specs.format.Descriptor.{Descriptor, Method, height_of}
 use Rattle.pp_tree.specs.Book.{HasRootAlone}
 
 height_of_two : height 2 ≡ 1

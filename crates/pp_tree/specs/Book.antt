@@ -1,15 +1,23 @@
 -- What is meant by a book in memory: its cells, and the look-up that they are.
 use Rattle.std.specs.Prelude.{◌≡◌, ℕ, ◌+◌, ◌-◌, ◌*◌, ◌/◌, ◌^◌, Option, Some, None, List, [], slice_index_or}
-use Rattle.pp_terms.specs.Book.{LookUp}
-use Rattle.pp_terms.specs.Descriptor.{Descriptor, height_of}
+use Rattle.pp_terms.specs.tree.Book.{LookUp, IsRooted}
+use Rattle.pp_terms.specs.format.Descriptor.{Descriptor, chunks_of, height_of}
 
--- How many chunks the content has, 0 before the book is prepared, and the cells.
+-- The descriptor that the book was prepared for, if it was, and the cells.
 pub record BookState : Type 0 where
-  pub chunks : ℕ
+  pub descriptor : Option Descriptor
   pub cells : List (Option (List ℕ))
 
 abbrev pub empty_book : BookState
-empty_book = record { chunks = 0; cells = [] }
+empty_book = record { descriptor = None; cells = [] }
+
+abbrev pub chunks_or_none : Option Descriptor → ℕ
+chunks_or_none None = 0
+chunks_or_none (Some d) = chunks_of d
+
+-- how many chunks the content of a book has, 0 before the book is prepared
+abbrev pub chunks_in_book : BookState → ℕ
+chunks_in_book book = chunks_or_none book.descriptor
 
 -- the cell of node (k, j): its bin number (RFC 7574, section 4.2)
 abbrev pub cell_of : ℕ → ℕ → ℕ
@@ -20,6 +28,11 @@ in_cells cells k j = slice_index_or cells (cell_of k j) None
 
 abbrev pub entry : BookState → LookUp
 entry book = in_cells book.cells
+
+-- The book was prepared for the descriptor, and is rooted.
+pub record IsBookOf (d : Descriptor) (book : BookState) : Type 0 where
+  pub descriptor_is : book.descriptor ≡ Some d
+  pub rooted : IsRooted d (entry book)
 
 -- The book has the root and no other node.
 pub record HasRootAlone (d : Descriptor) (book : LookUp) : Type 0 where

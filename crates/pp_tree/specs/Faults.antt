@@ -1,6 +1,6 @@
 -- What is wrong with a text that isn't a descriptor's, by the fault that names it.
 use Rattle.std.specs.Prelude.{ℕ, List}
-use Rattle.pp_terms.specs.DescriptorRead.{IsFormFault, IsChunkFault, IsSizeFault, IsMethodFault}
+use Rattle.pp_terms.specs.format.DescriptorRead.{IsFormFault, IsChunkFault, IsSizeFault, IsMethodFault}
 use Rattle.pp_tree.specs.declared.descriptor.DescriptorFault.{DescriptorFault}
 use Rattle.pp_tree.specs.declared.descriptor.DescriptorFault.TheVariants.{Form, Chunk, Size, Method}
 

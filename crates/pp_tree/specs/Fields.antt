@@ -1,5 +1,5 @@
 -- The fields of a descriptor as the descriptor that they make, and back.
-use Rattle.pp_terms.specs.Descriptor as terms
+use Rattle.pp_terms.specs.format.Descriptor as terms
 use Rattle.pp_tree.specs.Method.{method_of, method_from}
 use Rattle.pp_tree.specs.declared.descriptor.Descriptor.TheInside.{Inside}
 

@@ -1,9 +1,9 @@
 -- Laws of rooted books, which a function of this crate states.
 use Rattle.std.specs.Prelude.{◌≡◌, ◌⊎◌, ℕ, zero, suc, ◌+◌, ◌/◌, ◌^◌, ◌<◌, Some, List, ◌++◌}
 use Rattle.sha2.specs.Sha256.{sha256}
-use Rattle.pp_terms.specs.Content.{chunk_of}
-use Rattle.pp_terms.specs.Book.{LookUp, IsJoined, IsRooted, IsBacked, Clash}
-use Rattle.pp_terms.specs.Descriptor.{Descriptor, height_of, IsDescriptor, IsContentOf}
+use Rattle.pp_terms.specs.tree.Content.{chunk_of}
+use Rattle.pp_terms.specs.tree.Book.{LookUp, IsJoined, IsRooted, IsBacked, Clash}
+use Rattle.pp_terms.specs.format.Descriptor.{Descriptor, height_of, IsDescriptor, IsContentOf}
 
 -- Two texts with one digest: above node (k, j), on the way of n layers up, the pairs of the two books differ.
 abbrev pub BooksClash : LookUp → LookUp → ℕ → ℕ → ℕ → Type 0

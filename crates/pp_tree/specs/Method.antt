@@ -1,5 +1,5 @@
 -- The chunk addressing methods as plain data.
-use Rattle.pp_terms.specs.Descriptor as terms
+use Rattle.pp_terms.specs.format.Descriptor as terms
 use Rattle.pp_tree.specs.declared.descriptor.Method.{Method}
 use Rattle.pp_tree.specs.declared.descriptor.Method.TheVariants.{Bin32, Range32, Bin64, Range64}
 

@@ -1,5 +1,5 @@
 -- A node as plain data.
-use Rattle.pp_terms.specs.Tree as terms
+use Rattle.pp_terms.specs.tree.Tree as terms
 use Rattle.pp_tree.specs.declared.node.Node.{Node}
 
 abbrev pub node_of : Node → terms.Node

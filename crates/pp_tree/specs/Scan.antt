@@ -1,7 +1,7 @@
 -- How the code reads a text from left to right: words of fixed length, byte by byte under a test, and numbers.
 use Rattle.std.specs.Prelude.{◌≡◌, ◌⊎◌, ℕ, ◌+◌, ◌-◌, ◌<◌, ◌≤◌, ◌==◌, Bool, true, false, List, take, drop, length, slice_index}
 use Rattle.hex.specs.Hex.{encode_lower, IsBytes}
-use Rattle.pp_terms.specs.DescriptorRead.{is_digit, is_lower_hex, number_of, Spelling, IsSpelled, before_chunk, before_size, before_method}
+use Rattle.pp_terms.specs.format.DescriptorRead.{is_digit, is_lower_hex, number_of, Spelling, IsSpelled, before_chunk, before_size, before_method}
 use Rattle.pp_tree.specs.declared.form.Words.{Words}
 
 -- the test of a given word's bytes, and of hexadecimal digits

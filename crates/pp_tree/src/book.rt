@@ -1,10 +1,10 @@
 // A book of digests in memory.
 ghost use Rattle.std.specs.Prelude.{◌≡◌, ℕ, ◌+◌, ◌-◌, ◌*◌, ◌<◌, ◌≤◌, ◌++◌, Some, None, replicate, length, OnOk, OnErr, IfOk, IfSome, MatchOption};
 ghost use Rattle.sha2.specs.Sha256.{sha256};
-ghost use Rattle.pp_terms.specs.Book.{IsRooted};
-ghost use Rattle.pp_terms.specs.Descriptor.{Descriptor, chunks_of};
-ghost use Rattle.pp_terms.specs.Image as image;
-ghost use Rattle.pp_tree.specs.Book.{empty_book, cell_of, entry, HasRootAlone, IsAdopted};
+ghost use Rattle.pp_terms.specs.tree.Book.{IsRooted};
+ghost use Rattle.pp_terms.specs.format.Descriptor.{Descriptor};
+ghost use Rattle.pp_terms.specs.tree.Book as books;
+ghost use Rattle.pp_tree.specs.Book.{empty_book, chunks_in_book, cell_of, entry, IsBookOf, HasRootAlone, IsAdopted};
 
 use crate::descriptor::Descriptor;
 use crate::digest::Digest;
@@ -16,7 +16,7 @@ use std::marker::Model;
 /// (RFC 7574, section 4.2); past the last cell nothing is known.
 #[derive(Drop)]
 pub struct Book {
-    chunks: u32,
+    descriptor: Option<Descriptor>,
     cells: Vec<Option<[u8; 32]>>,
 }
 
@@ -25,7 +25,7 @@ impl Model for Book {
 
     ghost Value = { BookState };
 
-    ghost view = { λ b. record { chunks = b.chunks; cells = b.cells.items } };
+    ghost view = { λ b. record { descriptor = b.descriptor; cells = b.cells.items } };
 
     ghost use Rattle.pp_tree.specs.Cells.{AreOfTree};
 
@@ -39,7 +39,7 @@ impl Book {
         ensures absent { (k j : ℕ) → entry result k j ≡ None }
     {
         Book {
-            chunks: 0,
+            descriptor: None,
             cells: Vec::new(alloc),
         }
     }
@@ -49,8 +49,7 @@ impl Book {
     pub fn prepare(&mut self, alloc: Global, descriptor: &Descriptor) -> Result<(), AllocError>
         requires { self.old ≡ empty_book }
         ensures alone { OnOk result (HasRootAlone descriptor.now (entry self.new)) }
-        ensures chunks { OnOk result (self.new.chunks ≡ chunks_of descriptor.now) }
-        ensures rooted { OnOk result (IsRooted descriptor.now (entry self.new)) }
+        ensures book { OnOk result (IsBookOf descriptor.now self.new) }
         ensures err { OnErr result (self.new ≡ self.old) }
     {
         let root = descriptor.root();
@@ -58,9 +57,16 @@ impl Book {
         let middle = (1 << height) - 1;
         let mut cells = absent_cells(alloc, 2 * middle + 1)?;
         cells[middle] = Some(*root.bytes());
-        self.chunks = descriptor.chunks();
+        self.descriptor = Some(*descriptor);
         self.cells = cells;
         Ok(())
+    }
+
+    /// The descriptor that the book was prepared for; none before that.
+    pub fn descriptor(&self) -> Option<Descriptor>
+        ensures { result ≡ self.now.descriptor }
+    {
+        self.descriptor
     }
 
     /// The digest of a node, where the book has it.
@@ -77,18 +83,28 @@ impl Book {
 
     /// Whether the book has all peaks of its content's tree.
     pub fn has_peaks(&self) -> bool
-        ensures { result ≡ image.has_peaks (entry self.now) self.now.chunks 21 }
+        ensures { result ≡ books.has_peaks (entry self.now) (chunks_in_book self.now) }
     {
-        self.has_peaks_below(21)
+        self.has_peaks_below(21, self.chunks())
     }
 
-    // whether it has the peaks of the lowest layers
-    fn has_peaks_below(&self, layers: u8) -> bool
+    // how many chunks the content has; none before the book is prepared
+    fn chunks(&self) -> u32
+        ensures { result ≡ chunks_in_book self.now }
+    {
+        match &self.descriptor {
+            Some(descriptor) => descriptor.chunks(),
+            None => 0,
+        }
+    }
+
+    // whether it has the peaks of the lowest layers of a tree over so many chunks
+    fn has_peaks_below(&self, layers: u8, chunks: u32) -> bool
         requires { layers ≤ 32 }
-        ensures { result ≡ image.has_peaks (entry self.now) self.now.chunks layers }
+        ensures { result ≡ books.has_peaks_below (entry self.now) chunks layers }
     {
         for layer in 0..layers {
-            let full = self.chunks >> layer;
+            let full = chunks >> layer;
             if full % 2 == 1 {
                 let offset = full - 1;
                 if self.get(Node { layer, offset }).is_none() {
@@ -106,7 +122,7 @@ impl Book {
         requires left_absent { entry self.old (node.layer - 1) (2 * node.offset) ≡ None }
         requires right_absent { entry self.old (node.layer - 1) (2 * node.offset + 1) ≡ None }
         ensures adopted { IsAdopted (node.layer - 1) node.offset left right (entry self.old) (entry self.new) }
-        ensures chunks { self.new.chunks ≡ self.old.chunks }
+        ensures descriptor { self.new.descriptor ≡ self.old.descriptor }
         ensures rooted { (d : Descriptor) → IsRooted d (entry self.old) → IsRooted d (entry self.new) }
     {
         let at = self.cell(node).unwrap();
@@ -150,6 +166,7 @@ mod tests {
     fn begins_empty(rt: HostRuntime) {
         let book = Book::empty(rt.alloc());
         assert_eq!(rt; book.get(Node::default()), None);
+        assert_eq!(rt; book.descriptor(), None);
     }
 
     // A tree of two chunks.
@@ -183,5 +200,6 @@ mod tests {
             );
         }
         assert!(rt; book.has_peaks());
+        assert_eq!(rt; book.descriptor(), Some(descriptor));
     }
 }

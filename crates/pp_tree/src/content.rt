@@ -1,9 +1,9 @@
 // The tree of a whole content in memory.
 ghost use Rattle.std.specs.Prelude.{◌≡◌, ℕ, ◌+◌, ◌*◌, ◌/◌, ◌^◌, ◌<◌, ◌≤◌, ◌++◌, length, slice_index_or, [], IfOk};
 ghost use Rattle.sha2.specs.Sha256.{sha256};
-ghost use Rattle.pp_terms.specs.Content.{chunk_count};
-ghost use Rattle.pp_terms.specs.Tree as terms;
-ghost use Rattle.pp_terms.specs.Tree.{leaf_of, empty_hash};
+ghost use Rattle.pp_terms.specs.tree.Content.{chunk_count};
+ghost use Rattle.pp_terms.specs.tree.Tree as terms;
+ghost use Rattle.pp_terms.specs.tree.Tree.{leaf_of, empty_hash};
 
 use crate::digest::{Digest, leaf};
 use crate::node::{height, parent};

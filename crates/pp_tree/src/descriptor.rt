@@ -1,9 +1,9 @@
 // What names a swarm.
 ghost use Rattle.std.specs.Prelude.{◌≡◌, ◌↔◌, ◌+◌, ◌^◌, ◌<◌, ◌≤◌, length, take, drop, IsOk, IfOk, IfErr, IsTrue, MatchOption};
 ghost use Rattle.hex.specs.Hex.{IsBytes};
-ghost use Rattle.pp_terms.specs.Content.{chunk_length, IsChunkSize, IsContentSize};
-ghost use Rattle.pp_terms.specs.Descriptor.{chunks_of, height_of, descriptor_text, IsDescriptor};
-ghost use Rattle.pp_terms.specs.Tree.{IsHeight};
+ghost use Rattle.pp_terms.specs.tree.Content.{chunk_length, IsChunkSize, IsContentSize};
+ghost use Rattle.pp_terms.specs.format.Descriptor.{chunks_of, height_of, descriptor_text, IsDescriptor};
+ghost use Rattle.pp_terms.specs.tree.Tree.{IsHeight};
 ghost use Rattle.pp_tree.specs.Faults.{IsFaultOf};
 ghost use Rattle.pp_tree.specs.Method.{method_of};
 
@@ -24,8 +24,8 @@ pub enum Method {
 }
 
 impl Method {
-    ghost use Rattle.pp_terms.specs.Descriptor as terms;
-    ghost use Rattle.pp_terms.specs.Descriptor.{method_number};
+    ghost use Rattle.pp_terms.specs.format.Descriptor as terms;
+    ghost use Rattle.pp_terms.specs.format.Descriptor.{method_number};
 
     /// Its number on the wire and in a descriptor's text.
     pub fn number(self) -> u8
@@ -89,7 +89,7 @@ pub struct Descriptor {
 }
 
 impl Model for Descriptor {
-    ghost use Rattle.pp_terms.specs.Descriptor as terms;
+    ghost use Rattle.pp_terms.specs.format.Descriptor as terms;
 
     ghost Value = { terms.Descriptor };
 
@@ -103,7 +103,7 @@ impl Model for Descriptor {
 }
 
 impl Descriptor {
-    ghost use Rattle.pp_terms.specs.Descriptor.{Descriptor};
+    ghost use Rattle.pp_terms.specs.format.Descriptor.{Descriptor};
 
     /// A swarm's descriptor. The chunk size is a power of two from 256 to 8192, and a content has at least one byte and
     /// at most 2^20 chunks; the chunk size is judged first.

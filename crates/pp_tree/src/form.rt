@@ -2,7 +2,7 @@
 // of the first byte that no text of the form could have there.
 ghost use Rattle.std.specs.Prelude.{◌≡◌, ℕ, ◌<◌, ◌≤◌, true, length, slice_index, IfOk, IfErr};
 ghost use Rattle.hex.specs.Hex.{encode_lower, IsBytes};
-ghost use Rattle.pp_terms.specs.DescriptorRead.{is_lower_hex, IsFormFault};
+ghost use Rattle.pp_terms.specs.format.DescriptorRead.{is_lower_hex, IsFormFault};
 ghost use Rattle.pp_tree.specs.Scan.{as_word, as_hex, IsRead, IsStopped, IsNumberRead, IsNoNumber, AreWords};
 
 /// The words of a text of the form, as numbers, and where the last three begin.

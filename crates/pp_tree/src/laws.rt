@@ -1,5 +1,5 @@
 // What follows from the definitions of rooted books, and examples of the text of a descriptor.
-ghost use Rattle.pp_terms.specs.ReadExample.{ReadExamples};
+ghost use Rattle.pp_terms.specs.format.ReadExample.{ReadExamples};
 ghost use Rattle.pp_tree.specs.Law.{RootedBooksAgree, BackedIsChunk};
 
 /// Two rooted books agree, and what a book backs is the content's, where no two different texts have one digest. It

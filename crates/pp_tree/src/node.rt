@@ -1,8 +1,9 @@
 // Nodes of a content's tree, and their digests.
-ghost use Rattle.std.specs.Prelude.{◌≡◌, ℕ, ◌++◌, ◌^◌, ◌<◌, ◌≤◌, map};
+ghost use Rattle.std.specs.Prelude.{◌≡◌, ℕ, ◌+◌, ◌/◌, ◌++◌, ◌^◌, ◌<◌, ◌≤◌, map};
 ghost use Rattle.sha2.specs.Sha256.{sha256};
-ghost use Rattle.pp_terms.specs.Tree as terms;
-ghost use Rattle.pp_terms.specs.Tree.{IsHeight, peaks_below};
+ghost use Rattle.pp_terms.specs.tree.Tree as terms;
+ghost use Rattle.pp_terms.specs.tree.Tree.{IsHeight, peaks_below};
+ghost use Rattle.pp_terms.specs.tree.Bins as bins;
 ghost use Rattle.pp_tree.specs.Node.{node_of};
 
 use crate::digest::Digest;
@@ -14,6 +15,45 @@ use sha2::{Digest as _, Sha256};
 pub struct Node {
     pub layer: u8,
     pub offset: u32,
+}
+
+/// The leaf of a chunk.
+pub fn leaf_at(chunk: u32) -> Node
+    ensures leaf { node_of result ≡ terms.leaf_at chunk }
+    ensures is { result ≡ record { layer = 0; offset = chunk } }
+{
+    Node {
+        layer: 0,
+        offset: chunk,
+    }
+}
+
+/// The node above a node.
+pub fn parent_of(node: Node) -> Node
+    requires { node.layer < 255 }
+    ensures parent { node_of result ≡ bins.parent_of (node_of node) }
+    ensures is { result ≡ record { layer = node.layer + 1; offset = node.offset / 2 } }
+{
+    Node {
+        layer: node.layer + 1,
+        offset: node.offset / 2,
+    }
+}
+
+/// The other child of a node's parent.
+pub fn sibling_of(node: Node) -> Node
+    ensures sibling { node_of result ≡ bins.sibling_of (node_of node) }
+    ensures is { result ≡ record { layer = node.layer; offset = bins.sibling node.offset } }
+{
+    let offset = if node.offset % 2 == 0 {
+        node.offset + 1
+    } else {
+        node.offset - 1
+    };
+    Node {
+        layer: node.layer,
+        offset,
+    }
 }
 
 /// The digest of a node by those of its children (RFC 7574, section 5.1).
@@ -67,6 +107,20 @@ pub fn is_full(node: Node, chunks: u32) -> bool
     ensures { result ≡ terms.is_full chunks (node_of node) }
 {
     node.layer < 32 && (u64::from(node.offset) + 1) << node.layer <= u64::from(chunks)
+}
+
+/// Whether the node is a peak of the tree over that many chunks: the last full one of an odd number in its layer.
+#[tactic(auto, using(crate::proofs::PeakNodes::too_high, crate::proofs::PeakNodes::right_child))]
+pub fn is_peak(node: Node, chunks: u32) -> bool
+    ensures { result ≡ terms.is_peak chunks (node_of node) }
+{
+    if node.layer >= 21 {
+        return false;
+    }
+    if node.offset % 2 == 1 {
+        return false;
+    }
+    chunks >> node.layer == node.offset + 1
 }
 
 #[cfg(test)]

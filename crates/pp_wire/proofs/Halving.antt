@@ -1,6 +1,7 @@
 -- When a span is that of one bin, by its halves.
 use Rattle.std.proofs.Common.{◌≡◌, ◌↔◌, ◌⊎◌, ℕ, ◌/◌, ◌%◌, ◌≤◌, IsTrue, Bool, true, false, refl, subst, arith, inl, inr}
-use Rattle.pp_terms.specs.Messages.{Span, IsBinSpan}
+use Rattle.pp_terms.specs.format.Messages.{IsBinSpan}
+use Rattle.pp_terms.specs.tree.Range.{Span}
 use Rattle.pp_terms.proofs.BinSpans.{Halves, bin_leaf, bin_halves, bin_twice}
 
 abbrev pub from_to : ℕ → ℕ → Span

@@ -1,9 +1,10 @@
 -- What is put at a place of an output.
 use Rattle.std.specs.Prelude.{◌≡◌, ℕ, ◌+◌, ◌^◌, ◌<◌, ◌≤◌, List, length, Result, Ok, Err}
 use Rattle.pp_terms.specs.Place.{placed}
-use Rattle.pp_terms.specs.Descriptor.{Method, Bin32, Range32, Bin64, Range64}
-use Rattle.pp_terms.specs.Options.{Options, IsSpelling}
-use Rattle.pp_terms.specs.Messages.{Span, Message, Handshake, Data, Ack, Have, Integrity, Pex4, PexReq, Request, Cancel, Choke, Unchoke, Pex6, IsNamed, only}
+use Rattle.pp_terms.specs.format.Descriptor.{Method, Bin32, Range32, Bin64, Range64}
+use Rattle.pp_terms.specs.format.Options.{Options, IsSpelling}
+use Rattle.pp_terms.specs.format.Messages.{Message, Handshake, Data, Ack, Have, Integrity, Pex4, PexReq, Request, Cancel, Choke, Unchoke, Pex6, IsNamed, only}
+use Rattle.pp_terms.specs.tree.Range.{Span}
 use Rattle.pp_options.specs.Views.{HasSpelling}
 use Rattle.pp_wire.specs.declared.message.PutFault.{PutFault}
 use Rattle.pp_wire.specs.declared.message.PutFault.TheVariants.{NoRoom, NotABin}

@@ -1,6 +1,7 @@
 -- Messages, faults and steps, seen as the plain data that they mean.
 use Rattle.std.specs.Prelude.{◌≡◌, Result, Ok, Err}
-use Rattle.pp_terms.specs.Messages as plain
+use Rattle.pp_terms.specs.tree.Range as ranges
+use Rattle.pp_terms.specs.format.Messages as plain
 use Rattle.pp_options.specs.Views.{options_of, fault_of}
 use Rattle.pp_wire.specs.declared.message.Span.{Span}
 use Rattle.pp_wire.specs.declared.message.Message.{Message}
@@ -10,7 +11,7 @@ use Rattle.pp_wire.specs.declared.message.WireKind.TheVariants as kinds
 use Rattle.pp_wire.specs.declared.message.Step.{Step}
 use Rattle.pp_wire.specs.declared.message.Step.TheVariants as steps
 
-abbrev pub span_of : Span → plain.Span
+abbrev pub span_of : Span → ranges.Span
 span_of s = record { first = s.first; last = s.last }
 
 -- the message, without where its bytes lie in memory

@@ -1,7 +1,7 @@
 //! Which chunks are the leaves of one bin (RFC 7574, section 4.2).
 
 ghost use Rattle.std.specs.Prelude.{◌≡◌, ◌↔◌, ◌+◌, ◌<◌, ◌≤◌, IsTrue, IfSome, IfNone};
-ghost use Rattle.pp_terms.specs.Messages.{IsBinSpan, bin_number_of};
+ghost use Rattle.pp_terms.specs.format.Messages.{IsBinSpan, bin_number_of};
 ghost use Rattle.pp_wire.specs.Views.{span_of};
 
 use crate::message::Span;

@@ -1,7 +1,7 @@
 //! What holds of all messages. These functions do nothing: their contracts are the laws.
 
-ghost use Rattle.pp_terms.specs.Messages.{SpeltIsRead, OneMessage, OneByOne, GrowsByOne};
-ghost use Rattle.pp_terms.specs.MessageExample.{MessageExamples};
+ghost use Rattle.pp_terms.specs.format.Messages.{SpeltIsRead, OneMessage, OneByOne, GrowsByOne};
+ghost use Rattle.pp_terms.specs.format.MessageExample.{MessageExamples};
 
 /// Messages follow from their bytes: what was spelled is read again, whatever follows, and no spelling of a message begins
 /// another's, but that a DATA of fewer bytes than a chunk can begin a longer one and so ends its datagram.

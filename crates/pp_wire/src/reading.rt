@@ -2,8 +2,8 @@
 
 ghost use Rattle.std.specs.Prelude.{◌≡◌, ◌↔◌, ℕ, ◌+◌, ◌^◌, ◌≤◌, ◌<◌, List, length, take, drop, IfOk, Ok};
 ghost use Rattle.std.specs.Int.{w16, w32, w64};
-ghost use Rattle.pp_terms.specs.Messages.{Message as PlainMessage, Read, End, BeginsWith, bytes_at, number_at, chunk_bytes_at, one_chunk, handshake_at, data_at, ack_at, integrity_at, span_at, address_at, message_at, next_message, moved, later, place_of, options_in};
-ghost use Rattle.pp_terms.specs.Options.{read_options};
+ghost use Rattle.pp_terms.specs.format.Messages.{Message as PlainMessage, Read, End, BeginsWith, bytes_at, number_at, chunk_bytes_at, one_chunk, handshake_at, data_at, ack_at, integrity_at, span_at, address_at, message_at, next_message, moved, later, place_of, options_in};
+ghost use Rattle.pp_terms.specs.format.Options.{read_options};
 ghost use Rattle.pp_options.specs.Views.{options_of, fault_of};
 ghost use Rattle.pp_tree.specs.Method.{method_of};
 ghost use Rattle.pp_wire.specs.Views.{span_of, message_of, step_of, Gives};
@@ -74,7 +74,7 @@ fn one_chunk(span: Span) -> Result<u64, WireKind>
     }
 }
 
-#[tactic(auto, unfolding(pp_terms::specs::Messages::data_at))]
+#[tactic(auto, unfolding(pp_terms::specs::format::Messages::data_at))]
 fn data_at(bytes: &[u8], method: Method, chunk: u32) -> Result<(Message<'_>, &[u8]), WireKind>
     ensures gives { Gives (λ x. (message_of x.0, x.1.now)) result (data_at (method_of method) chunk bytes.now) }
     ensures rest { IfOk result (λ x. length x.1.now ≤ length bytes.now) }
@@ -93,7 +93,7 @@ fn data_at(bytes: &[u8], method: Method, chunk: u32) -> Result<(Message<'_>, &[u
     ))
 }
 
-#[tactic(auto, unfolding(pp_terms::specs::Messages::ack_at))]
+#[tactic(auto, unfolding(pp_terms::specs::format::Messages::ack_at))]
 fn ack_at(bytes: &[u8], method: Method) -> Result<(Message<'_>, &[u8]), WireKind>
     ensures gives { Gives (λ x. (message_of x.0, x.1.now)) result (ack_at (method_of method) bytes.now) }
     ensures rest { IfOk result (λ x. length x.1.now ≤ length bytes.now) }
@@ -104,7 +104,7 @@ fn ack_at(bytes: &[u8], method: Method) -> Result<(Message<'_>, &[u8]), WireKind
     Ok((Message::Ack { span, delay }, rest))
 }
 
-#[tactic(auto, unfolding(pp_terms::specs::Messages::span_at))]
+#[tactic(auto, unfolding(pp_terms::specs::format::Messages::span_at))]
 fn span_at(bytes: &[u8], method: Method) -> Result<(Span, &[u8]), WireKind>
     ensures gives { Gives (λ x. (span_of x.0, x.1.now)) result (span_at (method_of method) bytes.now) }
     ensures rest { IfOk result (λ x. length x.1.now ≤ length bytes.now) }
@@ -114,7 +114,7 @@ fn span_at(bytes: &[u8], method: Method) -> Result<(Span, &[u8]), WireKind>
     Ok((span, rest))
 }
 
-#[tactic(auto, unfolding(pp_terms::specs::Messages::integrity_at))]
+#[tactic(auto, unfolding(pp_terms::specs::format::Messages::integrity_at))]
 fn integrity_at(bytes: &[u8], method: Method) -> Result<(Message<'_>, &[u8]), WireKind>
     ensures gives { Gives (λ x. (message_of x.0, x.1.now)) result (integrity_at (method_of method) bytes.now) }
     ensures rest { IfOk result (λ x. length x.1.now ≤ length bytes.now) }
@@ -133,7 +133,7 @@ fn integrity_at(bytes: &[u8], method: Method) -> Result<(Message<'_>, &[u8]), Wi
     ))
 }
 
-#[tactic(auto, unfolding(pp_terms::specs::Messages::address_at))]
+#[tactic(auto, unfolding(pp_terms::specs::format::Messages::address_at))]
 fn address4_at(bytes: &[u8]) -> Result<([u8; 4], u16, &[u8]), WireKind>
     ensures gives { Gives (λ x. (x.0, x.1, x.2.now)) result (address_at 4 bytes.now) }
     ensures rest { IfOk result (λ x. length x.2.now ≤ length bytes.now) }
@@ -145,7 +145,7 @@ fn address4_at(bytes: &[u8]) -> Result<([u8; 4], u16, &[u8]), WireKind>
     Ok((address, port, rest))
 }
 
-#[tactic(auto, unfolding(pp_terms::specs::Messages::address_at))]
+#[tactic(auto, unfolding(pp_terms::specs::format::Messages::address_at))]
 fn address6_at(bytes: &[u8]) -> Result<([u8; 16], u16, &[u8]), WireKind>
     ensures gives { Gives (λ x. (x.0, x.1, x.2.now)) result (address_at 16 bytes.now) }
     ensures rest { IfOk result (λ x. length x.2.now ≤ length bytes.now) }
@@ -208,7 +208,7 @@ fn options_at(bytes: &[u8]) -> Result<(Options<'_>, &[u8]), WireKind>
     }
 }
 
-#[tactic(auto, unfolding(pp_terms::specs::Messages::handshake_at))]
+#[tactic(auto, unfolding(pp_terms::specs::format::Messages::handshake_at))]
 fn handshake_at(bytes: &[u8]) -> Result<(Message<'_>, &[u8]), WireKind>
     requires { length bytes.now + 1 < 2 ^ 64 }
     ensures gives { Gives (λ x. (message_of x.0, x.1.now)) result (handshake_at bytes.now) }
@@ -220,7 +220,7 @@ fn handshake_at(bytes: &[u8]) -> Result<(Message<'_>, &[u8]), WireKind>
 }
 
 /// The message behind its type, and the bytes after it.
-#[tactic(auto, unfolding(pp_terms::specs::Messages::message_at))]
+#[tactic(auto, unfolding(pp_terms::specs::format::Messages::message_at))]
 fn message_at(
     kind: u8,
     bytes: &[u8],
@@ -263,7 +263,7 @@ fn message_at(
     }
 }
 
-#[tactic(auto, unfolding(pp_terms::specs::Messages::next_message))]
+#[tactic(auto, unfolding(pp_terms::specs::format::Messages::next_message))]
 fn step<'a>(bytes: &'a [u8], at: usize, method: Method, chunk: u32) -> Step<'a>
     requires { at ≤ length bytes.now }
     ensures { step_of result ≡ moved at (next_message (method_of method) chunk (drop at bytes.now)) }

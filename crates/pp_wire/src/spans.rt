@@ -2,7 +2,7 @@
 
 ghost use Rattle.std.specs.Prelude.{◌≡◌, ℕ, ◌+◌, ◌^◌, ◌<◌, ◌≤◌, length};
 ghost use Rattle.std.specs.Int.{w32, w64, from_be_bytes};
-ghost use Rattle.pp_terms.specs.Messages.{span_length, leaves_of, span_of_bin, span_of_range, span_in};
+ghost use Rattle.pp_terms.specs.format.Messages.{span_length, leaves_of, span_of_bin, span_of_range, span_in};
 ghost use Rattle.pp_tree.specs.Method.{method_of};
 ghost use Rattle.pp_wire.specs.Views.{span_of, Gives};
 
@@ -84,7 +84,7 @@ fn u64_of(bytes: &[u8]) -> u64
 }
 
 /// The chunks that a specification names.
-#[tactic(auto, unfolding(pp_terms::specs::Messages::span_in))]
+#[tactic(auto, unfolding(pp_terms::specs::format::Messages::span_in))]
 pub fn span_in(method: Method, bytes: &[u8]) -> Result<Span, WireKind>
     requires { length bytes.now ≡ span_length (method_of method) }
     ensures { Gives span_of result (span_in (method_of method) bytes.now) }

@@ -3,8 +3,8 @@
 ghost use Rattle.std.specs.Prelude.{◌≡◌, ℕ, ◌+◌, ◌^◌, ◌≤◌, ◌<◌, List, ◌∷◌, ◌++◌, length, IfOk};
 ghost use Rattle.std.specs.Int.{w16, w32, to_be_bytes};
 ghost use Rattle.pp_terms.specs.Place.{placed};
-ghost use Rattle.pp_terms.specs.Messages.{IsNamed, IsSpelt, spell_span, spell};
-ghost use Rattle.pp_terms.specs.Options.{spelling_of};
+ghost use Rattle.pp_terms.specs.format.Messages.{IsNamed, IsSpelt, spell_span, spell};
+ghost use Rattle.pp_terms.specs.format.Options.{spelling_of};
 ghost use Rattle.pp_options.specs.Views.{options_of, HasSpelling};
 ghost use Rattle.pp_tree.specs.Method.{method_of};
 ghost use Rattle.pp_wire.specs.Views.{span_of, message_of};
@@ -165,7 +165,7 @@ fn put_handshake(
 /// Puts the message at the place `at` of the output, which is at most its length, and answers the place behind it. The
 /// options of a handshake go by rising codes. What is put is read again by `next`, whatever follows, but for a DATA of
 /// fewer bytes than a chunk, which has to be the last.
-#[tactic(auto, unfolding(pp_terms::specs::Messages::spell))]
+#[tactic(auto, unfolding(pp_terms::specs::format::Messages::spell))]
 pub fn put<'m>(
     message: &'m Message<'m>,
     method: Method,

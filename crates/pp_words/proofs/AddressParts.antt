@@ -6,9 +6,9 @@ use Rattle.std.specs.Net.Grammar.{IsDotted}
 use Rattle.std.proofs.lemmas.List.{append_cancel_right}
 use Rattle.std.proofs.lemmas.List.Elements.{All-head, All-tail, All-from_get_or}
 use Rattle.std.proofs.Math.ListN.{get_or-append}
-use Rattle.pp_terms.specs.DescriptorRead.{is_digit, number_of}
-use Rattle.pp_terms.specs.Traffic.{Address, V4, V6}
-use Rattle.pp_terms.specs.Addresses.{AreEightGroups, IsHost, port_of, IsAddress}
+use Rattle.pp_terms.specs.format.DescriptorRead.{is_digit, number_of}
+use Rattle.pp_terms.specs.format.Traffic.{Address, V4, V6}
+use Rattle.pp_terms.specs.format.Addresses.{AreEightGroups, IsHost, port_of, IsAddress}
 use Rattle.pp_tree.proofs.Readings.{decimal_is_number, number_of_decimal}
 use Rattle.pp_words.proofs.AddressTexts.{dotted_same, groups_same}
 

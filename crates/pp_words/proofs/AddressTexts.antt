@@ -8,7 +8,7 @@ use Rattle.std.proofs.NetLemmas.Options.{same_parts}
 use Rattle.std.proofs.NetLemmas.Ipv4.{read_ipv4_complete}
 use Rattle.std.proofs.NetLemmas.Ipv6.{read_ipv6_complete, EndsGroups-nil}
 use Rattle.std.proofs.lemmas.Bool.{cases_eq, ne_eqb, true≢false}
-use Rattle.pp_terms.specs.Addresses.{AreEightGroups}
+use Rattle.pp_terms.specs.format.Addresses.{AreEightGroups}
 
 -- ---- IPv4
 

@@ -1,11 +1,11 @@
 -- A text has at most one fault of a descriptor's text, and none if it is one's.
 use Rattle.std.proofs.Common.{◌≡◌, ℕ, List, length, sym, ◌∙◌, ap, subst, inl, inr, Err}
 use Rattle.std.proofs.lemmas.Bool.{cases_order}
-use Rattle.pp_terms.specs.Content.{IsChunkSize, IsContentSize}
-use Rattle.pp_terms.specs.Descriptor.{Descriptor}
-use Rattle.pp_terms.specs.DescriptorRead.{Spelling, IsSpelled, number_of, before_chunk, before_size, before_method, IsFormFault, IsChunkFault, IsSizeFault, IsMethodFault}
-use Rattle.pp_terms.specs.DescriptorFault.{DescriptorFault, Form, Chunk, Size, Method, HasFault}
-use Rattle.pp_terms.specs.CommandLine.{IsDescriptorText}
+use Rattle.pp_terms.specs.tree.Content.{IsChunkSize, IsContentSize}
+use Rattle.pp_terms.specs.format.Descriptor.{Descriptor}
+use Rattle.pp_terms.specs.format.DescriptorRead.{Spelling, IsSpelled, number_of, before_chunk, before_size, before_method, IsFormFault, IsChunkFault, IsSizeFault, IsMethodFault}
+use Rattle.pp_terms.specs.format.DescriptorFault.{DescriptorFault, Form, Chunk, Size, Method, HasFault}
+use Rattle.pp_terms.specs.command.CommandLine.{IsDescriptorText}
 use Rattle.pp_tree.specs.declared.descriptor.DescriptorFault.TheVariants as fault
 use Rattle.pp_tree.proofs.Readings.{each_read, same_spelling}
 

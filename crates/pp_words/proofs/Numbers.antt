@@ -1,8 +1,8 @@
 -- Numbers in decimal digits, read digit by digit.
-use Rattle.std.proofs.Common.{◌≡◌, ℕ, suc, ◌+◌, ◌-◌, ◌*◌, ◌<◌, ◌≤◌, ◌^◌, true, List, [], ◌∷◌, ◌++◌, length, take, slice_index, decimal, sym, ◌∙◌, ap, subst, inl, inr, arith}
+use Rattle.std.proofs.Common.{◌≡◌, ℕ, suc, ◌+◌, ◌-◌, ◌*◌, ◌<◌, ◌≤◌, ◌^◌, true, List, [], ◌∷◌, ◌++◌, length, take, slice_index, decimal, sym, ◌∙◌, ap, subst, inl, inr, arith, pow-suc}
 use Rattle.std.proofs.lemmas.Bool.{cases_eq}
 use Rattle.std.proofs.Math.Seq.{take-suc}
-use Rattle.pp_terms.specs.DescriptorRead.{is_digit, IsNumber, number_of}
+use Rattle.pp_terms.specs.format.DescriptorRead.{is_digit, IsNumber, number_of}
 use Rattle.pp_tree.proofs.Numerals.{number_more, digit_range}
 use Rattle.pp_tree.proofs.Readings.{decimal_of_number, number_of_decimal, decimal_is_number}
 use Rattle.pp_words.specs.Digits.{AreDigits}
@@ -13,9 +13,6 @@ pub record IsReadSoFar (text : List ℕ) (i value : ℕ) : Type 0 where
   pub value_is : value ≡ number_of (take i text)
   pub bound : value < 10 ^ i
 
-tenfold : (n : ℕ) → 10 ^ suc n ≡ 10 ^ n * 10
-tenfold n = grind arith
-
 pub digit_more : (text : List ℕ) (i value digit : ℕ) → IsReadSoFar text i value → i < length text
     → is_digit (slice_index text i) ≡ true → digit ≡ slice_index text i - 48 → IsReadSoFar text (i + 1) (value * 10 + digit)
 digit_more text i value digit so_far within is digit_is =
@@ -23,7 +20,7 @@ digit_more text i value digit so_far within is digit_is =
     let next : i + 1 ≡ suc i = omega arith in
     let front : take (i + 1) text ≡ take i text ++ slice_index text i ∷ [] =
     ap (λ n. take n text) next ∙ take-suc text i 0 within in
-    let power : 10 ^ (i + 1) ≡ 10 ^ i * 10 = ap (λ n. 10 ^ n) next ∙ tenfold i in
+    let power : 10 ^ (i + 1) ≡ 10 ^ i * 10 = ap (λ n. 10 ^ n) next ∙ pow-suc 10 i in
     record {
       digits = λ k low. elim (cases_eq k i) [
         | inl e ↦ ap (λ j. is_digit (slice_index text j)) e ∙ is

@@ -6,14 +6,14 @@ use Rattle.std.specs.List.{AllZip}
 use Rattle.std.proofs.lemmas.Bool.{true≢false}
 use Rattle.std.proofs.lemmas.Fmt.{decimal_injective}
 use Rattle.std.proofs.lemmas.Slice.Eq.{bytes_eq-Decides}
-use Rattle.pp_terms.specs.Content.{IsChunkSize}
-use Rattle.pp_terms.specs.Descriptor.{Descriptor}
-use Rattle.pp_terms.specs.Traffic.{Address}
-use Rattle.pp_terms.specs.Addresses.{IsAddress}
-use Rattle.pp_terms.specs.Commands.{Order, Sequential, Rarest, order_text, Command, Import, Seed, Fetch, Check, Export, Replay, Rehearse}
-use Rattle.pp_terms.specs.Usage as wrong
-use Rattle.pp_terms.specs.Usage.{Usage, usage}
-use Rattle.pp_terms.specs.CommandLine.{IsDescriptorText, IsImport, IsSeed, IsFetch, IsOnStore, IsRehearse, Spells, Shape, import_shape, seed_shape, fetch_shape, check_shape, export_shape, replay_shape, rehearse_shape, commands, shape_of, named, IsFirstWrong}
+use Rattle.pp_terms.specs.tree.Content.{IsChunkSize}
+use Rattle.pp_terms.specs.format.Descriptor.{Descriptor}
+use Rattle.pp_terms.specs.format.Traffic.{Address}
+use Rattle.pp_terms.specs.format.Addresses.{IsAddress}
+use Rattle.pp_terms.specs.command.Commands.{Order, Sequential, Rarest, order_text, Command, Import, Seed, Fetch, Check, Export, Replay, Rehearse}
+use Rattle.pp_terms.specs.command.Usage as wrong
+use Rattle.pp_terms.specs.command.Usage.{Usage, usage}
+use Rattle.pp_terms.specs.command.CommandLine.{IsDescriptorText, IsImport, IsSeed, IsFetch, IsOnStore, IsRehearse, Spells, Shape, import_shape, seed_shape, fetch_shape, check_shape, export_shape, replay_shape, rehearse_shape, commands, shape_of, named, IsFirstWrong}
 use Rattle.pp_tree.proofs.Readings.{descriptor_same}
 use Rattle.pp_tree.proofs.Sizes.{chunk_size_range}
 use Rattle.pp_words.proofs.AddressParts.{address_same}

@@ -2,12 +2,12 @@
 use Rattle.std.proofs.Common.{◌≡◌, ℕ, zero, suc, ◌+◌, ◌<◌, ◌≤◌, List, [], ◌∷◌, length, Option, Some, None, refl, sym, ◌∙◌, ap, subst, inl, inr, arith}
 use Rattle.std.specs.Prelude.{MatchOption}
 use Rattle.std.specs.List.{AllZip}
-use Rattle.pp_terms.specs.Traffic.{Address}
-use Rattle.pp_terms.specs.Addresses.{IsAddress}
-use Rattle.pp_terms.specs.Commands.{Command, Import, Seed, Fetch, Check, Export, Replay, Rehearse}
-use Rattle.pp_terms.specs.Usage as wrong
-use Rattle.pp_terms.specs.Usage.{Usage, usage}
-use Rattle.pp_terms.specs.CommandLine.{Spells, Slot, AStore, AChunk, ANumber, ADescriptor, AnAddress, AnOrder, IsRight, IsWrong, Shape, commands, shape_of, named, IsOneOf, IsWrongFrom, IsFirstWrong}
+use Rattle.pp_terms.specs.format.Traffic.{Address}
+use Rattle.pp_terms.specs.format.Addresses.{IsAddress}
+use Rattle.pp_terms.specs.command.Commands.{Command, Import, Seed, Fetch, Check, Export, Replay, Rehearse}
+use Rattle.pp_terms.specs.command.Usage as wrong
+use Rattle.pp_terms.specs.command.Usage.{Usage, usage}
+use Rattle.pp_terms.specs.command.CommandLine.{Spells, Slot, AStore, AChunk, ANumber, ADescriptor, AnAddress, AnOrder, IsRight, IsWrong, Shape, commands, shape_of, named, IsOneOf, IsWrongFrom, IsFirstWrong}
 use Rattle.pp_words.proofs.FaultLaws.{no_fault, fault_same}
 
 -- ---- one first wrong word

@@ -1,7 +1,7 @@
 -- The six chunk sizes, and how they are spelled.
 use Rattle.std.proofs.Common.{◌≡◌, ⊎_elim, ℕ, List, refl, ◌∙◌, ap, arith, decimal, codes}
 use Rattle.std.specs.Fmt.{digits}
-use Rattle.pp_terms.specs.Content.{IsChunkSize}
+use Rattle.pp_terms.specs.tree.Content.{IsChunkSize}
 use Rattle.pp_tree.proofs.Sizes.{size_of_chunk_size}
 
 pub spelled_256 : (word : List ℕ) → word ≡ codes "256" → IsChunkSize 256 × (word ≡ decimal 256)

@@ -1,9 +1,9 @@
 -- The words, what they spell and what is wrong with them, as plain data.
 use Rattle.std.specs.Prelude.{ℕ, List, map, String, string_bytes}
 use Rattle.std.specs.declared.alloc.Global.{Global}
-use Rattle.pp_terms.specs.Commands as terms
-use Rattle.pp_terms.specs.DescriptorFault as fault
-use Rattle.pp_terms.specs.Usage as wrong
+use Rattle.pp_terms.specs.command.Commands as terms
+use Rattle.pp_terms.specs.format.DescriptorFault as fault
+use Rattle.pp_terms.specs.command.Usage as wrong
 use Rattle.pp_outside.specs.Outside.{address_of}
 use Rattle.pp_tree.specs.declared.descriptor.DescriptorFault.{DescriptorFault}
 use Rattle.pp_tree.specs.declared.descriptor.DescriptorFault.TheVariants.{Form, Chunk, Size, Method}

@@ -2,8 +2,8 @@
 ghost use Rattle.std.specs.Prelude.{◌≡◌, ◌≢◌, ℕ, ◌^◌, ◌<◌, List, ◌∷◌, ◌++◌, All, codes, decimal, option_map, Some, IfSome, MatchOption};
 ghost use Rattle.std.specs.Net.Addr.{octets_of};
 ghost use Rattle.std.specs.Net.Grammar.{IsDotted};
-ghost use Rattle.pp_terms.specs.Addresses.{AreEightGroups, IsAddress};
-ghost use Rattle.pp_terms.specs.Traffic as terms;
+ghost use Rattle.pp_terms.specs.format.Addresses.{AreEightGroups, IsAddress};
+ghost use Rattle.pp_terms.specs.format.Traffic as terms;
 ghost use Rattle.pp_outside.specs.Outside.{address_of};
 
 use crate::number::number;

@@ -1,6 +1,6 @@
 // The words of each command, behind its name.
 ghost use Rattle.std.specs.Prelude.{codes, drop, IfOk, IfErr};
-ghost use Rattle.pp_terms.specs.CommandLine.{Spells, IsWrongFrom, import_shape, seed_shape, fetch_shape, check_shape, export_shape, replay_shape, rehearse_shape};
+ghost use Rattle.pp_terms.specs.command.CommandLine.{Spells, IsWrongFrom, import_shape, seed_shape, fetch_shape, check_shape, export_shape, replay_shape, rehearse_shape};
 ghost use Rattle.pp_words.specs.Views.{texts, command_of, usage_of};
 ghost use Rattle.pp_words.specs.Slots.{Takes};
 

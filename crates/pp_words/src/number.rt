@@ -1,6 +1,6 @@
 // Numbers in decimal digits.
 ghost use Rattle.std.specs.Prelude.{◌≡◌, ◌↔◌, ℕ, ◌<◌, ◌≤◌, length, slice_index, decimal, MatchOption, IsTrue};
-ghost use Rattle.pp_terms.specs.DescriptorRead.{number_of};
+ghost use Rattle.pp_terms.specs.format.DescriptorRead.{number_of};
 ghost use Rattle.pp_words.specs.Digits.{AreDigits};
 
 // How many digits the greatest number of 64 bits has.

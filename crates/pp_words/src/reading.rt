@@ -1,8 +1,8 @@
 // The command that words spell.
 ghost use Rattle.std.specs.Prelude.{◌≡◌, IfOk, IfErr, IsOkAnd, IsErrAnd};
-ghost use Rattle.pp_terms.specs.Commands as terms;
-ghost use Rattle.pp_terms.specs.CommandLine.{Spells, IsFirstWrong, commands};
-ghost use Rattle.pp_terms.specs.Usage as wrong;
+ghost use Rattle.pp_terms.specs.command.Commands as terms;
+ghost use Rattle.pp_terms.specs.command.CommandLine.{Spells, IsFirstWrong, commands};
+ghost use Rattle.pp_terms.specs.command.Usage as wrong;
 ghost use Rattle.pp_words.specs.Views.{texts, command_of, usage_of};
 
 use crate::commands::{check, export, fetch, import, rehearse, replay, seed};

@@ -1,11 +1,11 @@
 // One word of a command line after the other, each for its place. `at` counts the words from 0.
 ghost use Rattle.std.specs.Prelude.{◌≡◌, ℕ, ◌+◌, ◌^◌, ◌<◌, ◌≤◌, List, [], ◌∷◌, length, map, drop, decimal, MatchOption, IfOk, IfErr, OnOk};
 ghost use Rattle.std.specs.List.{AllZip};
-ghost use Rattle.pp_terms.specs.Addresses.{IsAddress};
-ghost use Rattle.pp_terms.specs.Commands.{order_text};
-ghost use Rattle.pp_terms.specs.Content.{IsChunkSize};
-ghost use Rattle.pp_terms.specs.CommandLine.{AStore, AChunk, ANumber, ADescriptor, AnAddress, AnOrder, IsStore, IsDescriptorText, IsWrongFrom};
-ghost use Rattle.pp_terms.specs.Usage.{usage, Missing};
+ghost use Rattle.pp_terms.specs.format.Addresses.{IsAddress};
+ghost use Rattle.pp_terms.specs.command.Commands.{order_text};
+ghost use Rattle.pp_terms.specs.tree.Content.{IsChunkSize};
+ghost use Rattle.pp_terms.specs.command.CommandLine.{AStore, AChunk, ANumber, ADescriptor, AnAddress, AnOrder, IsStore, IsDescriptorText, IsWrongFrom};
+ghost use Rattle.pp_terms.specs.command.Usage.{usage, Missing};
 ghost use Rattle.pp_outside.specs.Outside.{address_of};
 ghost use Rattle.pp_words.specs.Views.{texts, order_of, usage_of};
 ghost use Rattle.pp_words.specs.Slots.{Takes, Stops};

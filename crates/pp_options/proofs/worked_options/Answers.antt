@@ -1,6 +1,6 @@
 use Rattle.std.proofs.Common.{refl}
-use Rattle.pp_terms.specs.Options.{fault_at, read_from, read_options, spelling_of}
-use Rattle.pp_terms.specs.Mismatch.{mismatch_of}
+use Rattle.pp_terms.specs.format.Options.{fault_at, read_from, read_options, spelling_of}
+use Rattle.pp_terms.specs.format.Mismatch.{mismatch_of}
 use Rattle.pp_options.proofs.worked_options.Goals as goal
 
 pub returns : goal.returns

@@ -1,5 +1,5 @@
 use Rattle.std.proofs.Common.{refl}
-use Rattle.pp_terms.specs.Tree.{height}
+use Rattle.pp_terms.specs.tree.Tree.{height}
 use Rattle.pp_plan.proofs.examples_of_plans.Goals as goal
 
 pub returns : goal.returns

@@ -1,8 +1,7 @@
 // Chunks that are put, crashes, and what is held afterwards.
-ghost use Rattle.std.specs.Prelude.{◌≡◌, IfOk};
-ghost use Rattle.pp_terms.specs.Content.{IsChunkSize};
-ghost use Rattle.pp_terms.specs.Book.{IsRooted};
-ghost use Rattle.pp_terms.specs.Descriptor.{chunks_of};
+ghost use Rattle.std.specs.Prelude.{◌≡◌, Some, IfOk};
+ghost use Rattle.pp_terms.specs.tree.Content.{IsChunkSize};
+ghost use Rattle.pp_terms.specs.tree.Book.{IsRooted};
 ghost use Rattle.pp_tree.specs.Book.{entry, HasRootAlone};
 
 use super::*;
@@ -154,7 +153,7 @@ fn put_all<D: Disk>(
 
 fn prepared(alloc: Global, descriptor: &Descriptor) -> Result<Book, Fail>
     ensures alone { IfOk result (λ book. HasRootAlone descriptor.now (entry book)) }
-    ensures chunks { IfOk result (λ book. book.chunks ≡ chunks_of descriptor.now) }
+    ensures descriptor { IfOk result (λ book. book.descriptor ≡ Some descriptor.now) }
 {
     let mut book = Book::empty(alloc);
     book.prepare(alloc, descriptor)?;

@@ -1,4 +1,4 @@
-use Rattle.pp_terms.specs.Store.{Has}
+use Rattle.pp_terms.specs.disk.Store.{Has}
 use Rattle.pp_terms.proofs.Images.{throughout_write_elsewhere, throughout_settled, sole_image}
 use Rattle.pp_terms.proofs.laws_of_the_disk.Goals as goal
 

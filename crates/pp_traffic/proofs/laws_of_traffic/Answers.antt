@@ -1,5 +1,6 @@
 use Rattle.pp_traffic.proofs.OneMore.{lives_stay, lives_began, stories_grow, told_stays}
 use Rattle.pp_traffic.proofs.Paths.{paths_grow, plans_complete}
+use Rattle.pp_traffic.proofs.PlansInBooks.{plans_in_books}
 use Rattle.pp_traffic.proofs.Served.{served_stays}
 use Rattle.pp_traffic.proofs.Awaited.{plain_grows}
 use Rattle.pp_traffic.proofs.laws_of_traffic.Goals as goal
@@ -12,6 +13,7 @@ returns c = record {
   told = told_stays;
   paths = paths_grow;
   plans = plans_complete;
+  books = plans_in_books;
   served = served_stays;
   plain = plain_grows;
 }

@@ -1,5 +1,5 @@
 use Rattle.std.proofs.Common.{List, ◌∙◌, ap}
-use Rattle.pp_terms.specs.Descriptor.{chunks_of}
+use Rattle.pp_terms.specs.format.Descriptor.{chunks_of}
 use Rattle.pp_traffic.specs.Hashes as hashes
 use Rattle.pp_traffic.specs.Story.{Line}
 use Rattle.pp_tree.specs.Node.{node_of}

@@ -1,5 +1,5 @@
 use Rattle.std.proofs.Common.{◌≡◌, ◌≤◌, ◌+◌}
-use Rattle.pp_terms.specs.Descriptor.{chunks_of}
+use Rattle.pp_terms.specs.format.Descriptor.{chunks_of}
 use Rattle.pp_traffic.specs.Hashes.{completes, completes_from}
 use Rattle.pp_tree.specs.Node.{node_of}
 use Rattle.pp_audit.specs.Entries.{past, life_of}

@@ -1,6 +1,6 @@
 use Rattle.std.proofs.Common.{◌∙◌, ap, ℕ}
 use Rattle.std.specs.List.{list_all}
-use Rattle.pp_terms.specs.Tree.{peaks}
+use Rattle.pp_terms.specs.tree.Tree.{peaks}
 use Rattle.pp_audit.specs.Entries.{past, life_of}
 use Rattle.pp_audit.specs.Paths.{known}
 use Rattle.pp_audit.proofs.Peaks.{each_peak}

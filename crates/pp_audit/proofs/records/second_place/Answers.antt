@@ -1,5 +1,5 @@
 use Rattle.std.proofs.Common.{List, drop, length, sym, ◌∙◌, ap, arith}
-use Rattle.pp_terms.specs.Messages.{Message}
+use Rattle.pp_terms.specs.format.Messages.{Message}
 use Rattle.pp_audit.proofs.Messages.{rest_end}
 use Rattle.pp_audit.proofs.records.second_place.Goals as goal
 

@@ -1,5 +1,5 @@
 use Rattle.std.proofs.Common.{arith}
-use Rattle.pp_terms.specs.Messages.{datagram}
+use Rattle.pp_terms.specs.format.Messages.{datagram}
 use Rattle.pp_traffic.specs.Flight.{fewer_than_two}
 use Rattle.pp_traffic.specs.Serving.{ServesFrom}
 use Rattle.pp_tree.specs.Book.{entry}

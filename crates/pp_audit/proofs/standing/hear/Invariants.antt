@@ -1,5 +1,5 @@
 use Rattle.std.proofs.Common.{◌≡◌, ◌≤◌, ◌-◌, length}
-use Rattle.pp_terms.specs.Descriptor.{chunks_of}
+use Rattle.pp_terms.specs.format.Descriptor.{chunks_of}
 use Rattle.pp_audit.specs.Parts.{rest}
 use Rattle.pp_audit.specs.Standing.{hear_all}
 use Rattle.pp_audit.proofs.standing.hear.Given as goal

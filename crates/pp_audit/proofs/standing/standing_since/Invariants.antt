@@ -1,5 +1,5 @@
 use Rattle.std.proofs.Common.{◌≡◌}
-use Rattle.pp_terms.specs.Descriptor.{chunks_of}
+use Rattle.pp_terms.specs.format.Descriptor.{chunks_of}
 use Rattle.pp_audit.specs.Entries.{life_of}
 use Rattle.pp_audit.specs.Standing.{standing_of, story_since}
 use Rattle.pp_audit.proofs.Pasts.{first}

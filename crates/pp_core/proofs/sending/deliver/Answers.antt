@@ -6,6 +6,7 @@ returns-in-Err g c = inr (
   record {
     same = rw c.in-Err.is at c.send.ensures.refused;
     nexts = c.send.ensures.nexts;
+    bound = c.send.ensures.bound;
     later = c.send.ensures.cause.later;
     risen = c.send.ensures.cause.risen (rw c.in-Err.is refl);
   },

@@ -1,5 +1,5 @@
 use Rattle.std.proofs.Common.{ap, refl, List}
-use Rattle.pp_terms.specs.Range.{Span}
+use Rattle.pp_terms.specs.tree.Range.{Span}
 use Rattle.pp_core.proofs.Servings.{may_parts, left_fewer}
 use Rattle.pp_core.proofs.serving.serve.Goals as goal
 

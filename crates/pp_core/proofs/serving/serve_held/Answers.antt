@@ -2,13 +2,13 @@ use Rattle.std.proofs.Common.{◌∙◌, ap, subst, sym, refl, take, drop, lengt
 use Rattle.pp_tree.specs.Book.{entry}
 use Rattle.pp_tree.proofs.Sizes.{chunk_size_range}
 use Rattle.std.proofs.lemmas.List.{take_at}
-use Rattle.pp_terms.specs.Disk.{moment_of}
+use Rattle.pp_terms.specs.disk.Disk.{moment_of}
 use Rattle.pp_core.specs.declared.channel.Channel.{Channel}
 use Rattle.pp_core.specs.declared.counts.Counts.{Counts}
 use Rattle.pp_core.specs.Sending.{leaves_on, is_met, Launches}
 use Rattle.pp_core.specs.Serving.{IsChunk, delivers, damaged}
 use Rattle.pp_core.proofs.Paths.{path_given, chunks_bounds}
-use Rattle.pp_core.proofs.Servings.{right_chunk, lacking, length-take-most}
+use Rattle.pp_core.proofs.Servings.{right_chunk, read_damage, lacking, length-take-most}
 use Rattle.pp_core.proofs.serving.serve_held.Goals as goal
 
 pub deliver-requires-clause-given : goal.deliver-requires-clause-given
@@ -35,6 +35,10 @@ returns-in-Ok-clause-served g c met is =
 pub returns-in-Err-Damaged-clause-served : goal.returns-in-Err-Damaged-clause-served
 returns-in-Err-Damaged-clause-served g c met is =
     damaged c.requires.held
+    (read_damage _ c.args.descriptor.now c.args.store.now.descriptor (entry c.args.book.now) c.args.i (g.D.Disk.state c.args.disk.now) (g.D.Disk.state c.read.new.disk) c.read.new.out c.read.result
+    c.in-Err-Damaged.field-0-0 c.in-Err-Damaged.field-0-1 c.requires.store
+    (omega (arith, c.chunk_len-len.ensures.range, c.chunk_len-len.ensures.len, c.read.auto.out, c.deref_mut.ensures.len, c.requires.chunk)) c.read.ensures.read
+    (c.in-Err-Damaged.is ∙ ap Err c.in-Err-Damaged.field-0-is))
     (lacking c.args.descriptor.now c.args.store.now.descriptor (entry c.args.book.now) c.args.i (g.D.Disk.state c.args.disk.now) c.read.result c.in-Err-Damaged.field-0-0 c.in-Err-Damaged.field-0-1 c.requires.store
     c.read.ensures.sound (c.in-Err-Damaged.is ∙ ap Err c.in-Err-Damaged.field-0-is))
     (c.left-in-Err-Damaged.ensures ∙ ap (λ (x : Channel). leaves_on x c.damaged.result) is ∙ ap (λ (k : Counts). leaves_on (is_met c.args.i met) k) c.damaged.ensures) refl

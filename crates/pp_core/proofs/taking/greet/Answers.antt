@@ -1,7 +1,7 @@
 use Rattle.std.proofs.Common.{sym, ◌∙◌}
 use Rattle.pp_options.specs.Views.{options_of}
-use Rattle.pp_terms.specs.Messages.{messages_at}
-use Rattle.pp_terms.specs.Descriptor.{chunks_of}
+use Rattle.pp_terms.specs.format.Messages.{messages_at}
+use Rattle.pp_terms.specs.format.Descriptor.{chunks_of}
 use Rattle.std.proofs.Common.{drop}
 use Rattle.pp_core.proofs.Greetings.{welcomed}
 use Rattle.pp_core.proofs.taking.greet.Goals as goal

@@ -1,6 +1,6 @@
 use Rattle.std.proofs.Common.{arith}
 use Rattle.pp_wire.specs.Views.{message_of}
-use Rattle.pp_terms.specs.Messages.{spell}
+use Rattle.pp_terms.specs.format.Messages.{spell}
 use Rattle.pp_core.proofs.Fronts.{fronted, written, chunk_some, full_at_most}
 use Rattle.pp_core.proofs.writing.append.Goals as goal
 

@@ -1,5 +1,5 @@
 use Rattle.std.proofs.Common.{◌∙◌, List, ◌++◌, map, subst, sym, arith}
-use Rattle.pp_terms.specs.Messages.{Message}
+use Rattle.pp_terms.specs.format.Messages.{Message}
 use Rattle.pp_tree.specs.Book.{entry}
 use Rattle.std.proofs.lemmas.List.{take_all}
 use Rattle.pp_tree.specs.declared.node.Node.{Node}

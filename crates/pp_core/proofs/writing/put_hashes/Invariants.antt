@@ -1,5 +1,5 @@
 use Rattle.std.proofs.Common.{◌≡◌, ◌≤◌, ◌+◌, ◌*◌, ℕ, List, ◌++◌, map, length, take}
-use Rattle.pp_terms.specs.Messages.{Message}
+use Rattle.pp_terms.specs.format.Messages.{Message}
 use Rattle.pp_tree.specs.Book.{entry}
 use Rattle.pp_tree.specs.Node.{node_of}
 use Rattle.pp_core.specs.Writing.{IsFront, hash_of}

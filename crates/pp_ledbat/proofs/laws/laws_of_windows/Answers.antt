@@ -2,7 +2,6 @@ use Rattle.pp_ledbat.proofs.Samples.{samples_are_signed}
 use Rattle.pp_ledbat.proofs.Bases.{base_is_least}
 use Rattle.pp_ledbat.proofs.Bounds.{windows_are_bounded}
 use Rattle.pp_ledbat.proofs.Timeouts.{timeouts_settle}
-use Rattle.pp_ledbat.proofs.Openings.{openings_are_alike}
 use Rattle.pp_ledbat.proofs.Fresh.{flights_are_fresh}
 use Rattle.pp_ledbat.proofs.Calls.{calls_stand}
 use Rattle.pp_ledbat.proofs.laws.laws_of_windows.Goals as goal
@@ -14,6 +13,5 @@ returns c = record {
   bounds = windows_are_bounded;
   flights = flights_are_fresh;
   timeouts = timeouts_settle;
-  openings = openings_are_alike;
   calls = calls_stand;
 }

@@ -1,9 +1,9 @@
-use Rattle.pp_node.specs.Counting.{first_counts}
+use Rattle.pp_terms.specs.command.Tally.{first_lines}
 use Rattle.pp_node.proofs.Lines.{said_more}
 use Rattle.pp_node.proofs.counting.put_first.Goals as goal
 
 pub returns-clause-gained : goal.returns-clause-gained
-unfolding first_counts
+unfolding first_lines
 returns-clause-gained g c =
     said_more _ _ _ _ _ _ c.in_ok-put_counted.ensures.gained
     (said_more _ _ _ _ _ _ c.in_ok-put_counted-2.ensures.gained

@@ -1,9 +1,9 @@
-use Rattle.pp_node.specs.Counting.{other_counts}
+use Rattle.pp_terms.specs.command.Tally.{other_lines}
 use Rattle.pp_node.proofs.Lines.{said_more}
 use Rattle.pp_node.proofs.counting.put_others.Goals as goal
 
 pub returns-clause-gained : goal.returns-clause-gained
-unfolding other_counts
+unfolding other_lines
 returns-clause-gained g c =
     said_more _ _ _ _ _ _ c.in_ok-put_counted.ensures.gained
     (said_more _ _ _ _ _ _ c.in_ok-put_counted-2.ensures.gained

@@ -1,12 +1,12 @@
 use Rattle.std.proofs.Common.{◌≤◌}
 use Rattle.pp_tree.specs.Book.{entry}
 use Rattle.pp_scan.specs.Look.{KeepsAll}
-use Rattle.pp_node.specs.Exporting.{HasPut}
+use Rattle.pp_node.proofs.Exports.{Puts}
 use Rattle.pp_node.proofs.exporting.put_chunks.Given as goal
 
 abbrev pub invariant-loop-i : goal.invariant-loop-i
 invariant-loop-i g l = record {
   keeps : KeepsAll (g.D.Disk.state l.initial.disk) (g.D.Disk.state l.disk);
   later : (g.K.Sink.state l.initial.sink).faults ≤ (g.K.Sink.state l.sink).faults;
-  put : HasPut l.descriptor (g.K.Sink.state l.initial.sink) (g.K.Sink.state l.sink) (g.D.Disk.state l.initial.disk) (g.D.Disk.state l.disk) (entry l.book) l.i;
+  put : Puts l.descriptor (g.K.Sink.state l.initial.sink) (g.K.Sink.state l.sink) (g.D.Disk.state l.initial.disk) (g.D.Disk.state l.disk) (entry l.book) l.i;
 }

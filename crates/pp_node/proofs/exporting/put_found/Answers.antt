@@ -7,5 +7,5 @@ put_chunks-requires g c =
     readable_found c.args.descriptor.now (g.D.Disk.state c.args.disk.now) (entry c.args.book.now) c.args.set.now c.requires.found c.requires.same c.requires.rooted c.in-None.ensures
 
 pub returns-in-Some-clause-ends : goal.returns-in-Some-clause-ends
-returns-in-Some-clause-ends g c =
-    incomplete_found c.args.descriptor.now (g.K.Sink.state c.args.sink.now) (g.D.Disk.state c.args.disk.now) (entry c.args.book.now) c.args.set.now c.in-Some.field-0 c.requires.found c.in-Some.ensures.0 c.in-Some.ensures.1
+returns-in-Some-clause-ends g c link source before =
+    incomplete_found c.args.descriptor.now (g.K.Sink.state c.args.sink.now) (g.D.Disk.state c.args.disk.now) link source before c.args.book.now c.args.set.now c.in-Some.field-0 c.requires.found c.in-Some.ensures.0 c.in-Some.ensures.1

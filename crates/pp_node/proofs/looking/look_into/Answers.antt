@@ -1,8 +1,25 @@
 use Rattle.pp_tree.specs.Book.{entry}
-use Rattle.pp_node.proofs.Looks.{looked_scan}
+use Rattle.std.proofs.Common.{inl, rules}
+use Rattle.pp_node.proofs.Looks.{looked_scan, unwritten_scan, names_scan}
 use Rattle.pp_node.proofs.looking.look_into.Goals as goal
 
 pub returns-in-Ok-clause-looked : goal.returns-in-Ok-clause-looked
 returns-in-Ok-clause-looked g c =
     looked_scan c.args.descriptor.now (g.D.Disk.state c.args.disk.now) (g.D.Disk.state c.scan.new.disk) (entry c.scan.new.book) c.requires.attached c.scan.ensures.looks
     _ c.scan.result c.requires.begins c.scan.ensures.found
+
+pub returns-in-Ok-clause-unwritten : goal.returns-in-Ok-clause-unwritten
+returns-in-Ok-clause-unwritten g c =
+    unwritten_scan c.args.descriptor.now (g.D.Disk.state c.args.disk.now) (g.D.Disk.state c.scan.new.disk) (entry c.scan.new.book) c.requires.attached c.scan.ensures.looks
+
+pub returns-in-Ok-clause-names : goal.returns-in-Ok-clause-names
+returns-in-Ok-clause-names g c =
+    names_scan c.args.descriptor.now (g.D.Disk.state c.args.disk.now) (g.D.Disk.state c.scan.new.disk) (entry c.scan.new.book) c.requires.attached c.scan.ensures.looks
+
+pub returns-in-Err-clause-unwritten : goal.returns-in-Err-clause-unwritten
+returns-in-Err-clause-unwritten g c = record {
+  tells = search rules;
+  honest = search rules;
+  synced = λ known. inl (c.requires.attached known);
+  faults = search rules;
+}

@@ -14,5 +14,5 @@ returns-clause-turn g c =
     let flushed : Flushes (entry c.wait.new.book) (g.D.Disk.state c.wait.new.disk) (g.D.Disk.state c.flush.new.disk) (g.L.Link.seen c.wait.new.link) (g.L.Link.seen c.flush.new.link) c.wait.new.peer c.flush.new.self =
     record { sends = c.flush.ensures.sends; causes = c.flush.ensures.causes; replied = c.flush.ensures.replied; served = c.flush.ensures.served; reads = c.flush.ensures.disk } in
     turn_of (entry c.args.book.now) (g.D.Disk.state c.args.disk.now) (g.D.Disk.state c.wait.new.disk) (g.D.Disk.state c.flush.new.disk) (g.L.Link.seen c.args.link.now) (g.L.Link.seen c.wait.new.link) (g.L.Link.seen c.flush.new.link)
-    c.args.peer.now c.wait.new.peer c.flush.new.self c.wait.ensures.disk c.wait.ensures.waits c.wait.ensures.nexts c.wait.ensures.later
+    c.args.peer.now c.wait.new.peer c.flush.new.self c.wait.ensures.disk c.wait.ensures.waits c.wait.ensures.nexts c.wait.ensures.bound c.wait.ensures.later
     (subst (λ (b : BookState). Flushes (entry b) (g.D.Disk.state c.wait.new.disk) (g.D.Disk.state c.flush.new.disk) (g.L.Link.seen c.wait.new.link) (g.L.Link.seen c.flush.new.link) c.wait.new.peer c.flush.new.self) c.wait.ensures.book flushed)

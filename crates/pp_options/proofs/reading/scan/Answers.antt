@@ -1,5 +1,5 @@
 use Rattle.std.proofs.Common.{ℕ, ◌≤◌, length, refl, sym, subst, ◌+◌, arith}
-use Rattle.pp_terms.specs.Options.{read_options}
+use Rattle.pp_terms.specs.format.Options.{read_options}
 use Rattle.pp_terms.proofs.Spellings.{no_fault}
 use Rattle.pp_options.proofs.Going.{ends_here, fails_here, goes_on, is_short}
 use Rattle.pp_options.proofs.reading.scan.Goals as goal

@@ -1,5 +1,5 @@
 use Rattle.std.proofs.Common.{length, ◌-◌, ◌≡◌, ℕ, ◌≤◌, drop}
-use Rattle.pp_terms.specs.Options.{read_from, read_options}
+use Rattle.pp_terms.specs.format.Options.{read_from, read_options}
 use Rattle.pp_options.specs.Views.{options_of}
 use Rattle.pp_options.proofs.reading.scan.Given as goal
 

@@ -1,7 +1,7 @@
 use Rattle.std.proofs.Common.{ℕ, List, [], ◌∷◌, ap, ◌∙◌, arith}
 use Rattle.pp_terms.specs.Place.{placed}
-use Rattle.pp_terms.specs.Options as plain
-use Rattle.pp_terms.specs.Options.{Swarm, Messages, Chunk, spelled_if, spelling_of}
+use Rattle.pp_terms.specs.format.Options as plain
+use Rattle.pp_terms.specs.format.Options.{Swarm, Messages, Chunk, spelled_if, spelling_of}
 use Rattle.pp_options.specs.Views.{options_of, number_field, HasWritten}
 use Rattle.pp_options.proofs.Writes.{fields, length_by_field, put_more}
 use Rattle.pp_options.proofs.writing.put_all.Goals as goal

@@ -1,5 +1,5 @@
 use Rattle.std.proofs.Common.{◌≡◌, ◌+◌, ◌-◌, ◌<◌, ◌≤◌, ◌++◌, List, ℕ, length, take, replicate, ap, ◌∙◌, arith, rules}
-use Rattle.pp_terms.specs.Disk.{written}
+use Rattle.pp_terms.specs.disk.Disk.{written}
 use Rattle.pp_terms.proofs.Images.{length-written}
 use Rattle.pp_outside.proofs.Written.{written_padded, unspilled}
 use Rattle.pp_outside.proofs.bytes.write_over.Goals as goal

@@ -1,5 +1,5 @@
 use Rattle.std.proofs.Common.{◌≡◌, ◌≤◌, drop, map}
-use Rattle.pp_terms.specs.Calls.{crash_from}
+use Rattle.pp_terms.specs.disk.Calls.{crash_from}
 use Rattle.pp_outside.specs.Steps.{did_of, writes_of}
 use Rattle.pp_outside.proofs.log.crashed.Given as goal
 

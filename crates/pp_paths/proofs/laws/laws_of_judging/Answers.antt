@@ -1,5 +1,4 @@
-use Rattle.pp_paths.proofs.ProvenChunks.{proven_is_settled, proven_fits}
-use Rattle.pp_paths.proofs.ProvenClashes.{proven_or_clash}
+use Rattle.pp_paths.proofs.MetNodes.{proven_is_settled, proven_fits, proven_or_clash}
 use Rattle.pp_paths.proofs.laws.laws_of_judging.Goals as goal
 
 pub returns-clause-settled : goal.returns-clause-settled

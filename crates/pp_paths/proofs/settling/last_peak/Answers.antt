@@ -1,5 +1,5 @@
 use Rattle.std.proofs.Common.{ap}
-use Rattle.pp_terms.specs.Proves.{last_layer}
+use Rattle.pp_terms.specs.tree.Proves.{last_layer}
 use Rattle.pp_paths.specs.Climb.{node_at}
 use Rattle.pp_paths.proofs.PeakNodes.{last_some, last_offset}
 use Rattle.pp_paths.proofs.settling.last_peak.Goals as goal

@@ -1,6 +1,6 @@
 use Rattle.std.proofs.Common.{◌∙◌, sym, ap}
 use Rattle.pp_tree.specs.Book.{entry}
-use Rattle.pp_paths.specs.Claims.{claimed}
+use Rattle.pp_terms.specs.tree.Claims.{latest}
 use Rattle.pp_paths.proofs.SettledPeaks.{HasLast, last_low, known_all, settled_known, adds_nothing, lacks_last, settled_missing, last_claimed, claims_last, settled_by, settled_wrong, fit_by, all_added}
 use Rattle.pp_paths.proofs.Verdicts.{same_bytes}
 use Rattle.pp_paths.specs.Settle.{settled_of}
@@ -10,7 +10,7 @@ pub returns-then-is_some-clause-settled : goal.returns-then-is_some-clause-settl
 returns-then-is_some-clause-settled c =
     let has : HasLast c.args.chunks (entry c.args.book.now) c.last_peak-last.result =
     record { some = c.requires.some; most = c.requires.most; rooted = c.requires.rooted; last_is = c.last_peak-last.ensures } in
-    settled_known c.args.chunks (entry c.args.book.now) (claimed c.args.claims.now)
+    settled_known c.args.chunks (entry c.args.book.now) (latest c.args.claims.now)
     (known_all c.args.chunks (entry c.args.book.now) c.last_peak-last.result c.get.result has c.get.ensures.get
     (sym c.is_some.ensures ∙ c.if-is_some.true))
 
@@ -25,14 +25,14 @@ pub returns-then-is_some-clause-added : goal.returns-then-is_some-clause-added
 returns-then-is_some-clause-added c known =
     let has : HasLast c.args.chunks (entry c.args.book.now) c.last_peak-last.result =
     record { some = c.requires.some; most = c.requires.most; rooted = c.requires.rooted; last_is = c.last_peak-last.ensures } in
-    adds_nothing c.args.chunks (entry c.args.book.now) (claimed c.args.claims.now) c.last_peak-last.result c.get.result has
+    adds_nothing c.args.chunks (entry c.args.book.now) (latest c.args.claims.now) c.last_peak-last.result c.get.result has
     c.get.ensures.get (sym c.is_some.ensures ∙ c.if-is_some.true)
 
 pub returns-in-Some-clause-settled : goal.returns-in-Some-clause-settled
 returns-in-Some-clause-settled c =
     let has : HasLast c.args.chunks (entry c.args.book.now) c.last_peak-last.result =
     record { some = c.requires.some; most = c.requires.most; rooted = c.requires.rooted; last_is = c.last_peak-last.ensures } in
-    settled_missing c.args.chunks (entry c.args.book.now) (claimed c.args.claims.now) c.last_peak-last.result c.in-Some.node
+    settled_missing c.args.chunks (entry c.args.book.now) (latest c.args.claims.now) c.last_peak-last.result c.in-Some.node
     c.first_unknown.result
     (lacks_last c.args.chunks (entry c.args.book.now) c.last_peak-last.result c.get.result has c.get.ensures.get
     (sym c.is_some.ensures ∙ c.if-is_some.false)) c.in-Some.is c.first_unknown.ensures
@@ -41,7 +41,7 @@ pub unwrap-digest-requires : goal.unwrap-digest-requires
 unwrap-digest-requires c =
     let has : HasLast c.args.chunks (entry c.args.book.now) c.last_peak-last.result =
     record { some = c.requires.some; most = c.requires.most; rooted = c.requires.rooted; last_is = c.last_peak-last.ensures } in
-    last_claimed c.args.chunks (entry c.args.book.now) (claimed c.args.claims.now) c.last_peak-last.result c.first_unknown.result
+    last_claimed c.args.chunks (entry c.args.book.now) (latest c.args.claims.now) c.last_peak-last.result c.first_unknown.result
     c.latest.result
     (lacks_last c.args.chunks (entry c.args.book.now) c.last_peak-last.result c.get.result has c.get.ensures.get
     (sym c.is_some.ensures ∙ c.if-is_some.false)) c.first_unknown.ensures c.in_default.is c.latest.ensures.latest
@@ -58,10 +58,10 @@ returns-in-Lacks-clause-settled c =
     record { some = c.requires.some; most = c.requires.most; rooted = c.requires.rooted; last_is = c.last_peak-last.ensures } in
     let lacks = lacks_last c.args.chunks (entry c.args.book.now) c.last_peak-last.result c.get.result has c.get.ensures.get
     (sym c.is_some.ensures ∙ c.if-is_some.false) in
-    let claims = claims_last c.args.chunks (entry c.args.book.now) (claimed c.args.claims.now) c.last_peak-last.result c.unwrap-digest.result
+    let claims = claims_last c.args.chunks (entry c.args.book.now) (latest c.args.claims.now) c.last_peak-last.result c.unwrap-digest.result
     c.first_unknown.result c.latest.result lacks c.first_unknown.ensures c.in_default.is c.latest.ensures.latest c.unwrap-digest.ensures in
     sym (ap (λ end. settled_of end) c.in-Lacks.is)
-    ∙ settled_by c.args.chunks c.height-top.result (entry c.args.book.now) (claimed c.args.claims.now) c.last_peak-last.result
+    ∙ settled_by c.args.chunks c.height-top.result (entry c.args.book.now) (latest c.args.claims.now) c.last_peak-last.result
     c.unwrap-digest.result c.climb_from.result claims c.height-top.ensures.height c.climb_from.ensures
 
 pub returns-then-eq-clause-known : goal.returns-then-eq-clause-known
@@ -70,11 +70,11 @@ returns-then-eq-clause-known c known =
     record { some = c.requires.some; most = c.requires.most; rooted = c.requires.rooted; last_is = c.last_peak-last.ensures } in
     let lacks = lacks_last c.args.chunks (entry c.args.book.now) c.last_peak-last.result c.get.result has c.get.ensures.get
     (sym c.is_some.ensures ∙ c.if-is_some.false) in
-    let claims = claims_last c.args.chunks (entry c.args.book.now) (claimed c.args.claims.now) c.last_peak-last.result c.unwrap-digest.result
+    let claims = claims_last c.args.chunks (entry c.args.book.now) (latest c.args.claims.now) c.last_peak-last.result c.unwrap-digest.result
     c.first_unknown.result c.latest.result lacks c.first_unknown.ensures c.in_default.is c.latest.ensures.latest c.unwrap-digest.ensures in
     let fit = fit_by c.climb_from.result _ c.in-Reached.node c.in-Reached.found c.in-Reached.kept c.climb_from.ensures c.in-Reached.is
     (same_bytes c.in-Reached.found c.in-Reached.kept (sym c.eq.ensures ∙ c.if-eq.true)) in
-    all_added c.args.chunks c.height-top.result (entry c.args.book.now) (entry c.adopt_from.new.book) (claimed c.args.claims.now)
+    all_added c.args.chunks c.height-top.result (entry c.args.book.now) (entry c.adopt_from.new.book) (latest c.args.claims.now)
     c.last_peak-last.result c.unwrap-digest.result claims c.height-top.ensures.height fit c.adopt_from.ensures.added
     c.adopt_from.ensures.rooted
 
@@ -93,9 +93,9 @@ returns-else-eq-clause-settled c =
     record { some = c.requires.some; most = c.requires.most; rooted = c.requires.rooted; last_is = c.last_peak-last.ensures } in
     let lacks = lacks_last c.args.chunks (entry c.args.book.now) c.last_peak-last.result c.get.result has c.get.ensures.get
     (sym c.is_some.ensures ∙ c.if-is_some.false) in
-    let claims = claims_last c.args.chunks (entry c.args.book.now) (claimed c.args.claims.now) c.last_peak-last.result c.unwrap-digest.result
+    let claims = claims_last c.args.chunks (entry c.args.book.now) (latest c.args.claims.now) c.last_peak-last.result c.unwrap-digest.result
     c.first_unknown.result c.latest.result lacks c.first_unknown.ensures c.in_default.is c.latest.ensures.latest c.unwrap-digest.ensures in
     let wrong = settled_wrong c.in-Reached.node c.in-Reached.found c.in-Reached.kept (sym c.eq.ensures ∙ c.if-eq.false) in
     sym (ap (λ end. settled_of end) c.in-Reached.is ∙ wrong)
-    ∙ settled_by c.args.chunks c.height-top.result (entry c.args.book.now) (claimed c.args.claims.now) c.last_peak-last.result
+    ∙ settled_by c.args.chunks c.height-top.result (entry c.args.book.now) (latest c.args.claims.now) c.last_peak-last.result
     c.unwrap-digest.result c.climb_from.result claims c.height-top.ensures.height c.climb_from.ensures

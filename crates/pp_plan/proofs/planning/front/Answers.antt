@@ -1,5 +1,5 @@
 use Rattle.std.proofs.Common.{◌≡◌, length, arith, sym, ◌∙◌, ap, map, ◌++◌}
-use Rattle.pp_terms.specs.Tree as terms
+use Rattle.pp_terms.specs.tree.Tree as terms
 use Rattle.pp_tree.specs.Node.{node_of}
 use Rattle.pp_plan.proofs.Plans.{ok_gives, front_is}
 use Rattle.pp_plan.proofs.planning.front.Goals as goal

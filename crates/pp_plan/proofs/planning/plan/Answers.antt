@@ -1,6 +1,7 @@
 use Rattle.std.proofs.Common.{◌≡◌, ◌+◌, ◌<◌, ◌++◌, map, sym, ◌∙◌, ap, subst}
 use Rattle.std.specs.List.{list_all}
-use Rattle.pp_traffic.specs.Hashes.{completes, leaf_at}
+use Rattle.pp_traffic.specs.Hashes.{completes}
+use Rattle.pp_terms.specs.tree.Tree.{leaf_at}
 use Rattle.pp_traffic.specs.Laws.{plan, uncles_from}
 use Rattle.pp_tree.specs.Node.{node_of}
 use Rattle.pp_plan.specs.Told.{knows}
@@ -11,7 +12,9 @@ pub returns-clause-nodes : goal.returns-clause-nodes
 returns-clause-nodes c =
     subst (λ k. map node_of c.climb.new.nodes.items ≡ plan k (knows c.args.told.now) c.args.i) c.requires.content
     (plan_is c.args.told.now c.args.i (map node_of c.front-nodes.result.items) (map node_of c.climb.new.nodes.items) c.front-nodes.ensures.nodes
-    (c.climb.ensures.nodes ∙ ap (λ h. map node_of c.front-nodes.result.items ++ uncles_from (h + 1) c.args.told.now.chunks (knows c.args.told.now) (leaf_at c.args.i)) c.height.ensures.value))
+    (c.climb.ensures.nodes
+    ∙ ap (λ m. map node_of c.front-nodes.result.items ++ uncles_from (c.height.result + 1) c.args.told.now.chunks (knows c.args.told.now) m) c.leaf_at.ensures.leaf
+    ∙ ap (λ h. map node_of c.front-nodes.result.items ++ uncles_from (h + 1) c.args.told.now.chunks (knows c.args.told.now) (leaf_at c.args.i)) c.height.ensures.value))
 
 pub returns-clause-least : goal.returns-clause-least
 returns-clause-least c = λ brought.
@@ -19,4 +22,6 @@ returns-clause-least c = λ brought.
     (plan_least c.args.told.now c.args.i (map node_of c.climb.new.nodes.items) brought c.height.ensures.most
     (subst (λ k. c.args.i < k) (sym c.requires.content) c.requires.inside)
     (plan_is c.args.told.now c.args.i (map node_of c.front-nodes.result.items) (map node_of c.climb.new.nodes.items) c.front-nodes.ensures.nodes
-    (c.climb.ensures.nodes ∙ ap (λ h. map node_of c.front-nodes.result.items ++ uncles_from (h + 1) c.args.told.now.chunks (knows c.args.told.now) (leaf_at c.args.i)) c.height.ensures.value)))
+    (c.climb.ensures.nodes
+    ∙ ap (λ m. map node_of c.front-nodes.result.items ++ uncles_from (c.height.result + 1) c.args.told.now.chunks (knows c.args.told.now) m) c.leaf_at.ensures.leaf
+    ∙ ap (λ h. map node_of c.front-nodes.result.items ++ uncles_from (h + 1) c.args.told.now.chunks (knows c.args.told.now) (leaf_at c.args.i)) c.height.ensures.value)))

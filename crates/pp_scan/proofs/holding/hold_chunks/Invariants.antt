@@ -1,6 +1,6 @@
 use Rattle.std.proofs.Common.{◌≡◌, ℕ, ◌<◌, ◌≤◌, true, false, length, get_or}
 use Rattle.std.specs.Prelude.{is_some}
-use Rattle.pp_terms.specs.Disk.{IsKnown}
+use Rattle.pp_terms.specs.disk.Disk.{IsKnown}
 use Rattle.pp_tree.specs.Book.{entry}
 use Rattle.pp_scan.specs.Look.{KeepsAll}
 use Rattle.pp_scan.specs.Holding.{is_there}

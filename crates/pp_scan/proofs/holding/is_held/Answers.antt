@@ -2,8 +2,8 @@ use Rattle.std.proofs.Common.{◌≡◌, ◌+◌, ◌≤◌, ℕ, List, length, 
 use Rattle.std.specs.Cmp.Lexicographic.{pointwise}
 use Rattle.std.proofs.lemmas.List.{length-take}
 use Rattle.sha2.specs.Sha256.{sha256}
-use Rattle.pp_terms.specs.Image.{slice}
-use Rattle.pp_terms.specs.Store.{chunk_place}
+use Rattle.pp_terms.specs.disk.Image.{slice}
+use Rattle.pp_terms.specs.disk.Store.{chunk_place}
 use Rattle.pp_tree.specs.Book.{entry}
 use Rattle.pp_scan.proofs.Reading.{read_slice}
 use Rattle.pp_scan.proofs.Holds.{there_read}

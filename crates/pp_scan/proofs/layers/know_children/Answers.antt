@@ -1,6 +1,6 @@
 use Rattle.std.proofs.Common.{◌≡◌, ◌+◌, ◌-◌, ◌<◌, ◌≤◌, ℕ, List, Option, length, Some, sym, ◌∙◌, ap, arith}
-use Rattle.pp_terms.specs.Store.{pair_place}
-use Rattle.pp_terms.specs.Image.{child, slice}
+use Rattle.pp_terms.specs.disk.Store.{pair_place}
+use Rattle.pp_terms.specs.disk.Image.{child, slice}
 use Rattle.pp_scan.proofs.Children.{child_short}
 use Rattle.pp_scan.proofs.Reading.{read_slice}
 use Rattle.pp_scan.proofs.Layering.{children_place}

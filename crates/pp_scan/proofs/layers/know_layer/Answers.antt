@@ -1,6 +1,6 @@
 use Rattle.std.proofs.Common.{ℕ, ◌≡◌, ◌-◌, ◌≤◌, ◌^◌, ◌+◌, arith, sym, subst, ap, ◌∙◌}
-use Rattle.pp_terms.specs.Descriptor.{height_of}
-use Rattle.pp_terms.specs.Disk.{History}
+use Rattle.pp_terms.specs.format.Descriptor.{height_of}
+use Rattle.pp_terms.specs.disk.Disk.{History}
 use Rattle.pp_tree.specs.Book.{BookState, entry}
 use Rattle.pp_scan.specs.Layers.{IsDone, HasOnlyKnown}
 use Rattle.pp_scan.proofs.Reading.{keeps_more, known_after}
@@ -29,7 +29,7 @@ loop-offset-preserved g c =
     let does = c.in-Ok.ensures in
     record {
       keeps = keeps_more _ _ _ inv.keeps does.looks.keeps;
-      chunks = does.chunks ∙ inv.chunks;
+      descriptor = does.descriptor ∙ inv.descriptor;
       rooted = does.kept d inv.rooted;
       bare = bare_more d (g.D.Disk.state c.args.disk.now).history.reads depth offset (c.height.result - depth) (entry c.loop-offset.book) (entry c.know_children.new.book) c.requires.inner layer_is does.others inv.bare;
       known = λ known begun.

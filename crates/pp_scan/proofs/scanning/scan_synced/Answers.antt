@@ -1,6 +1,6 @@
 use Rattle.std.proofs.Common.{sym, ◌∙◌}
 use Rattle.pp_tree.specs.Book.{entry}
-use Rattle.pp_tree.proofs.Rootedness.{rooted_alone}
+use Rattle.pp_tree.proofs.Rootedness.{book_alone}
 use Rattle.pp_scan.proofs.Reading.{len_keeps, no_bytes}
 use Rattle.pp_scan.proofs.Finding.{found_after, found_empty, only_after}
 use Rattle.pp_scan.proofs.Holds.{root_known}
@@ -20,16 +20,16 @@ pub returns-in-Ok-clause-only : goal.returns-in-Ok-clause-only
 returns-in-Ok-clause-only g c =
     only_after c.args.descriptor.now (g.D.Disk.state c.args.disk.now) (g.D.Disk.state c.len.new.self) (entry c.scan_file.new.book) (len_keeps _ _ _ c.len.ensures) c.scan_file.ensures.only
 
-pub returns-in-Ok-eq0-clause-rooted : goal.returns-in-Ok-eq0-clause-rooted
-returns-in-Ok-eq0-clause-rooted g c =
-    rooted_alone c.args.descriptor.now (entry c.args.book.now) c.requires.valid.root_length c.requires.alone
+pub returns-in-Ok-eq0-clause-book : goal.returns-in-Ok-eq0-clause-book
+returns-in-Ok-eq0-clause-book g c =
+    book_alone c.args.descriptor.now c.args.book.now c.requires.valid.root_length c.requires.descriptor c.requires.alone
 
 pub returns-in-Ok-eq0-clause-only : goal.returns-in-Ok-eq0-clause-only
 returns-in-Ok-eq0-clause-only g c known = root_known c.args.descriptor.now _ (entry c.args.book.now) c.requires.alone
 
-pub returns-in-Err-clause-rooted : goal.returns-in-Err-clause-rooted
-returns-in-Err-clause-rooted g c =
-    rooted_alone c.args.descriptor.now (entry c.args.book.now) c.requires.valid.root_length c.requires.alone
+pub returns-in-Err-clause-book : goal.returns-in-Err-clause-book
+returns-in-Err-clause-book g c =
+    book_alone c.args.descriptor.now c.args.book.now c.requires.valid.root_length c.requires.descriptor c.requires.alone
 
 pub returns-in-Err-clause-only : goal.returns-in-Err-clause-only
 returns-in-Err-clause-only g c known = root_known c.args.descriptor.now _ (entry c.args.book.now) c.requires.alone

@@ -1,5 +1,5 @@
 use Rattle.pp_tree.specs.Book.{entry}
-use Rattle.pp_terms.specs.Descriptor.{chunks_of}
+use Rattle.pp_terms.specs.format.Descriptor.{chunks_of}
 use Rattle.pp_store.proofs.Answering.{peaks_kept}
 use Rattle.pp_store.proofs.admitting.admit_judged.Goals as goal
 

@@ -1,5 +1,5 @@
 use Rattle.std.proofs.Common.{ℕ, ap, sym, ◌∙◌, arith}
-use Rattle.pp_terms.specs.Content.{chunk_count}
+use Rattle.pp_terms.specs.tree.Content.{chunk_count}
 use Rattle.pp_tree.proofs.Sizes.{chunk_size_range}
 use Rattle.pp_store.specs.Import.{unfinished}
 use Rattle.pp_store.proofs.Ends.{sealed_store, sealed_left, sealed_keeps}

@@ -1,6 +1,6 @@
 use Rattle.std.proofs.Common.{◌+◌, length, arith, sym, ◌∙◌, ap, subst, List, Bool, true}
 use Rattle.std.specs.Prelude.{is_some}
-use Rattle.pp_terms.specs.Descriptor.{height_of}
+use Rattle.pp_terms.specs.format.Descriptor.{height_of}
 use Rattle.pp_tree.specs.Book.{entry}
 use Rattle.std.proofs.Math.ListN.{length-set}
 use Rattle.pp_store.proofs.Marking.{IsMarking, marked, unmarked, none_size}

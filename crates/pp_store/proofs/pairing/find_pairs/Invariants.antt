@@ -1,5 +1,5 @@
 use Rattle.std.proofs.Common.{◌≡◌, length}
-use Rattle.pp_terms.specs.Descriptor.{height_of}
+use Rattle.pp_terms.specs.format.Descriptor.{height_of}
 use Rattle.pp_tree.specs.Book.{entry}
 use Rattle.pp_store.proofs.Marking.{IsMarking}
 use Rattle.pp_store.proofs.pairing.find_pairs.Given as goal

@@ -1,6 +1,6 @@
 use Rattle.std.proofs.Common.{◌+◌, arith, sym, ◌∙◌, ap, List, Bool, false, true, get_or, get_or-set_same}
 use Rattle.std.proofs.Math.ListN.{set}
-use Rattle.pp_terms.specs.Store.{chunk_place, pair_slot}
+use Rattle.pp_terms.specs.disk.Store.{chunk_place, pair_slot}
 use Rattle.pp_tree.specs.Book.{entry}
 use Rattle.pp_store.proofs.Marking.{pair_bounds}
 use Rattle.pp_store.proofs.PairWrites.{put_done, put_refused, pair_does, pair_fails, same_joined}

@@ -1,6 +1,6 @@
 use Rattle.std.proofs.Common.{arith, ◌∙◌, ap}
 use Rattle.std.proofs.lemmas.Result.{on_ok_weaker}
-use Rattle.pp_terms.specs.Store.{chunk_place}
+use Rattle.pp_terms.specs.disk.Store.{chunk_place}
 use Rattle.pp_tree.specs.Book.{entry}
 use Rattle.pp_store.proofs.Writings.{write_puts, does_later}
 use Rattle.pp_store.proofs.PairWrites.{chunk_done, chunk_refused, chunk_there, on_ok_any}

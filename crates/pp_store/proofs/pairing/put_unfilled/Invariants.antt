@@ -1,6 +1,6 @@
 use Rattle.std.proofs.Common.{◌≡◌, ℕ, suc, true, ◌<◌}
-use Rattle.pp_terms.specs.Tree.{above}
-use Rattle.pp_terms.specs.Descriptor.{chunks_of}
+use Rattle.pp_terms.specs.tree.Tree.{above}
+use Rattle.pp_terms.specs.format.Descriptor.{chunks_of}
 use Rattle.pp_tree.specs.Book.{entry}
 use Rattle.pp_store.specs.Pairs.{has_pair, IsUnfilled, PutsPairs}
 use Rattle.pp_store.specs.Writes.{unfilled_pairs, Wrote}

@@ -1,5 +1,5 @@
 use Rattle.std.proofs.Common.{◌≡◌, ℕ, suc, true, ◌<◌}
-use Rattle.pp_terms.specs.Tree.{above}
+use Rattle.pp_terms.specs.tree.Tree.{above}
 use Rattle.pp_tree.specs.Book.{entry}
 use Rattle.pp_store.specs.Pairs.{has_pair, PutsPairs}
 use Rattle.pp_store.specs.Writes.{way_pairs, Wrote}

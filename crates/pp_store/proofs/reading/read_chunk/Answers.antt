@@ -2,7 +2,7 @@ use Rattle.std.proofs.Common.{◌≡◌, ℕ, List, nat_eq, length, sym, ap, ◌
 use Rattle.std.specs.Cmp.Lexicographic.{pointwise}
 use Rattle.std.proofs.lemmas.List.{length-take}
 use Rattle.sha2.specs.Sha256.{sha256}
-use Rattle.pp_terms.specs.Store.{chunk_place}
+use Rattle.pp_terms.specs.disk.Store.{chunk_place}
 use Rattle.pp_tree.specs.Book.{entry}
 use Rattle.pp_store.proofs.Opening.{right_chunk, damaged_chunk, there_sound}
 use Rattle.pp_store.proofs.reading.read_chunk.Goals as goal

@@ -1,6 +1,6 @@
 use Rattle.std.proofs.Common.{◌∙◌, sym}
 use Rattle.std.proofs.lemmas.List.{get_or_past}
-use Rattle.pp_terms.specs.Tree.{empty_hash}
+use Rattle.pp_terms.specs.tree.Tree.{empty_hash}
 use Rattle.pp_tree.proofs.Layers.{zeros_empty}
 use Rattle.pp_tree.proofs.content.digest_or_empty.Goals as goal
 

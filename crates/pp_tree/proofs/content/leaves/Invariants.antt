@@ -1,5 +1,5 @@
 use Rattle.std.proofs.Common.{◌≡◌, ℕ, ◌+◌, ◌-◌, ◌*◌, ◌<◌, length, [], slice_index_or}
-use Rattle.pp_terms.specs.Tree.{leaf_of}
+use Rattle.pp_terms.specs.tree.Tree.{leaf_of}
 use Rattle.pp_tree.proofs.content.leaves.Given as goal
 
 abbrev pub invariant-loop-start : goal.invariant-loop-start

@@ -1,6 +1,6 @@
 use Rattle.std.proofs.Common.{◌≡◌, ℕ, ◌+◌, ◌*◌, ◌<◌, ◌++◌, length, [], slice_index_or}
 use Rattle.sha2.specs.Sha256.{sha256}
-use Rattle.pp_terms.specs.Tree.{empty_hash}
+use Rattle.pp_terms.specs.tree.Tree.{empty_hash}
 use Rattle.pp_tree.proofs.content.parents.Given as goal
 
 abbrev pub invariant-loop-j : goal.invariant-loop-j

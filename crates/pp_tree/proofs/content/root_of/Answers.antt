@@ -1,6 +1,6 @@
 use Rattle.std.proofs.Common.{◌≡◌, ℕ, suc, ◌+◌, length, List, [], sym, subst, ap, ◌∙◌, arith}
-use Rattle.pp_terms.specs.Content.{chunk_count, IsContentSize}
-use Rattle.pp_terms.specs.Tree.{leaf_of, height, node}
+use Rattle.pp_terms.specs.tree.Content.{chunk_count, IsContentSize}
+use Rattle.pp_terms.specs.tree.Tree.{leaf_of, height, node}
 use Rattle.pp_tree.proofs.Sizes.{chunk_count_range}
 use Rattle.pp_tree.proofs.Layers.{IsLayer, layer_of_leaves, layer_above, layer_root, default_in}
 use Rattle.pp_tree.proofs.content.root_of.Goals as goal

@@ -1,6 +1,6 @@
 use Rattle.std.proofs.Common.{length}
-use Rattle.pp_terms.specs.Content.{chunk_count}
-use Rattle.pp_terms.specs.Tree.{leaf_of}
+use Rattle.pp_terms.specs.tree.Content.{chunk_count}
+use Rattle.pp_terms.specs.tree.Tree.{leaf_of}
 use Rattle.pp_tree.proofs.Layers.{IsLayer}
 use Rattle.pp_tree.proofs.content.root_of.Given as goal
 

@@ -1,7 +1,7 @@
 use Rattle.std.proofs.Common.{◌≡◌, ◌++◌, ◌-◌, map, refl, ◌∷◌, [], ap, ◌∙◌, subst, sym, List, arith}
 use Rattle.std.proofs.lemmas.List.{map-append}
-use Rattle.pp_terms.specs.Tree as terms
-use Rattle.pp_terms.specs.Tree.{peaks_below}
+use Rattle.pp_terms.specs.tree.Tree as terms
+use Rattle.pp_terms.specs.tree.Tree.{peaks_below}
 use Rattle.pp_tree.specs.Node.{node_of}
 use Rattle.pp_tree.proofs.Halving.{peak_here, no_peak_here}
 use Rattle.pp_tree.proofs.node.peaks_in.Goals as goal

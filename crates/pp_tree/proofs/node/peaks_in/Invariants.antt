@@ -1,5 +1,5 @@
 use Rattle.std.proofs.Common.{◌≡◌, ◌++◌, ◌≤◌, map, ◌+◌, length}
-use Rattle.pp_terms.specs.Tree.{peaks_below}
+use Rattle.pp_terms.specs.tree.Tree.{peaks_below}
 use Rattle.pp_tree.specs.Node.{node_of}
 use Rattle.pp_tree.proofs.node.peaks_in.Given as goal
 

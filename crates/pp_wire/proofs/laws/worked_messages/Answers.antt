@@ -1,6 +1,6 @@
 use Rattle.std.proofs.Common.{refl}
-use Rattle.pp_terms.specs.Messages.{spell, leaves_of, span_in, handshake_at, data_at, ack_at, integrity_at, span_at, address_at, message_at, next_message, messages_from, datagram}
-use Rattle.pp_terms.specs.Options.{spelling_of, fault_at, read_from, read_options}
+use Rattle.pp_terms.specs.format.Messages.{spell, leaves_of, span_in, handshake_at, data_at, ack_at, integrity_at, span_at, address_at, message_at, next_message, messages_from, datagram}
+use Rattle.pp_terms.specs.format.Options.{spelling_of, fault_at, read_from, read_options}
 use Rattle.pp_wire.proofs.laws.worked_messages.Goals as goal
 
 pub returns : goal.returns

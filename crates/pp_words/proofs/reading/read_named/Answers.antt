@@ -1,4 +1,4 @@
-use Rattle.pp_terms.specs.CommandLine.{commands}
+use Rattle.pp_terms.specs.command.CommandLine.{commands}
 use Rattle.pp_words.specs.Views.{texts}
 use Rattle.pp_words.proofs.OneCommand.{none_named, no_name}
 use Rattle.pp_words.proofs.reading.read_named.Goals as goal

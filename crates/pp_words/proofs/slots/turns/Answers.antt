@@ -1,6 +1,6 @@
 use Rattle.std.proofs.Common.{◌≡◌, ℕ, ◌^◌, ◌<◌, ◌≤◌, List, decimal, sym, ◌∙◌, arith, rules}
 use Rattle.std.proofs.lemmas.Fmt.{decimal_injective}
-use Rattle.pp_terms.specs.CommandLine.{ANumber}
+use Rattle.pp_terms.specs.command.CommandLine.{ANumber}
 use Rattle.pp_words.specs.Views.{texts, usage_of}
 use Rattle.pp_words.proofs.WordSteps.{stop}
 use Rattle.pp_words.proofs.slots.turns.Goals as goal

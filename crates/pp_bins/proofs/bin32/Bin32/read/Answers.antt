@@ -1,8 +1,9 @@
 use Rattle.std.proofs.Common.{◌≡◌, ◌+◌, ◌/◌, ◌^◌, ◌<◌, arith}
 use Rattle.std.specs.Int.{w32}
-use Rattle.pp_terms.specs.Bins.{bin_number}
+use Rattle.pp_terms.specs.tree.Bins.{bin_number}
 use Rattle.pp_terms.proofs.Binning.{by_trailing_ones}
 use Rattle.pp_bins.specs.Answers.{node}
+use Rattle.pp_bins.proofs.Shared.{of_width}
 use Rattle.pp_bins.proofs.bin32.Bin32.read.Goals as goal
 
 -- the layer and the offset that are found have this number
@@ -15,5 +16,8 @@ number_is c =
 pub invariant_of-result : goal.invariant_of-result
 invariant_of-result c = omega (arith, number_is c)
 
-pub returns : goal.returns
-returns c = number_is c
+pub returns-clause-number : goal.returns-clause-number
+returns-clause-number c = number_is c
+
+pub returns-clause-width : goal.returns-clause-width
+returns-clause-width c = of_width 32 _ (omega (arith, number_is c))

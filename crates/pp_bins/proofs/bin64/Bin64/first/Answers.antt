@@ -1,6 +1,6 @@
 use Rattle.std.proofs.Common.{ap, ◌∙◌}
-use Rattle.pp_terms.specs.Tree.{Node}
-use Rattle.pp_terms.specs.Bins.{first_leaf}
+use Rattle.pp_terms.specs.tree.Tree.{Node}
+use Rattle.pp_terms.specs.tree.Bins.{first_leaf}
 use Rattle.pp_terms.proofs.Binning.{layer_low}
 use Rattle.pp_bins.proofs.Shared.{first_shifted}
 use Rattle.pp_bins.proofs.bin64.Bin64.first.Goals as goal

@@ -1,6 +1,6 @@
 use Rattle.std.proofs.Common.{ap, arith}
-use Rattle.pp_terms.specs.Tree.{Node}
-use Rattle.pp_terms.specs.Bins.{bin_number}
+use Rattle.pp_terms.specs.tree.Tree.{Node}
+use Rattle.pp_terms.specs.tree.Bins.{bin_number}
 use Rattle.pp_terms.proofs.Binning.{layer_low}
 use Rattle.pp_bins.proofs.Shared.{odd_fits, shifted}
 use Rattle.pp_bins.proofs.bin64.Bin64.number.Goals as goal

@@ -1,5 +1,5 @@
 use Rattle.std.proofs.Common.{Option, ◌∙◌, ap, subst, sym}
-use Rattle.pp_terms.specs.Disk.{moment_of}
+use Rattle.pp_terms.specs.disk.Disk.{moment_of}
 use Rattle.pp_core.specs.Sends.{on, Sends}
 use Rattle.pp_core.specs.Standing.{State}
 use Rattle.pp_core.specs.Peers.{state_of}

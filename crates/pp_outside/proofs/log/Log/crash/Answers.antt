@@ -1,7 +1,7 @@
 use Rattle.std.proofs.Common.{◌≡◌, ◌∙◌, ap, refl, sym, arith, rules, length}
 use Rattle.std.proofs.lemmas.List.{length-map}
-use Rattle.pp_terms.specs.Disk.{settled}
-use Rattle.pp_terms.specs.Calls.{Calls, history_of, crash_image}
+use Rattle.pp_terms.specs.disk.Disk.{settled}
+use Rattle.pp_terms.specs.disk.Calls.{Calls, history_of, crash_image}
 use Rattle.pp_outside.specs.Steps.{did_of}
 use Rattle.pp_outside.proofs.Replays.{did_push, keeps_settled, history_crashed}
 use Rattle.pp_outside.proofs.Crashes.{part_placed, crash_is}

@@ -1,6 +1,6 @@
 use Rattle.std.proofs.Common.{◌≡◌, sym, subst, rules}
-use Rattle.pp_terms.specs.Disk.{IsImage}
-use Rattle.pp_terms.specs.Calls.{history_of, Calls}
+use Rattle.pp_terms.specs.disk.Disk.{IsImage}
+use Rattle.pp_terms.specs.disk.Calls.{history_of, Calls}
 use Rattle.pp_outside.specs.Whole.{reads_are_image}
 use Rattle.pp_outside.proofs.Possible.{crashed_possible}
 use Rattle.pp_outside.proofs.memory_disk.MemoryDisk.crash.Goals as goal

@@ -1,8 +1,8 @@
-use Rattle.pp_paths.specs.Claims.{claimed}
+use Rattle.pp_terms.specs.tree.Claims.{latest}
 use Rattle.pp_paths.proofs.PeakNodes.{filled_empty}
 use Rattle.pp_paths.proofs.settling.PeaksOthers.digest.Goals as goal
 
 pub returns-else-covers : goal.returns-else-covers
 returns-else-covers c =
-    filled_empty c.args.self.now.chunks (claimed c.args.self.now.claims.now) c.args.node.layer c.args.node.offset
+    filled_empty c.args.self.now.chunks (latest c.args.self.now.claims.now) c.args.node.layer c.args.node.offset
     c.covers.result c.new.result c.covers.ensures c.if-covers.false c.new.ensures.same

@@ -1,5 +1,5 @@
 use Rattle.std.proofs.Common.{◌≡◌, sym, ◌∙◌, subst}
-use Rattle.pp_traffic.specs.Hashes.{is_peak}
+use Rattle.pp_terms.specs.tree.Tree.{is_peak}
 use Rattle.pp_tree.specs.Node.{node_of}
 use Rattle.pp_plan.specs.Told.{knows}
 use Rattle.pp_plan.proofs.Marks.{or_when}

@@ -1,5 +1,5 @@
 use Rattle.std.proofs.Common.{◌≡◌, sym, subst}
-use Rattle.pp_terms.specs.Bins.{parent_of}
+use Rattle.pp_terms.specs.tree.Bins.{parent_of}
 use Rattle.pp_tree.specs.Node.{node_of}
 use Rattle.pp_plan.specs.Told.{knows, is_marked}
 use Rattle.pp_plan.proofs.Marks.{knows_peak, knows_child}

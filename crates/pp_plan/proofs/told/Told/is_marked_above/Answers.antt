@@ -1,6 +1,6 @@
 use Rattle.std.proofs.Common.{◌≡◌, ◌+◌, ◌-◌, ◌/◌, ◌^◌, ◌<◌, length, false, arith, ap, ◌∙◌, subst}
 use Rattle.std.specs.Prelude.{slice_index_or}
-use Rattle.pp_terms.specs.Bins.{parent_of}
+use Rattle.pp_terms.specs.tree.Bins.{parent_of}
 use Rattle.pp_tree.specs.Node.{node_of}
 use Rattle.pp_plan.specs.Told.{is_marked}
 use Rattle.pp_plan.proofs.Places.{place_fits}

@@ -1,5 +1,5 @@
 use Rattle.std.proofs.Common.{◌≡◌, ◌+◌, ◌-◌, ◌^◌, ◌<◌, ◌≤◌, ◌||◌, arith, sym, ap, ◌∙◌, subst, refl}
-use Rattle.pp_terms.specs.Tree.{height}
+use Rattle.pp_terms.specs.tree.Tree.{height}
 use Rattle.pp_plan.specs.Told.{is_marked, lies}
 use Rattle.pp_plan.proofs.Marks.{marked_more, last_inside}
 use Rattle.pp_plan.proofs.told.Told.mark.Goals as goal

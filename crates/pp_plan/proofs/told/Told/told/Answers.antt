@@ -1,5 +1,5 @@
 use Rattle.std.proofs.Common.{◌≡◌, ◌+◌, ◌-◌, ◌/◌, ◌^◌, ◌<◌, ◌≤◌, ◌&&◌, ◌||◌, arith, sym, ap, ◌∙◌, subst}
-use Rattle.pp_terms.specs.Tree.{height}
+use Rattle.pp_terms.specs.tree.Tree.{height}
 use Rattle.pp_plan.specs.Told.{is_marked, lies, is_over_below, span_of}
 use Rattle.pp_plan.proofs.Places.{offset_fits}
 use Rattle.pp_plan.proofs.Telling.{one_layer, told_more}

@@ -1,6 +1,6 @@
 -- The nodes of the layers so far are marked.
 use Rattle.std.proofs.Common.{◌≡◌, ◌+◌, ◌<◌, true, ◌&&◌, ◌||◌}
-use Rattle.pp_terms.specs.Tree.{Node, height}
+use Rattle.pp_terms.specs.tree.Tree.{Node, height}
 use Rattle.pp_plan.specs.Told.{is_marked, is_over_below, span_of}
 use Rattle.pp_plan.proofs.told.Told.told.Given as goal
 

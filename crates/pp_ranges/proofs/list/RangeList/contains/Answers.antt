@@ -1,6 +1,6 @@
 use Rattle.std.proofs.Common.{◌≡◌, true, false, List, sym, ◌∙◌, ap, arith}
 use Rattle.std.proofs.lemmas.Bool.Decides.{nat_tests}
-use Rattle.pp_terms.specs.Range.{Span, within, has}
+use Rattle.pp_terms.specs.tree.Range.{Span, within, has}
 use Rattle.pp_ranges.proofs.Runs.{has_at, has_not_more}
 use Rattle.pp_ranges.proofs.list.RangeList.contains.Goals as goal
 use Rattle.pp_ranges.proofs.list.RangeList.contains.Goals.{else-first-i-via-then-first-i+else-i-last, else-first-i-via-else-first-i}

@@ -1,5 +1,5 @@
 use Rattle.std.proofs.Common.{◌≡◌, false, take}
-use Rattle.pp_terms.specs.Range.{has}
+use Rattle.pp_terms.specs.tree.Range.{has}
 use Rattle.pp_ranges.proofs.list.RangeList.contains.Given as goal
 
 abbrev pub invariant-loop-range : goal.invariant-loop-range

@@ -1,6 +1,6 @@
 use Rattle.std.proofs.Common.{ℕ, ◌<◌, length, List, sym, ◌∙◌, subst, ap, arith}
 use Rattle.std.proofs.lemmas.Bool.Decides.{nat_tests}
-use Rattle.pp_terms.specs.Range.{Span, has, IsRunsFrom}
+use Rattle.pp_terms.specs.tree.Range.{Span, has, IsRunsFrom}
 use Rattle.pp_ranges.proofs.Runs.{first_is}
 use Rattle.pp_ranges.proofs.list.RangeList.first.Goals as goal
 

@@ -1,5 +1,5 @@
 use Rattle.std.proofs.Common.{◌||◌, List, ◌∙◌, subst}
-use Rattle.pp_terms.specs.Range.{Span, within, has, IsRunsFrom}
+use Rattle.pp_terms.specs.tree.Range.{Span, within, has, IsRunsFrom}
 use Rattle.pp_ranges.proofs.Runs.{inserted_edit, settled_ok, settled_runs, settled_full}
 use Rattle.pp_ranges.proofs.list.RangeList.insert.Goals as goal
 

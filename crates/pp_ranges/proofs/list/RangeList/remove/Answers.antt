@@ -1,5 +1,5 @@
 use Rattle.std.proofs.Common.{not, ◌&&◌, List, ◌∙◌, subst}
-use Rattle.pp_terms.specs.Range.{Span, within, has, IsRunsFrom}
+use Rattle.pp_terms.specs.tree.Range.{Span, within, has, IsRunsFrom}
 use Rattle.pp_ranges.proofs.Runs.{removed_edit, settled_ok, settled_runs, settled_full}
 use Rattle.pp_ranges.proofs.list.RangeList.remove.Goals as goal
 

@@ -1,6 +1,6 @@
 use Rattle.std.proofs.Common.{length, List, sym, ◌∙◌, subst, ap, arith}
 use Rattle.std.specs.List.{filter}
-use Rattle.pp_terms.specs.Range.{Span, IsRunsFrom}
+use Rattle.pp_terms.specs.tree.Range.{Span, IsRunsFrom}
 use Rattle.pp_ranges.specs.Edits.{is_apart}
 use Rattle.pp_ranges.proofs.Runs.{few_kept, filter_runs, all_taken}
 use Rattle.pp_ranges.proofs.list.RangeList.remove_wide.Goals as goal

@@ -1,4 +1,4 @@
-use Rattle.std.proofs.Common.{◌≡◌, ℕ, ◌==◌, sym, ◌∙◌, ap, subst, List, Some, None, cond}
+use Rattle.std.proofs.Common.{ℕ, ◌==◌, sym, ◌∙◌, ap, subst, List, None, cond}
 use Rattle.std.specs.Prelude.{is_some, position}
 use Rattle.pp_requests.specs.declared.asking.Asking.{Asking}
 use Rattle.pp_requests.specs.Moments.{asked_at, IsRisingFrom}

@@ -1,4 +1,4 @@
-use Rattle.std.proofs.Common.{◌≡◌, ◌≤◌, ◌==◌, ◌∙◌, sym, ap, subst, List, Some, None, cond, length, nat_le, arith, refl}
+use Rattle.std.proofs.Common.{◌≡◌, ◌==◌, ◌∙◌, sym, ap, subst, List, Some, None, cond, nat_le, arith, refl}
 use Rattle.std.specs.Prelude.{position, unwrap_or}
 use Rattle.pp_requests.specs.declared.asking.Asking.{Asking}
 use Rattle.pp_requests.specs.Moments.{asked_at, IsRisingFrom}

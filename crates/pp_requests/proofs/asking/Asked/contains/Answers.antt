@@ -1,9 +1,7 @@
 use Rattle.std.proofs.Common.{◌∙◌, ap, List}
-use Rattle.std.specs.Prelude.{is_some}
 use Rattle.std.specs.List.{list_any}
 use Rattle.std.proofs.Common.{◌==◌}
 use Rattle.pp_requests.specs.declared.asking.Asking.{Asking}
-use Rattle.pp_requests.specs.Moments.{asked_at}
 use Rattle.pp_requests.proofs.Entries.{any_asked}
 use Rattle.pp_requests.proofs.asking.Asked.contains.Goals as goal
 

@@ -1,8 +1,8 @@
-use Rattle.std.proofs.Common.{◌≡◌, ◌==◌, ◌-◌, nat_le, sym, ◌∙◌, ap, subst, List, Some, None, cond, get_or}
+use Rattle.std.proofs.Common.{◌==◌, ◌-◌, nat_le, sym, ◌∙◌, ap, subst, List, None, cond}
 use Rattle.std.specs.Prelude.{position}
 use Rattle.std.proofs.lemmas.List.Quantifiers.{position-Some}
 use Rattle.pp_requests.specs.declared.asking.Asking.{Asking}
-use Rattle.pp_requests.specs.Moments.{asked_at, IsRisingFrom, IsLeastExpired, NoneExpired}
+use Rattle.pp_requests.specs.Moments.{asked_at, IsRisingFrom, IsLeastExpired}
 use Rattle.pp_requests.proofs.Entries.{removed_rising, removed_asked, first_expired, none_expired, match_none}
 use Rattle.pp_requests.proofs.asking.Asked.expired.Goals as goal
 

@@ -1,5 +1,5 @@
-use Rattle.std.proofs.Common.{◌∙◌, ap, arith, ◌==◌, ◌&&◌, not, List, refl}
-use Rattle.pp_terms.specs.Range.{Span, has}
+use Rattle.std.proofs.Common.{◌∙◌, ap, arith, ◌==◌, ◌&&◌, not, List}
+use Rattle.pp_terms.specs.tree.Range.{Span, has}
 use Rattle.pp_requests.specs.Lists.{without}
 use Rattle.pp_requests.proofs.LeastNumbers.{least_taken, least_list, least_fewer}
 use Rattle.pp_requests.proofs.listing.Requests.take.Goals as goal

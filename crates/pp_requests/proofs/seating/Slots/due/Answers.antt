@@ -1,5 +1,5 @@
-use Rattle.std.proofs.Common.{◌≡◌, ◌∙◌, sym, ap, subst, arith}
-use Rattle.pp_requests.specs.Seats.{seat_count, IsDue}
+use Rattle.std.proofs.Common.{◌∙◌, sym, ap}
+use Rattle.pp_requests.specs.Seats.{seat_count}
 use Rattle.pp_requests.proofs.SeatCounts.{none_counted, never_due}
 use Rattle.pp_requests.proofs.seating.Slots.due.Goals as goal
 

@@ -1,6 +1,6 @@
 use Rattle.std.proofs.Common.{◌≡◌, ℕ, ◌-◌, ◌*◌, ◌<◌, List, [], length, take, drop, arith, sym, ◌∙◌, ap, subst}
 use Rattle.sha2.specs.Sha256.{sha256}
-use Rattle.pp_terms.specs.Content.{chunk_of}
+use Rattle.pp_terms.specs.tree.Content.{chunk_of}
 use Rattle.pp_tree.proofs.Sizes.{chunk_size_range}
 use Rattle.pp_tree.proofs.Layers.{default_in, chunk_cut}
 use Rattle.pp_store.specs.Growing.{chunks_in}

@@ -1,5 +1,5 @@
 use Rattle.std.proofs.Common.{◌≡◌, ℕ, ◌+◌, ◌-◌, ◌*◌, ◌≤◌, List, length}
-use Rattle.pp_terms.specs.Content.{chunk_count}
+use Rattle.pp_terms.specs.tree.Content.{chunk_count}
 use Rattle.pp_store.specs.Behind.{KeepsBehind}
 use Rattle.pp_store.specs.Growing.{IsPartial, IsNext}
 use Rattle.pp_store.proofs.growing.GrowingTree.put_chunks.Given as goal

@@ -1,5 +1,5 @@
 use Rattle.std.proofs.Common.{ap, subst, sym, ◌∙◌, false}
-use Rattle.pp_terms.specs.Disk.{History}
+use Rattle.pp_terms.specs.disk.Disk.{History}
 use Rattle.pp_store.specs.Store.{StoreState, AgreesWith, HoldsAll, AllStand, KnowsHeld, HasCommitted}
 use Rattle.pp_store.proofs.Committing.{commit_none, commit_goes_on, agrees_committed, stands_committed, committed_is, agrees_dead, knows_committed, knows_live}
 use Rattle.pp_store.proofs.keeping.Store.commit.Goals as goal

@@ -1,9 +1,9 @@
 use Rattle.std.proofs.Common.{◌≡◌, refl, ap, subst, sym, ◌∙◌}
 use Rattle.std.proofs.lemmas.Result.{IfOk-weaker}
-use Rattle.pp_terms.specs.Book.{IsRooted}
-use Rattle.pp_terms.specs.Descriptor.{Descriptor}
+use Rattle.pp_terms.specs.tree.Book.{IsRooted}
+use Rattle.pp_terms.specs.format.Descriptor.{Descriptor}
 use Rattle.pp_tree.specs.Book.{entry}
-use Rattle.pp_paths.specs.Claims.{claimed}
+use Rattle.pp_terms.specs.tree.Claims.{latest}
 use Rattle.pp_store.specs.declared.admitting.Put.TheVariants.{Stored}
 use Rattle.pp_store.specs.Store.{StoreState, is_held}
 use Rattle.pp_store.proofs.Writings.{keeps_same}
@@ -17,19 +17,19 @@ returns-then-has-clause-holds g c known =
 
 pub returns-in-Stored-clause-answer : goal.returns-in-Stored-clause-answer
 returns-in-Stored-clause-answer g c =
-    let is = answer_is c.args.self.now c.self.inside.descriptor (ap (λ (s : StoreState). s.descriptor) c.self.view_is) (entry c.args.book.now) (claimed c.args.claims.now)
+    let is = answer_is c.args.self.now c.self.inside.descriptor (ap (λ (s : StoreState). s.descriptor) c.self.view_is) (entry c.args.book.now) (latest c.args.claims.now)
     c.args.i c.args.chunk.now (is_held c.args.self.now c.args.i) c.if-has.ensures.held Stored c.in-Stored.ensures.answer in
     IfOk-weaker c.write.result (λ put. put ≡ Stored) _ (λ put e. e ∙ sym is) c.write.ensures.stored
 
 pub returns-in-Stored-clause-refused : goal.returns-in-Stored-clause-refused
 returns-in-Stored-clause-refused g c =
     on_err_any c.write.result
-    (answer_is c.args.self.now c.self.inside.descriptor (ap (λ (s : StoreState). s.descriptor) c.self.view_is) (entry c.args.book.now) (claimed c.args.claims.now)
+    (answer_is c.args.self.now c.self.inside.descriptor (ap (λ (s : StoreState). s.descriptor) c.self.view_is) (entry c.args.book.now) (latest c.args.claims.now)
     c.args.i c.args.chunk.now (is_held c.args.self.now c.args.i) c.if-has.ensures.held Stored c.in-Stored.ensures.answer)
 
 pub returns-in-Stored-clause-learned : goal.returns-in-Stored-clause-learned
 returns-in-Stored-clause-learned g c =
-    learned_is c.args.self.now c.self.inside.descriptor (ap (λ (s : StoreState). s.descriptor) c.self.view_is) (entry c.args.book.now) (claimed c.args.claims.now)
+    learned_is c.args.self.now c.self.inside.descriptor (ap (λ (s : StoreState). s.descriptor) c.self.view_is) (entry c.args.book.now) (latest c.args.claims.now)
     c.args.i c.args.chunk.now (is_held c.args.self.now c.args.i) c.if-has.ensures.held (entry c.admit.new.book) c.admit.ensures.learned
 
 pub returns-in-Stored-clause-agrees : goal.returns-in-Stored-clause-agrees
@@ -54,7 +54,7 @@ returns-in-Stored-clause-knows g c knows =
 
 pub returns-in_default : goal.returns-in_default
 returns-in_default g c = record {
-  answer = sym (answer_is c.args.self.now c.self.inside.descriptor (ap (λ (s : StoreState). s.descriptor) c.self.view_is) (entry c.args.book.now) (claimed c.args.claims.now)
+  answer = sym (answer_is c.args.self.now c.self.inside.descriptor (ap (λ (s : StoreState). s.descriptor) c.self.view_is) (entry c.args.book.now) (latest c.args.claims.now)
       c.args.i c.args.chunk.now (is_held c.args.self.now c.args.i) c.if-has.ensures.held c.admit.result c.admit.ensures.answer);
   refused = tt;
   hard = no_cause _ c.admit.result;
@@ -63,12 +63,12 @@ returns-in_default g c = record {
   dead = tt;
   descriptor = refl;
   untouched = λ differ ok. (refl, refl);
-  learned = learned_is c.args.self.now c.self.inside.descriptor (ap (λ (s : StoreState). s.descriptor) c.self.view_is) (entry c.args.book.now) (claimed c.args.claims.now)
+  learned = learned_is c.args.self.now c.self.inside.descriptor (ap (λ (s : StoreState). s.descriptor) c.self.view_is) (entry c.args.book.now) (latest c.args.claims.now)
       c.args.i c.args.chunk.now (is_held c.args.self.now c.args.i) c.if-has.ensures.held (entry c.admit.new.book) c.admit.ensures.learned;
   backed = λ e. absurd (c.in_default.not-Stored (cc));
   kept = c.admit.ensures.kept;
   rooted = c.admit.ensures.rooted c.args.self.now.descriptor c.requires.rooted;
-  chunks = c.admit.ensures.chunks;
+  book = c.admit.ensures.descriptor;
   knows = knows_grown c.args.self.now (entry c.args.book.now) (entry c.admit.new.book) c.admit.ensures.kept;
   wrote = λ known e. absurd (c.in_default.not-Stored (cc));
   behind = keeps_same (g.D.Disk.state c.args.disk.now);

@@ -1,7 +1,7 @@
 use Rattle.std.proofs.Common.{◌≡◌, ap, subst, sym, ◌∙◌, List, Bool, false, None}
-use Rattle.pp_terms.specs.Book.{IsBacked}
-use Rattle.pp_terms.specs.Descriptor.{chunks_of}
-use Rattle.pp_terms.specs.Proves.{first_absent}
+use Rattle.pp_terms.specs.tree.Book.{IsBacked}
+use Rattle.pp_terms.specs.format.Descriptor.{chunks_of}
+use Rattle.pp_terms.specs.tree.Proves.{first_absent}
 use Rattle.pp_tree.specs.Book.{entry}
 use Rattle.pp_store.specs.Store.{StoreState, IsSized, is_held, AgreesWith, KnowsHeld}
 use Rattle.pp_store.proofs.Puttings.{sized_done, sized_refused, put_goes_on, agrees_done, agrees_refused, knows_done, knows_dead}

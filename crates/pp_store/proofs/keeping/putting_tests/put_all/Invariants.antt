@@ -1,5 +1,5 @@
 use Rattle.std.proofs.Common.{◌≡◌}
-use Rattle.pp_terms.specs.Book.{IsRooted}
+use Rattle.pp_terms.specs.tree.Book.{IsRooted}
 use Rattle.pp_tree.specs.Book.{entry}
 use Rattle.pp_store.proofs.keeping.putting_tests.put_all.Given as goal
 

@@ -12,6 +12,8 @@ returns-clause-alone c =
     c.height-height.ensures.height c.height-height.ensures.range refl c.in_ok-cells.ensures
     (c.bytes.ensures.same ∙ c.root-root.ensures.root) refl
 
-pub returns-clause-rooted : goal.returns-clause-rooted
-returns-clause-rooted c =
-    rooted_alone c.args.descriptor.now _ c.root-root.ensures.valid.root_length (returns-clause-alone c)
+pub returns-clause-book : goal.returns-clause-book
+returns-clause-book c = record {
+  descriptor_is = refl;
+  rooted = rooted_alone c.args.descriptor.now _ c.root-root.ensures.valid.root_length (returns-clause-alone c);
+}

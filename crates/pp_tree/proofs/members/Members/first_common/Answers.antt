@@ -3,9 +3,10 @@ use Rattle.std.specs.Int.{bit_at}
 use Rattle.std.proofs.lemmas.List.{get_or_default}
 use Rattle.std.proofs.lemmas.Bool.{and_parts}
 use Rattle.std.proofs.lemmas.Nat.Bits.{bit_at-zero}
+use Rattle.pp_terms.proofs.Facts.{member_below}
 use Rattle.pp_tree.specs.Bits.{bit_of}
 use Rattle.pp_tree.specs.Sets.{is_in_all}
-use Rattle.pp_tree.proofs.Marking.{value_size, common_of, common_zero, common_read, all_bit, marked, word_within, in_list, passed, skipped, found}
+use Rattle.pp_tree.proofs.Marking.{value_size, common_of, common_zero, common_read, all_bit, marked, word_within, passed, skipped, found}
 use Rattle.pp_tree.proofs.members.Members.first_common.Goals as goal
 use Rattle.pp_tree.proofs.members.Members.first_common.Goals.{After-deref-in-loop-w-2, In-Some, After-index-in-Some-2}
 
@@ -96,7 +97,7 @@ returns-then-common-ne0 c =
     let here : is_in_all c.args.self.now c.args.other.now c.args.third.now (64 * c.in-Some.w + c.lowest.result) ≡ true =
     bits_in start (64 * c.in-Some.w + c.lowest.result)
     ∙ found f c.in-Some.w c.lowest.result (bit_and (bit_and c.index.result.now c.index-in-Some.result.now) c.index-in-Some-2.result.now) word c.lowest.ensures.range (ap (λ (b : ℕ). b == 1) c.lowest.ensures.here) in (
-      in_list c.args.self.now (64 * c.in-Some.w + c.lowest.result)
+      member_below c.args.self.now (64 * c.in-Some.w + c.lowest.result)
           (and_parts (slice_index_or c.args.self.now (64 * c.in-Some.w + c.lowest.result) false)
           (slice_index_or c.args.other.now (64 * c.in-Some.w + c.lowest.result) false && slice_index_or c.args.third.now (64 * c.in-Some.w + c.lowest.result) false) here).0,
       here,

@@ -1,0 +1,7 @@
+-- Numbers within a span.
+use Rattle.std.proofs.Common.{◌≡◌, ℕ, ◌≤◌, true, arith}
+use Rattle.std.proofs.lemmas.Bool.Decides.{nat_tests}
+use Rattle.pp_terms.specs.tree.Range.{Span, within}
+
+pub within_from : (s : Span) (i : ℕ) → s.first ≤ i → i ≤ s.last → within s i ≡ true
+within_from s i low high = grind (arith, nat_tests)

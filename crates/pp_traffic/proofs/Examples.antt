@@ -1,0 +1,104 @@
+-- Worked examples on small traffic.
+use Rattle.std.proofs.Common.{◌≡◌, inl, inr, ⊎_elim, ℕ, ◌+◌, leb, true, false, ◌&&◌, List, [], codes, refl, sym, ◌∙◌, ap, subst, arith}
+use Rattle.std.specs.Prelude.{slice_index}
+use Rattle.std.proofs.lemmas.Bool.{false≢true, leb-true, and_parts, or_cases}
+use Rattle.std.proofs.lemmas.List.{get_or_append_left, length-append}
+use Rattle.sha2.specs.Sha256.{first_words, schedule, rounds, compress, hash_after, digest_bytes, sha256}
+use Rattle.pp_terms.specs.Example.{abc, store_of_abc}
+use Rattle.pp_terms.specs.tree.Tree.{node, height}
+use Rattle.pp_terms.specs.disk.Disk.{History, IsImage, fresh, settled}
+use Rattle.pp_terms.specs.disk.Store.{header, Has}
+use Rattle.pp_terms.specs.disk.Image.{StandsIn}
+use Rattle.pp_terms.specs.format.Traffic.{Sent}
+use Rattle.pp_terms.specs.format.Messages.{leaves_of, span_in, handshake_at, data_at, ack_at, integrity_at, span_at, address_at, message_at, next_message, messages_from, datagram}
+use Rattle.pp_terms.specs.format.Descriptor.{chunks_of}
+use Rattle.pp_terms.specs.format.Options.{fault_at, read_from, read_options}
+use Rattle.pp_terms.proofs.Images.{sole_image}
+use Rattle.pp_traffic.specs.Past.{read}
+use Rattle.pp_traffic.specs.Keeping.{announces, StandsSince, KeepsFrom, Keeps}
+use Rattle.pp_traffic.specs.Example.{have, peer, announced, pending, TurnExamples, CountExamples, WindowExamples, ClaimedExamples, KeepExamples}
+
+pub turn_examples : TurnExamples
+unfolding leaves_of span_in handshake_at data_at ack_at integrity_at span_at address_at message_at next_message messages_from datagram fault_at read_from read_options
+turn_examples = record {
+  one = refl;
+  turns = refl;
+  last = refl;
+  too_late = λ e. cc;
+  paid = inl (refl, inl (refl, tt));
+  unpaid = λ at. elim at [ inl ends ↦ cc | inr more ↦ cc ];
+  excused = inr (0, refl, inl (refl, tt));
+}
+
+pub count_examples : CountExamples
+unfolding leaves_of span_in handshake_at data_at ack_at integrity_at span_at address_at message_at next_message messages_from datagram fault_at read_from read_options
+count_examples = record {
+  counted = (refl, refl, refl);
+  tallied = record { turns = refl; datagrams = refl; sent = refl; short = refl; receive_faults = refl };
+  asking = refl;
+  none_asked = refl;
+  one_asked = λ e. cc;
+}
+
+pub window_examples : WindowExamples
+window_examples = record { empty = refl; full = refl; acknowledged = refl }
+
+pub claimed_examples : ClaimedExamples
+claimed_examples = record { pair = refl; cut = refl; unclaimed = refl; said = refl }
+
+-- the store of "abc" begins with its header
+begins : Has 0 (header abc) store_of_abc
+begins = record {
+  inside = let sum = length-append (header abc) (codes "abc") in omega (arith, sum);
+  same = λ k lt. let place : 0 + k ≡ k = omega arith in
+      ap (λ (n : ℕ). slice_index store_of_abc n) place ∙ get_or_append_left (header abc) (codes "abc") 0 k lt;
+}
+
+stands : StandsIn abc store_of_abc 0
+unfolding header first_words schedule rounds compress hash_after digest_bytes sha256 node height
+stands = record { begins = begins; within = let one : chunks_of abc ≡ 1 = refl in omega (arith, one); held = refl }
+
+-- the datagram announces chunk 0 alone
+announces_zero : (moment i : ℕ) → announces i (read abc (Sent moment peer have)).messages.read ≡ true → i ≡ 0
+unfolding leaves_of span_in handshake_at data_at ack_at integrity_at span_at address_at message_at next_message messages_from datagram
+announces_zero moment i e = ⊎_elim
+    (λ here. let low = leb-true i 0 (and_parts (leb 0 i) (leb i 0) here).1 in omega arith)
+    (λ none. absurd (false≢true none))
+    (or_cases (leb 0 i && leb i 0) false e)
+
+only_store : (image : List ℕ) → IsImage (record { durable = store_of_abc; pending = [] }) image → StandsIn abc image 0
+only_store image is = subst (λ (xs : List ℕ). StandsIn abc xs 0) (sym (sole_image store_of_abc image is)) stands
+
+at_zero : (h : History) (moment i : ℕ) → i ≡ 0 → StandsSince abc h moment 0 → StandsSince abc h moment i
+at_zero h moment i is since = subst (λ (n : ℕ). StandsSince abc h moment n) (sym is) since
+
+kept : Keeps abc (fresh store_of_abc) (announced 0)
+kept = record {
+  held = λ i each image leaves. elim leaves [ inl is ↦ each image is | inr was ↦ absurd was ];
+  announced = (λ i e. at_zero (fresh store_of_abc) 0 i (announces_zero 0 i e) (λ image leaves. elim leaves [ inl is ↦ only_store image is | inr was ↦ absurd was ]), tt);
+}
+
+synced : KeepsFrom abc (settled pending store_of_abc) 1 (settled pending store_of_abc).epoch (announced 1)
+synced = record {
+  held = λ i each image leaves. elim leaves [ inl is ↦ each image is | inr was ↦ absurd was ];
+  announced = (λ i e. at_zero (settled pending store_of_abc) 1 i (announces_zero 1 i e) (λ image leaves. elim leaves [ inl is ↦ only_store image is | inr was ↦ absurd was ]), tt);
+}
+
+-- a crash may leave the header alone
+header_alone : IsImage pending.epoch (header abc)
+header_alone = record { no_shorter = omega arith; no_longer = omega arith; stays = λ k lt free. refl }
+
+not_held : StandsIn abc (header abc) 0 → ⊥
+unfolding header first_words schedule rounds compress hash_after digest_bytes sha256 node height
+not_held s = let e : false ≡ true = s.held in cc
+
+announced_zero : announces 0 (read abc (Sent 0 peer have)).messages.read ≡ true
+unfolding leaves_of span_in handshake_at data_at ack_at integrity_at span_at address_at message_at next_message messages_from datagram
+announced_zero = refl
+
+pub keep_examples : KeepExamples
+keep_examples = record {
+  kept = kept;
+  too_early = λ keeps. not_held (keeps.announced.0 0 announced_zero (header abc) (inl header_alone));
+  synced = synced;
+}
