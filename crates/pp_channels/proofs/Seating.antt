@@ -1,6 +1,6 @@
 -- Seats and what stands there.
-use Rattle.std.proofs.Common.{◌≡◌, ◌≢◌, ℕ, zero, suc, ◌<◌, Bool, true, false, Option, Some, None, List, [], ◌∷◌, length, refl, sym, ◌∙◌, ap, subst, inl, inr, replicate, get_or, arith}
-use Rattle.std.specs.Prelude.{◌↔◌, IfSome, IsSome, IsNone, is_none, not, nat_lt, position}
+use Rattle.std.proofs.Common.{◌≡◌, ◌≢◌, ℕ, zero, suc, ◌+◌, ◌<◌, Bool, true, false, Option, Some, None, List, [], ◌∷◌, length, refl, sym, ◌∙◌, ap, subst, inl, inr, replicate, get_or, arith}
+use Rattle.std.specs.Prelude.{◌↔◌, IfSome, IsSome, IsNone, is_none, is_some, not, cond, nat_lt, position, count_by}
 use Rattle.std.proofs.lemmas.List.Quantifiers.{position-Some}
 use Rattle.std.specs.Prelude.{map}
 use Rattle.std.proofs.Math.ListN.{set, get_or-map}
@@ -10,11 +10,11 @@ use Rattle.std.specs.Vec.{with_item, with_items}
 use Rattle.rand_chacha.specs.ChaCha.{ChaCha}
 use Rattle.std.proofs.lemmas.List.{length-replicate, length-map, length-set, with_items_is}
 use Rattle.std.specs.List.{position_or_len}
-use Rattle.std.proofs.lemmas.List.Sums.{prefix_len_passes}
+use Rattle.std.proofs.lemmas.List.Sums.{prefix_len_passes, sum_by-set, sum_by-cons}
 use Rattle.std.proofs.lemmas.Bool.{and_parts, ne_eqb, eqb-true, cases_lt, cond-true, lt-ltb, not-true}
 use Rattle.pp_outside.specs.declared.link.Address.{Address}
 use Rattle.pp_channels.specs.declared.channel.Channel.{Channel}
-use Rattle.pp_channels.specs.Seats.{Seats, at_seat, channel_at, IsUsedSeat, IsFull, AreSeats, has_local, has_address, is_found, after_drop, closed}
+use Rattle.pp_channels.specs.Seats.{Seats, at_seat, channel_at, IsUsedSeat, IsFull, AreSeats, has_local, has_address, is_found, after_drop, closed, used_of}
 
 -- a list of free seats has no channel
 none_there : (n seat : ℕ) → at_seat (replicate n None) seat ≡ None
@@ -151,3 +151,41 @@ none_free_full s items (Some seat) are same is =
       λ full. free_unused (at_seat items seat) there.1
           (subst (λ xs. IsSome (at_seat xs seat)) (sym same) (full seat (omega (arith, are.seats)))),
     )
+
+-- ---- how many are in use
+
+abbrev one_if : Option Channel → ℕ
+one_if o = cond (is_some o) 1 0
+
+none_is : (o : Option Channel) → is_none o ≡ true → one_if o ≡ 0
+none_is None e = refl
+none_is (Some c) e = cc
+
+-- A channel at a free seat is one more.
+pub used_more : (channels : List (Option Channel)) (seat : ℕ) (c : Channel) → Some seat ≡ position is_none channels
+    → count_by is_some (set channels seat (Some c)) ≡ count_by is_some channels + 1
+used_more channels seat c is =
+    let there = position-Some is_none channels seat None (sym is) in
+    let free : one_if (at_seat channels seat) ≡ 0 = none_is (at_seat channels seat) there.1 in
+    let sums = sum_by-set one_if channels seat (Some c) None there.0 in
+    omega (arith, sums, free)
+
+after_drop_used : (dropped o : Option Channel) → one_if (after_drop dropped o) ≡ one_if o
+after_drop_used dropped None = refl
+after_drop_used dropped (Some c) = refl
+
+used_after_drop : (dropped : Option Channel) (channels : List (Option Channel)) → count_by is_some (map (after_drop dropped) channels) ≡ count_by is_some channels
+used_after_drop dropped [] = refl
+used_after_drop dropped (o ∷ channels) =
+    let rest = used_after_drop dropped channels in
+    sum_by-cons one_if (after_drop dropped o) (map (after_drop dropped) channels)
+    ∙ omega (arith, rest, after_drop_used dropped o)
+    ∙ sym (sum_by-cons one_if o channels)
+
+-- One that is dropped is one fewer.
+pub used_less : (s : Seats) (seat : ℕ) (c : Channel) → channel_at s seat ≡ Some c → seat < length s.channels → used_of (closed s seat) + 1 ≡ used_of s
+used_less s seat c there lt =
+    let sums = sum_by-set one_if s.channels seat None None lt in
+    let one : one_if (at_seat s.channels seat) ≡ 1 = ap one_if there in
+    let rest = used_after_drop (channel_at s seat) (set s.channels seat None) in
+    omega (arith, sums, one, rest)

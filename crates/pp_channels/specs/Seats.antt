@@ -1,10 +1,12 @@
 -- The channels of a peer, by their seats (RFC 7574, sections 3.1.1 and 8). Moments are in microseconds.
-use Rattle.std.specs.Prelude.{◌≡◌, ℕ, ◌+◌, ◌<◌, ◌==◌, min, Bool, true, false, not, ◌&&◌, ◌||◌, if◌then◌else◌, Option, Some, None, IsSome, IfSome, is_none, option_map, unwrap_or, List, length, map, find, position, slice_index_or, slice_set}
-use Rattle.std.specs.List.{list_any, range_with_len}
+use Rattle.std.specs.Prelude.{◌≡◌, ℕ, ◌+◌, ◌<◌, ◌==◌, min, nat_lt, Bool, true, false, not, ◌&&◌, ◌||◌, if◌then◌else◌, Option, Some, None, IsSome, IfSome, is_none, is_some, option_map, unwrap_or, List, length, map, find, position, slice_index_or, slice_set}
+use Rattle.std.specs.List.{count_by, list_any, range_with_len}
 use Rattle.rand_chacha.specs.ChaCha.{ChaCha, next_word}
 use Rattle.pp_outside.specs.Outside.{is_same}
 use Rattle.pp_outside.specs.declared.link.Address.{Address}
 use Rattle.pp_channels.specs.declared.channel.State.TheVariants.{Greeted}
+use Rattle.pp_channels.specs.declared.channel.Reply.{Reply}
+use Rattle.pp_channels.specs.declared.channel.Reply.TheVariants.{Due, Sent, DueAgain}
 use Rattle.pp_channels.specs.declared.channel.Opening.{Opening}
 use Rattle.pp_channels.specs.declared.channel.Opening.TheVariants.{Dialled, Answered}
 use Rattle.pp_channels.specs.declared.channel.Channel.{Channel}
@@ -24,6 +26,10 @@ channel_at s seat = at_seat s.channels seat
 -- a seat is in use
 abbrev pub IsUsed : Seats → ℕ → Type 0
 IsUsed s seat = IsSome (channel_at s seat)
+
+-- how many are in use
+abbrev pub used_of : Seats → ℕ
+used_of s = count_by is_some s.channels
 
 -- it is, and is one of the 64
 abbrev pub IsUsedSeat : Seats → ℕ → Type 0
@@ -89,7 +95,7 @@ answered sender source moment number = record {
   local = number;
   remote = Some source;
   state = Greeted;
-  opening = Answered false;
+  opening = Answered Due;
   made = moment;
   heard = moment;
   wrote = moment;
@@ -138,17 +144,32 @@ changed s seat change = record s { channels = slice_set s.channels seat (option_
 -- one more handshake was sent; this peer's own are counted up to 255
 abbrev pub with_handshake : Opening → Opening
 with_handshake (Dialled handshakes) = Dialled (min (handshakes + 1) 255)
-with_handshake (Answered replied) = Answered true
+with_handshake (Answered at) = Answered Sent
 
--- the reply is to be sent again; a dialled channel has none
+-- the reply is due, once more where it was sent; a dialled channel has none
+abbrev pub due_again : Reply → Reply
+due_again Due = Due
+due_again Sent = DueAgain
+due_again DueAgain = DueAgain
+
 abbrev pub unreplied : Opening → Opening
 unreplied (Dialled handshakes) = Dialled handshakes
-unreplied (Answered replied) = Answered false
+unreplied (Answered at) = Answered (due_again at)
+
+-- This peer sent a handshake on the channel. It did so too where its reply is due again.
+abbrev pub is_sent : Reply → Bool
+is_sent Due = false
+is_sent Sent = true
+is_sent DueAgain = true
+
+abbrev pub is_begun : Opening → Bool
+is_begun (Dialled handshakes) = nat_lt 0 handshakes
+is_begun (Answered at) = is_sent at
 
 -- this peer opened the channel
 abbrev pub is_dialled : Opening → Bool
 is_dialled (Dialled handshakes) = true
-is_dialled (Answered replied) = false
+is_dialled (Answered at) = false
 
 -- the channel of one seat when that of another is dropped
 abbrev pub after_drop : Option Channel → Option Channel → Option Channel

@@ -2,16 +2,23 @@
 use Rattle.std.specs.Prelude.{ℕ, ◌-◌, ◌==◌, nat_le, Bool, true, false, not, ◌&&◌, ◌||◌, Option, Some, None}
 use Rattle.pp_channels.specs.declared.channel.State.{State}
 use Rattle.pp_channels.specs.declared.channel.State.TheVariants.{Greeted, Proven}
+use Rattle.pp_channels.specs.declared.channel.Reply.{Reply}
+use Rattle.pp_channels.specs.declared.channel.Reply.TheVariants.{Due, Sent, DueAgain}
 use Rattle.pp_channels.specs.declared.channel.Opening.{Opening}
 use Rattle.pp_channels.specs.declared.channel.Opening.TheVariants.{Dialled, Answered}
 use Rattle.pp_channels.specs.declared.channel.Channel.{Channel}
 
 -- A handshake is due so long after the channel was made: of a dialled one the first at once, the second after 3 seconds
 -- and the third after 6; of an answered one the reply, until it is sent.
+abbrev pub is_due : Reply → Bool
+is_due Due = true
+is_due Sent = false
+is_due DueAgain = true
+
 abbrev pub is_opening_due : Opening → ℕ → Bool
 is_opening_due (Dialled handshakes) age =
     (handshakes == 0) || (handshakes == 1 && nat_le 3_000_000 age) || (handshakes == 2 && nat_le 6_000_000 age)
-is_opening_due (Answered replied) age = not replied
+is_opening_due (Answered at) age = is_due at
 
 abbrev pub is_greeted : State → Bool
 is_greeted Greeted = true

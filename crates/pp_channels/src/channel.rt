@@ -1,7 +1,8 @@
 //! One channel.
 
 ghost use Rattle.std.specs.Prelude.{◌≡◌};
-ghost use Rattle.pp_channels.specs.Seats.{answered, dialled, is_dialled, with_handshake, unreplied};
+ghost use Rattle.pp_channels.specs.Seats.{answered, dialled, is_dialled, is_sent, is_begun, with_handshake, due_again, unreplied};
+ghost use Rattle.pp_channels.specs.Timing.{is_due};
 
 use pp_outside::Address;
 
@@ -19,8 +20,19 @@ pub enum State {
 pub enum Opening {
     /// This peer did; so many of its handshakes were sent, at most 255.
     Dialled { handshakes: u8 },
-    /// The other peer did; the reply was sent, or is to be sent.
-    Answered { replied: bool },
+    /// The other peer did.
+    Answered { reply: Reply },
+}
+
+/// How far the reply to the handshake of another peer has come.
+#[derive(Clone, Copy)]
+pub enum Reply {
+    /// It is due, and none was sent yet.
+    Due,
+    /// It was sent.
+    Sent,
+    /// It was sent, and is due again.
+    DueAgain,
 }
 
 /// A channel to another peer.
@@ -43,6 +55,36 @@ pub struct Channel {
     pub shadowed: bool,
 }
 
+impl Reply {
+    pub(crate) fn is_due(self) -> bool
+        ensures { result ≡ is_due self }
+    {
+        match self {
+            Reply::Due | Reply::DueAgain => true,
+            Reply::Sent => false,
+        }
+    }
+
+    fn is_sent(self) -> bool
+        ensures { result ≡ is_sent self }
+    {
+        match self {
+            Reply::Due => false,
+            Reply::Sent | Reply::DueAgain => true,
+        }
+    }
+
+    /// It is to be sent, once more where it was sent.
+    fn again(self) -> Reply
+        ensures { result ≡ due_again self }
+    {
+        match self {
+            Reply::Due => Reply::Due,
+            Reply::Sent | Reply::DueAgain => Reply::DueAgain,
+        }
+    }
+}
+
 impl Opening {
     pub(crate) fn is_dialled(self) -> bool
         ensures { result ≡ is_dialled self }
@@ -61,7 +103,17 @@ impl Opening {
             Opening::Dialled { handshakes } => Opening::Dialled {
                 handshakes: handshakes.saturating_add(1),
             },
-            Opening::Answered { .. } => Opening::Answered { replied: true },
+            Opening::Answered { .. } => Opening::Answered { reply: Reply::Sent },
+        }
+    }
+
+    /// Whether a handshake was sent.
+    pub(crate) fn is_begun(self) -> bool
+        ensures { result ≡ is_begun self }
+    {
+        match self {
+            Opening::Dialled { handshakes } => handshakes > 0,
+            Opening::Answered { reply } => reply.is_sent(),
         }
     }
 
@@ -71,7 +123,9 @@ impl Opening {
     {
         match self {
             Opening::Dialled { handshakes } => Opening::Dialled { handshakes },
-            Opening::Answered { .. } => Opening::Answered { replied: false },
+            Opening::Answered { reply } => Opening::Answered {
+                reply: reply.again(),
+            },
         }
     }
 }
@@ -86,7 +140,7 @@ impl Channel {
             local,
             remote: Some(source),
             state: State::Greeted,
-            opening: Opening::Answered { replied: false },
+            opening: Opening::Answered { reply: Reply::Due },
             made: now,
             heard: now,
             wrote: now,

@@ -1,15 +1,18 @@
 //! The channels of a peer.
 
-ghost use Rattle.std.specs.Prelude.{◌≡◌, ◌≢◌, ◌↔◌, ℕ, ◌<◌, false, None, Some, map, position, replicate, slice_set, unwrap_or, option_map, IfOk, IfSome, IsNone, IsSome};
+ghost use Rattle.std.specs.Prelude.{◌≡◌, ◌≢◌, ◌↔◌, ℕ, ◌+◌, ◌<◌, false, None, Some, map, position, replicate, slice_set, unwrap_or, option_map, IfOk, IfSome, IsNone, IsSome};
+ghost use Rattle.std.specs.List.{list_any};
 ghost use Rattle.std.specs.Option.{ForSome};
 ghost use Rattle.rand_chacha.specs.ChaCha.{of_seed, next_word};
-ghost use Rattle.pp_channels.specs.Seats.{Seats, AreSeats, channel_at, IsUsed, IsUsedSeat, IsFull, HasNewNumber, number_from, has_local, is_found, is_source, is_dialled, answered, dialled, free_seat, with_channel, changed, with_handshake, unreplied, after_drop, closed};
+ghost use Rattle.pp_channels.specs.Seats.{Seats, AreSeats, channel_at, IsUsed, IsUsedSeat, used_of, IsFull, HasNewNumber, number_from, has_local, has_address, is_found, is_source, is_dialled, is_begun, answered, dialled, free_seat, with_channel, changed, with_handshake, unreplied, after_drop, closed};
 ghost use Rattle.pp_channels.specs.Timing.{handshake_due, is_silent, is_over};
 ghost use Rattle.pp_channels.specs.declared.channel.State.TheVariants.{Proven};
 
 use crate::channel::{Channel, State};
 use crate::numbers::draw;
-use crate::places::{first_found, first_free, first_over, first_source, seat_of};
+use crate::places::{
+    first_found, first_free, first_over, first_source, has_address_in, seat_of, used_in,
+};
 use crate::timing::{handshake_due, is_over, is_silent};
 use pp_outside::Address;
 use rand_chacha::ChaCha20Rng;
@@ -84,6 +87,7 @@ impl Channels {
     fn at(&self, seat: u8) -> Option<Channel>
         ensures is { result ≡ channel_at self.now seat }
         ensures within { IsSome result → seat < 64 }
+        ensures seats { AreSeats self.now.channels }
     {
         match self.seats.get(seat as usize) {
             Some(channel) => *channel,
@@ -139,6 +143,7 @@ impl Channels {
         ensures exact { self.new ≡ with_channel (answered from.now source now) self.old }
         ensures used { IfSome result (IsUsedSeat self.new) }
         ensures number { IfSome result (HasNewNumber self.old self.new) }
+        ensures one_more { IfSome result (λ seat. used_of self.new ≡ used_of self.old + 1) }
     {
         let seat = self.free_seat()?;
         let local = self.draw();
@@ -154,11 +159,26 @@ impl Channels {
         ensures exact { self.new ≡ with_channel (dialled to.now now) self.old }
         ensures used { IfSome result (IsUsedSeat self.new) }
         ensures number { IfSome result (HasNewNumber self.old self.new) }
+        ensures one_more { IfSome result (λ seat. used_of self.new ≡ used_of self.old + 1) }
     {
         let seat = self.free_seat()?;
         let local = self.draw();
         self.put(seat, Channel::dialled(*to, now, local));
         Some(seat)
+    }
+
+    /// How many seats are in use.
+    pub fn used(&self) -> u8
+        ensures { result ≡ used_of self.now }
+    {
+        used_in(&self.seats) as u8
+    }
+
+    /// Whether some channel has that address.
+    pub fn has_address(&self, address: &Address) -> bool
+        ensures { result ≡ list_any (has_address address.now) self.now.channels }
+    {
+        has_address_in(&self.seats, *address)
     }
 
     /// The seat of the channel with a number and an address; None where there is no such channel. No other has that number.
@@ -214,6 +234,7 @@ impl Channels {
     pub fn state(&self, seat: u8) -> Option<State>
         ensures state { result ≡ option_map (λ c. c.state) (channel_at self.now seat) }
         ensures used { IsSome result → IsUsedSeat self.now seat }
+        ensures seats { AreSeats self.now.channels }
     {
         match self.at(seat) {
             Some(channel) => Some(channel.state),
@@ -313,6 +334,15 @@ impl Channels {
         self.put(seat, Channel { opening, ..channel });
     }
 
+    /// Whether this peer sent a handshake on the channel. It did so too where its reply is due again. Before that nothing else is
+    /// to be sent there.
+    pub fn is_begun(&self, seat: u8) -> bool
+        requires { IsUsed self.now seat }
+        ensures { Some result ≡ option_map (λ c. is_begun c.opening) (channel_at self.now seat) }
+    {
+        self.channel(seat).opening.is_begun()
+    }
+
     /// The handshake of an answered channel came again, so that its reply is due again. A dialled channel stays as it is.
     pub fn again(&mut self, seat: u8)
         requires { IsUsed self.old seat }
@@ -345,6 +375,7 @@ impl Channels {
         requires { IsUsed self.old seat }
         ensures exact { self.new ≡ closed self.old seat }
         ensures free { channel_at self.new seat ≡ None }
+        ensures one_less { used_of self.new + 1 ≡ used_of self.old }
     {
         let dropped = self.channel(seat);
         self.seats[seat as usize] = None;

@@ -1,8 +1,9 @@
 //! The least seat whose channel passes a test.
 
-ghost use Rattle.std.specs.Prelude.{◌≡◌, ℕ, ◌<◌, ◌≤◌, is_none, length, position};
+ghost use Rattle.std.specs.Prelude.{◌≡◌, ℕ, ◌<◌, ◌≤◌, is_none, is_some, length, position};
+ghost use Rattle.std.specs.List.{count_by, list_any};
 ghost use Rattle.std.specs.Option.{ForSome};
-ghost use Rattle.pp_channels.specs.Seats.{is_found, is_source};
+ghost use Rattle.pp_channels.specs.Seats.{has_address, is_found, is_source};
 ghost use Rattle.pp_channels.specs.Timing.{is_over};
 
 use crate::channel::Channel;
@@ -17,6 +18,15 @@ pub(crate) fn seat_of(place: Option<usize>) -> Option<u8>
     match place {
         Some(place) => Some(place as u8),
         None => None,
+    }
+}
+
+fn has_address(channel: Option<Channel>, address: Address) -> bool
+    ensures { result ≡ has_address address channel }
+{
+    match channel {
+        Some(channel) => channel.address.is_same(address),
+        None => false,
     }
 }
 
@@ -36,6 +46,23 @@ fn is_source(channel: Option<Channel>, from: Address, source: u32) -> bool
         Some(channel) => channel.remote == Some(source) && channel.address.is_same(from),
         None => false,
     }
+}
+
+/// How many are there.
+pub(crate) fn used_in(channels: &[Option<Channel>]) -> usize
+    ensures used { result ≡ count_by is_some channels.now }
+    ensures within { result ≤ length channels.now }
+{
+    channels.iter().filter(|channel| channel.is_some()).count()
+}
+
+/// Whether one of them has that address.
+pub(crate) fn has_address_in(channels: &[Option<Channel>], address: Address) -> bool
+    ensures { result ≡ list_any (has_address address) channels.now }
+{
+    channels
+        .iter()
+        .any(|channel| has_address(*channel, address))
 }
 
 /// The least free seat.

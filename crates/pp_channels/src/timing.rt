@@ -30,7 +30,7 @@ fn is_opening_due(opening: Opening, age: u64) -> bool
             2 => age >= THIRD_HANDSHAKE,
             _ => false,
         },
-        Opening::Answered { replied } => !replied,
+        Opening::Answered { reply } => reply.is_due(),
     }
 }
 

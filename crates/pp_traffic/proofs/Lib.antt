@@ -16,3 +16,5 @@ pub mod Timers
 pub mod Measures
 pub mod Moments
 pub mod PlansInBooks
+pub mod Chokes
+pub mod Sending

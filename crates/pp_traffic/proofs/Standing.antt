@@ -37,6 +37,11 @@ since_from test place (x ∷ after) r before le passes =
 pub stands_since : (test : Record → Bool) (place : ℕ) (past : List Record) → StandsFrom test place past → some_since test place past ≡ true
 stands_since test place past s = subst (λ (xs : List Record). some_since test place xs ≡ true) (sym s.split) (since_from test place s.after s.here s.before s.place s.passes)
 
+-- the place is one of the past's
+pub since_within : (test : Record → Bool) (place : ℕ) (past : List Record) → some_since test place past ≡ true → place ≤ length past
+since_within test place past e =
+    let s = found_since test place past e in omega (arith, s.place, ap length s.split, length-append s.after (s.here ∷ s.before))
+
 pub found_until : (test : Record → Bool) (place : ℕ) (past : List Record) → some_until test place past ≡ true → StandsBefore test place past
 found_until test place [] e = absurd cc
 found_until test place (r ∷ past) e = ⊎_elim

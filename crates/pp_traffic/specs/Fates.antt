@@ -1,7 +1,7 @@
 -- What became of each DATA that was ever sent on a story (RFC 6817, section 3.2; RFC 6298, section 5), and each delay
 -- that was measured (RFC 6817, section 3.4.2). Nothing is dropped here, and nothing counted on the way: there is a list
 -- of all DATA, and a list of all samples.
-use Rattle.std.specs.Prelude.{◌≡◌, ℕ, ◌-◌, ◌==◌, nat_lt, nat_le, Bool, true, false, not, ◌&&◌, if◌then◌else◌, Option, Some, None, List, [], ◌∷◌, ◌++◌, map, filter}
+use Rattle.std.specs.Prelude.{◌≡◌, ℕ, ◌-◌, max, ◌==◌, nat_lt, nat_le, Bool, true, false, not, ◌&&◌, if◌then◌else◌, Option, Some, None, List, [], ◌∷◌, ◌++◌, map, filter}
 use Rattle.std.specs.List.{count_by, list_any}
 use Rattle.pp_terms.specs.format.Messages.{Message, Data, Ack}
 use Rattle.pp_terms.specs.tree.Range.{Span, within}
@@ -118,6 +118,11 @@ abbrev pub now_of : Line → ℕ
 now_of (Heard now message) = now
 now_of (Said now message) = now
 now_of (Taken now) = now
+
+-- the greatest moment of the story, 0 before its first line
+abbrev pub clock : List Line → ℕ
+clock [] = 0
+clock (line ∷ before) = max (now_of line) (clock before)
 
 -- The timer starts with each such ACK, each such DATA and each timeout.
 abbrev pub is_start : Timeouts → Line → (before : List Line) → Bool

@@ -5,11 +5,12 @@ use Rattle.pp_terms.specs.format.Traffic.{Record}
 use Rattle.pp_terms.specs.format.Descriptor.{Descriptor}
 use Rattle.pp_terms.specs.format.Messages.{Message, Data, Ack}
 use Rattle.pp_terms.specs.tree.Range.{Span, within}
+use Rattle.pp_traffic.specs.Past.{now, is_event, some_since}
 use Rattle.pp_traffic.specs.Life.{Life}
 use Rattle.pp_traffic.specs.Story.{Line, Heard, Said, Taken, story}
 use Rattle.pp_traffic.specs.Delays.{base}
 use Rattle.pp_traffic.specs.Meter.{meter, hits, loses}
-use Rattle.pp_traffic.specs.Fates.{Acknowledged, Lost, WrittenOff, is_in_flight, Sending, in_flight_of, acknowledged_of, lost_of, is_hit, Timeouts, fates, timeouts, entries_of, now_of, started, trips_of, IsRule, measures, samples_of, base_of}
+use Rattle.pp_traffic.specs.Fates.{Acknowledged, Lost, WrittenOff, is_in_flight, Sending, in_flight_of, acknowledged_of, lost_of, is_hit, Timeouts, fates, timeouts, entries_of, now_of, clock, started, trips_of, IsRule, measures, samples_of, base_of}
 
 -- The chunk and the moment of each DATA that was sent, the oldest first; each of them has a fate.
 abbrev pub sent_by : ℕ → Message → List (ℕ × ℕ) → List (ℕ × ℕ)
@@ -86,6 +87,11 @@ NeverFalls (line ∷ before) = AllByRecursion (λ earlier. now_of earlier ≤ no
 
 abbrev pub StoriesNeverFall : Type 0
 StoriesNeverFall = (d : Descriptor) (life : Life) (past : List Record) → NeverFalls (story d life past)
+
+-- Once the link handed in something since a life's opening, the greatest moment of its story is the moment now.
+abbrev pub ClocksAreNow : Type 0
+ClocksAreNow = (d : Descriptor) (life : Life) (past : List Record) → some_since is_event life.opening past ≡ true
+    → clock (story d life past) ≡ now past
 
 -- The meter's last samples are the four latest of all, and its base is the least sample of the ten latest minutes that
 -- have samples.

@@ -1,14 +1,15 @@
 -- Laws on these words: what one record more does, and what stays.
 use Rattle.std.specs.Prelude.{◌≡◌, ℕ, zero, suc, ◌+◌, ◌^◌, ◌<◌, ◌≤◌, max, Bool, true, false, ◌||◌, Some, is_some, List, [], ◌∷◌, ◌++◌, length, if◌then◌else◌}
 use Rattle.std.specs.List.{AllByRecursion, list_any, list_all}
-use Rattle.pp_terms.specs.format.Traffic.{Address, Record, Received, Quiet, Sent}
+use Rattle.pp_terms.specs.format.Traffic.{Address, same_address, Record, Received, Quiet, Sent}
 use Rattle.pp_terms.specs.tree.Tree.{Node, height, is_full, peaks, same_node, is_peak, leaf_at}
 use Rattle.pp_terms.specs.tree.Bins.{parent_of, sibling_of}
 use Rattle.pp_terms.specs.tree.Book.{LookUp, IsRooted, has_peaks}
 use Rattle.pp_terms.specs.format.Descriptor.{Descriptor, chunks_of}
-use Rattle.pp_traffic.specs.Past.{now}
+use Rattle.pp_traffic.specs.Past.{now, read, is_number}
 use Rattle.pp_traffic.specs.Life.{Life, IsLife, closes_on}
 use Rattle.pp_traffic.specs.Story.{Line, Taken, hear, say, heard_in, said_in, story}
+use Rattle.pp_traffic.specs.Asking.{choked, asked}
 use Rattle.pp_traffic.specs.Hashes.{is_told, completes}
 use Rattle.pp_traffic.specs.Serving.{Window, ServesAll}
 
@@ -79,3 +80,19 @@ Extends book larger = (k j : ℕ) (digest : List ℕ) → book k j ≡ Some dige
 abbrev pub ServedStays : Type 0
 ServedStays = (d : Descriptor) (book larger : LookUp) (window : Window) (past : List Record) → Extends book larger → IsRooted d larger
     → ServesAll d book window past → ServesAll d larger window past
+
+-- While a choke stands no chunk is asked for.
+abbrev pub ChokesEndAsking : Type 0
+ChokesEndAsking = (i : ℕ) (story : List Line) → choked story ≡ true → asked i story ≡ false
+
+-- What a datagram that was sent says on a life: all its messages where it went to the peer's address and number, and none where
+-- it went to another address, or to a number that is neither the peer's nor 0.
+pub record SentIsSaid : Type 0 where
+  pub own : (d : Descriptor) (life : Life) (moment : ℕ) (receiver : Address) (bytes : List ℕ)
+      → same_address receiver life.address ≡ true → is_number life.remote (read d (Sent moment receiver bytes)).channel ≡ true
+      → said_in d life (Sent moment receiver bytes) ≡ (read d (Sent moment receiver bytes)).messages.read
+  pub elsewhere : (d : Descriptor) (life : Life) (moment : ℕ) (receiver : Address) (bytes : List ℕ)
+      → same_address receiver life.address ≡ false → said_in d life (Sent moment receiver bytes) ≡ []
+  pub other : (d : Descriptor) (life : Life) (moment : ℕ) (receiver : Address) (bytes : List ℕ)
+      → is_number life.remote (read d (Sent moment receiver bytes)).channel ≡ false
+      → is_number 0 (read d (Sent moment receiver bytes)).channel ≡ false → said_in d life (Sent moment receiver bytes) ≡ []

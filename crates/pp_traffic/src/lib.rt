@@ -8,9 +8,9 @@ mod entries;
 
 ghost use Rattle.pp_traffic.specs.Places.{LivesByPlaces, AskedByPlaces, ChokedByPlaces, HeardByPlaces, PathsByPlaces, PlainByPlaces, MomentsByPlaces};
 ghost use Rattle.pp_traffic.specs.Awaiting.{PlainGrows};
-ghost use Rattle.pp_traffic.specs.Laws.{LivesStay, LivesBegan, StoriesGrow, ToldStays, PathsGrow, PlansComplete, PlansAreInBooks, ServedStays};
+ghost use Rattle.pp_traffic.specs.Laws.{LivesStay, LivesBegan, StoriesGrow, ToldStays, PathsGrow, PlansComplete, PlansAreInBooks, ServedStays, ChokesEndAsking, SentIsSaid};
 ghost use Rattle.pp_traffic.specs.Example.{TurnExamples, CountExamples, WindowExamples, ClaimedExamples, KeepExamples};
-ghost use Rattle.pp_traffic.specs.FatesLaws.{FatesAreOfAll, FatesAreFinal, AcksDecide, TimeoutsDecide, MetersFly, MetersTimeOut, StoriesNeverFall, MetersMeasure};
+ghost use Rattle.pp_traffic.specs.FatesLaws.{FatesAreOfAll, FatesAreFinal, AcksDecide, TimeoutsDecide, MetersFly, MetersTimeOut, StoriesNeverFall, ClocksAreNow, MetersMeasure};
 ghost use Rattle.pp_traffic.specs.FatesExamples.{FatesExamples};
 
 pub use entries::{Entry, Minute};
@@ -37,6 +37,8 @@ pub fn laws_of_traffic()
     ensures books { PlansAreInBooks }
     ensures served { ServedStays }
     ensures plain { PlainGrows }
+    ensures chokes { ChokesEndAsking }
+    ensures sent { SentIsSaid }
 {}
 
 /// The definitions on small traffic that was worked out by hand.
@@ -58,6 +60,7 @@ pub fn laws_of_fates()
     ensures flight { MetersFly }
     ensures timer { MetersTimeOut }
     ensures moments { StoriesNeverFall }
+    ensures clocks { ClocksAreNow }
     ensures delays { MetersMeasure }
 {}
 

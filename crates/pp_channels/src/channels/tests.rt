@@ -27,6 +27,8 @@ fn has_64_seats(rt: HostRuntime) -> Result<(), AllocError> {
     }
     assert_eq!(rt; channels.dial(&numbered(64), 0), None);
     assert_eq!(rt; channels.answer(&numbered(64), 9, 0), None);
+    assert_eq!(rt; channels.used(), 64);
+    assert!(rt; !channels.has_address(&numbered(64)));
     if channels.state(40).is_some() {
         channels.close(40);
     }
@@ -34,7 +36,10 @@ fn has_64_seats(rt: HostRuntime) -> Result<(), AllocError> {
         channels.close(7);
     }
     assert_eq!(rt; channels.state(7), None);
+    assert_eq!(rt; channels.used(), 62);
+    assert!(rt; !channels.has_address(&numbered(7)));
     assert_eq!(rt; channels.answer(&numbered(64), 9, 0), Some(7));
+    assert!(rt; channels.has_address(&numbered(64)));
     assert_eq!(rt; channels.dial(&numbered(65), 0), Some(40));
     assert_eq!(rt; channels.dial(&numbered(66), 0), None);
     assert_eq!(rt; channels.state(63), Some(State::Greeted));
@@ -86,10 +91,13 @@ fn replies_until_it_is_sent(rt: HostRuntime) -> Result<(), AllocError> {
     assert_eq!(rt; channels.remote(0), 99);
     assert!(rt; channels.address(0) == numbered(1));
     assert!(rt; channels.handshake_due(0, 0));
+    channels.again(0);
+    assert!(rt; !channels.is_begun(0));
     channels.handshake_sent(0);
     assert!(rt; !channels.handshake_due(0, 9 * SECOND));
     channels.again(0);
     assert!(rt; channels.handshake_due(0, 9 * SECOND));
+    assert!(rt; channels.is_begun(0));
     channels.prove(0);
     assert!(rt; !channels.handshake_due(0, 9 * SECOND));
     assert_eq!(rt; channels.state(0), Some(State::Proven));

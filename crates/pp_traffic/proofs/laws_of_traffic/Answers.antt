@@ -3,6 +3,8 @@ use Rattle.pp_traffic.proofs.Paths.{paths_grow, plans_complete}
 use Rattle.pp_traffic.proofs.PlansInBooks.{plans_in_books}
 use Rattle.pp_traffic.proofs.Served.{served_stays}
 use Rattle.pp_traffic.proofs.Awaited.{plain_grows}
+use Rattle.pp_traffic.proofs.Chokes.{chokes_end_asking}
+use Rattle.pp_traffic.proofs.Sending.{sent_is_said}
 use Rattle.pp_traffic.proofs.laws_of_traffic.Goals as goal
 
 pub returns : goal.returns
@@ -16,4 +18,6 @@ returns c = record {
   books = plans_in_books;
   served = served_stays;
   plain = plain_grows;
+  chokes = chokes_end_asking;
+  sent = sent_is_said;
 }
