@@ -5,7 +5,7 @@ ghost use Rattle.pp_traffic.specs.Hashes as terms;
 ghost use Rattle.pp_tree.specs.Node.{node_of};
 ghost use Rattle.pp_wire.specs.Views.{span_of};
 
-use pp_tree::{Node, height, is_peak, parent_of};
+use pp_tree::{Node, height};
 use pp_wire::Span;
 
 // Whether a chunk of the content that the span names lies under the node.
@@ -27,6 +27,6 @@ pub(crate) fn tells(chunks: u32, span: Span, node: Node) -> bool
 {
     span.first < u64::from(chunks)
         && span.first <= span.last
-        && (is_peak(node, chunks)
-            || (node.layer < height(chunks) && meets(chunks, span, parent_of(node))))
+        && (node.is_peak(chunks)
+            || (node.layer < height(chunks) && meets(chunks, span, node.parent())))
 }

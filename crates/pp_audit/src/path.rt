@@ -15,7 +15,7 @@ use crate::asking::is_told;
 use crate::entry::{Entry, Life};
 use crate::reading::{first_place, message_at};
 use pp_options::Options;
-use pp_tree::{Descriptor, Node, is_peak, leaf_at, parent_of, peaks, sibling_of};
+use pp_tree::{Descriptor, Node, peaks};
 use pp_wire::{Message, Span};
 
 // Whether the span is all leaves under the node.
@@ -127,10 +127,10 @@ fn climb<'m>(
     if is_told(descriptor, life, entries, node) {
         return Some(true);
     }
-    if is_peak(node, descriptor.chunks()) {
+    if node.is_peak(descriptor.chunks()) {
         return Some(has_peaks(descriptor, life, entries, bytes, count));
     }
-    if is_known(descriptor, life, entries, bytes, count, sibling_of(node)) {
+    if is_known(descriptor, life, entries, bytes, count, node.sibling()) {
         return None;
     }
     Some(false)
@@ -149,13 +149,13 @@ pub fn completes<'m>(
     ensures { result ≡ terms.completes (chunks_of descriptor.now) (brought descriptor.now bytes.now count)
         (told descriptor.now (life_of life) (past entries.now)) chunk }
 {
-    let mut node = leaf_at(chunk);
+    let mut node = Node::leaf(chunk);
     let mut layers = descriptor.height() + 1;
     'layers: while layers > 0 {
         match climb(descriptor, life, entries, bytes, count, node) {
             Some(answer) => return answer,
             None => {
-                node = parent_of(node);
+                node = node.parent();
                 layers -= 1;
             }
         }

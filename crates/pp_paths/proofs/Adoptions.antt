@@ -1,6 +1,6 @@
 -- Adopting the pairs of a climb that fits, from above: what one more pair adds.
 use Rattle.std.proofs.Common.{◌≡◌, ◌⊎◌, ℕ, suc, ◌+◌, ◌-◌, ◌*◌, ◌/◌, ◌%◌, ◌≤◌, ◌<◌, ◌==◌, true, false, cond, Option, Some, None, List, ◌++◌, refl, sym, ◌∙◌, ap, subst, inl, inr, arith}
-use Rattle.std.specs.Prelude.{IsSome, is_some}
+use Rattle.std.specs.Prelude.{is_some}
 use Rattle.std.specs.Option.{option_or}
 use Rattle.std.proofs.lemmas.Bool.{cases_eq}
 use Rattle.std.proofs.lemmas.Bool.Decides.{nat_tests}
@@ -12,7 +12,8 @@ use Rattle.pp_terms.specs.tree.Bins.{sibling}
 use Rattle.pp_tree.specs.Book.{IsAdopted}
 use Rattle.pp_tree.specs.declared.node.Node.{Node}
 use Rattle.pp_tree.proofs.Rootedness.{same_node, some_same}
-use Rattle.pp_paths.specs.Climb.{node_at, climb, path, IsFit, IsRootedAt, AddsPath}
+use Rattle.pp_paths.specs.Climb.{node_at, or_else, climb, path, IsFit, IsRootedAt, AddsPath}
+use Rattle.pp_paths.proofs.Climbs.{climb_step}
 use Rattle.pp_paths.proofs.Growth.{even_sibling, odd_sibling, path_first, path_rest, path_below, path_adds_nothing, fit_goes_on, fit_is_there}
 
 -- The climb goes on from a node that the book lacks, by the sibling's digest.
@@ -22,10 +23,6 @@ pub record GoesOn (book others : LookUp) (top k j : ℕ) (digest other : List �
   pub beside : book k (sibling j) ≡ None
   pub other_is : others k (sibling j) ≡ Some other
   pub fit : IsFit (climb book others (top - (k + 1)) (k + 1) (j / 2) (sha256 (joined j digest other)))
-
-absent_by_test : (o e : Option (List ℕ)) → o ≡ e → is_some o ≡ false → e ≡ None
-absent_by_test None e is test = sym is
-absent_by_test (Some x) e is test = cc
 
 present_by_test : (o e : Option (List ℕ)) → o ≡ e → is_some o ≡ true → (x : List ℕ) × (e ≡ Some x)
 present_by_test None e is test = cc
@@ -51,23 +48,25 @@ goes_on book others top k j digest rooted below fit none =
       },
     )
 
--- the sibling's digest is known
-pub other_there : (book others : LookUp) (top k j : ℕ) (digest : List ℕ) (o found : Option (List ℕ)) (at : Node)
-    → IsRootedAt top book → k ≤ top → IsFit (climb book others (top - k) k j digest) → o ≡ book k j → is_some o ≡ false
-    → at ≡ node_at k (sibling j) → found ≡ others at.layer at.offset → IsSome found
-other_there book others top k j digest o found at rooted below fit is test at_is found_is =
-    let (other, going) = goes_on book others top k j digest rooted below fit (absent_by_test o (book k j) is test) in
-    let e : found ≡ Some other = found_is ∙ ap (λ (n : Node). others n.layer n.offset) at_is ∙ going.other_is in
-    subst (λ (p : Option (List ℕ)). IsSome p) (sym e) refl
+-- the climb from the parent is the climb from the node
+pub climb_from_parent : (book others : LookUp) (top k j : ℕ) (digest other next : List ℕ) (o found : Option (List ℕ)) (at up : Node)
+    → k < top → o ≡ book k j → o ≡ None → at ≡ node_at k (sibling j) → found ≡ or_else book others at.layer at.offset → found ≡ Some other
+    → up ≡ node_at (k + 1) (j / 2) → next ≡ sha256 (joined j digest other)
+    → climb book others (top - up.layer) up.layer up.offset next ≡ climb book others (top - k) k j digest
+climb_from_parent book others top k j digest other next o found at up low is none at_is found_is other_is up_is next_is =
+    climb_step book others top k up.layer j up.offset digest other next low (sym is ∙ none)
+    (sym (ap (λ (n : Node). or_else book others n.layer n.offset) at_is) ∙ sym found_is ∙ other_is)
+    (ap (λ (n : Node). n.layer) up_is) (ap (λ (n : Node). n.offset) up_is) next_is
 
--- and so the climb goes on
+-- where it fits, the climb goes on by the sibling that is known
 pub goes_on_by : (book others : LookUp) (top k j : ℕ) (digest other : List ℕ) (o found : Option (List ℕ)) (at : Node)
-    → IsRootedAt top book → k ≤ top → IsFit (climb book others (top - k) k j digest) → o ≡ book k j → is_some o ≡ false
-    → at ≡ node_at k (sibling j) → found ≡ others at.layer at.offset → found ≡ Some other
+    → IsRootedAt top book → k ≤ top → IsFit (climb book others (top - k) k j digest) → o ≡ book k j → o ≡ None
+    → at ≡ node_at k (sibling j) → found ≡ or_else book others at.layer at.offset → found ≡ Some other
     → GoesOn book others top k j digest other
-goes_on_by book others top k j digest other o found at rooted below fit is test at_is found_is other_is =
-    let (other', going) = goes_on book others top k j digest rooted below fit (absent_by_test o (book k j) is test) in
-    let e : found ≡ Some other' = found_is ∙ ap (λ (n : Node). others n.layer n.offset) at_is ∙ going.other_is in
+goes_on_by book others top k j digest other o found at rooted below fit is none at_is found_is other_is =
+    let (other', going) = goes_on book others top k j digest rooted below fit (sym is ∙ none) in
+    let claimed : or_else book others k (sibling j) ≡ Some other' = (let b = going.beside in rw b going.other_is) in
+    let e : found ≡ Some other' = found_is ∙ ap (λ (n : Node). or_else book others n.layer n.offset) at_is ∙ claimed in
     subst (λ (x : List ℕ). GoesOn book others top k j digest x) (some_same other' other found e other_is) going
 
 -- the climb from the parent fits

@@ -60,6 +60,17 @@ as_fits d book claims i bytes parts =
     ∙ ap (λ c. verdict_of c) parts.reaches
     ∙ ap (λ b. cond b Fits (Wrong parts.at parts.digest parts.digest)) (same_as_itself parts.digest)
 
+-- by that verdict the climb fits
+pub fit_by_verdict : (d : Descriptor) (book claims : LookUp) (i top : ℕ) (bytes digest : List ℕ) (end : Climb)
+    → judged d book claims i bytes ≡ Fits → top ≡ height_of d → digest ≡ sha256 bytes
+    → end ≡ climb book claims (top - 0) 0 i digest → IsFit end
+fit_by_verdict d book claims i top bytes digest end fits top_is digest_is end_is =
+    let parts = fits_as d book claims i bytes fits in
+    let high : top - 0 ≡ height_of d = omega arith in
+    let same : end ≡ climb book claims (height_of d) 0 i (sha256 bytes) =
+    end_is ∙ ap (λ (n : ℕ). climb book claims n 0 i digest) high ∙ ap (λ (x : List ℕ). climb book claims (height_of d) 0 i x) digest_is in
+    subst (λ (c : Climb). IsFit c) (sym (same ∙ parts.reaches)) refl
+
 -- what was adopted is backed
 pub backed_by_path : (d : Descriptor) (old new claims : LookUp) (i top : ℕ) (bytes digest : List ℕ) → i < chunks_of d → IsRooted d old
     → judged d old claims i bytes ≡ Fits → top ≡ height_of d → digest ≡ sha256 bytes

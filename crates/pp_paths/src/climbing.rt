@@ -1,5 +1,5 @@
 // Climbing from a node towards the root of its tree, up to the first node that a book has (RFC 7574, sections 5.2 and 5.6).
-ghost use Rattle.std.specs.Prelude.{◌≡◌, ◌==◌, if◌then◌else◌, ◌+◌, ◌%◌, ◌-◌, ◌/◌, ◌<◌, ◌≤◌};
+ghost use Rattle.std.specs.Prelude.{◌≡◌, ◌↔◌, ◌==◌, true, if◌then◌else◌, ◌+◌, ◌%◌, ◌-◌, ◌/◌, ◌<◌, ◌≤◌};
 ghost use Rattle.sha2.specs.Sha256.{sha256};
 ghost use Rattle.pp_terms.specs.tree.Proves.{joined};
 ghost use Rattle.pp_tree.specs.Book.{entry};
@@ -9,7 +9,7 @@ ghost use Rattle.pp_terms.specs.tree.Book.{IsRooted};
 ghost use Rattle.pp_terms.specs.format.Descriptor.{Descriptor};
 
 use crate::claims::Claims;
-use pp_tree::{Book, Digest, Node, parent, parent_of, sibling_of};
+use pp_tree::{Book, Digest, Node, parent};
 
 /// Digests that are known beside a book.
 pub(crate) trait Others {
@@ -64,12 +64,12 @@ pub(crate) fn climb_from<O: Others>(
                 kept,
             };
         }
-        let beside = sibling_of(node);
+        let beside = node.sibling();
         match known(book, others, beside) {
             Some(other) => digest = join(node, &digest, &other),
             None => return Climb::Lacks(beside),
         }
-        node = parent_of(node);
+        node = node.parent();
     }
     match book.get(node) {
         Some(kept) => Climb::Reached {
@@ -81,31 +81,57 @@ pub(crate) fn climb_from<O: Others>(
     }
 }
 
-/// Adds the pairs on the way from a node up to the first one that the book has, where the climb fits. The pairs of the
-/// layers above come first, so that each is adopted under a node that the book has.
+impl Climb {
+    // Whether it ended at a node of the book, with that node's digest.
+    fn is_fit(&self) -> bool
+        ensures { (result ≡ true) ↔ IsFit self.now }
+    {
+        match self {
+            Climb::Reached { found, kept, .. } => found == kept,
+            Climb::Lacks(_) => false,
+        }
+    }
+}
+
+/// Climbs as `climb_from` does, and where the climb fits adds the pairs on its way to the book. The pairs of the layers above
+/// come first, so that each is adopted under a node that the book has.
 pub(crate) fn adopt_from<O: Others>(
     book: &mut Book,
     others: &O,
     node: Node,
     digest: Digest,
     top: u8,
-)
+) -> Climb
     requires below { node.layer ≤ top }
     requires rooted { IsRootedAt top (entry book.old) }
-    requires fits { IsFit (climb (entry book.old) (O.look_up others.now) (top - node.layer) node.layer node.offset digest) }
-    ensures added { AddsPath (path (O.look_up others.now) (top - node.layer) node.layer node.offset digest)
+    ensures climbed { result ≡ climb (entry book.old) (O.look_up others.now) (top - node.layer) node.layer node.offset digest }
+    ensures added { IsFit result → AddsPath (path (O.look_up others.now) (top - node.layer) node.layer node.offset digest)
         (entry book.old) (entry book.new) }
+    ensures unchanged { (IsFit result → ⊥) → book.new ≡ book.old }
     ensures rooted { (d : Descriptor) → IsRooted d (entry book.old) → IsRooted d (entry book.new) }
     ensures descriptor { book.new.descriptor ≡ book.old.descriptor }
 {
-    if book.get(node).is_some() {
-        return;
+    if let Some(kept) = book.get(node) {
+        return Climb::Reached {
+            node,
+            found: digest,
+            kept,
+        };
     }
-    let other = others.digest(sibling_of(node)).unwrap();
-    let parent = parent_of(node);
-    adopt_from(book, others, parent, join(node, &digest, &other), top);
-    let (left, right) = in_order(node, digest, other);
-    book.adopt_pair(parent, left, right);
+    if node.layer == top {
+        return Climb::Lacks(node);
+    }
+    let beside = node.sibling();
+    let Some(other) = known(book, others, beside) else {
+        return Climb::Lacks(beside);
+    };
+    let parent = node.parent();
+    let climb = adopt_from(book, others, parent, join(node, &digest, &other), top);
+    if climb.is_fit() {
+        let (left, right) = in_order(node, digest, other);
+        book.adopt_pair(parent, left, right);
+    }
+    climb
 }
 
 // a node's digest and its sibling's, left then right

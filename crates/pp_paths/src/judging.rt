@@ -83,7 +83,52 @@ pub fn adopt(book: &mut Book, claims: &Claims, descriptor: &Descriptor, i: u32, 
         layer: 0,
         offset: i,
     };
-    adopt_from(book, claims, start, leaf(chunk), descriptor.height());
+    let _ = adopt_from(book, claims, start, leaf(chunk), descriptor.height());
+}
+
+/// Judges bytes as a chunk of the swarm, and where they fit adds to the book the digests on the way up to the first node that
+/// it has: `judge` and then `adopt`, by each digest once.
+pub fn judge_and_adopt(
+    book: &mut Book,
+    claims: &Claims,
+    descriptor: &Descriptor,
+    i: u32,
+    chunk: &[u8],
+) -> Verdict
+    requires within { i < chunks_of descriptor.now }
+    requires rooted { IsRooted descriptor.now (entry book.old) }
+    ensures judged { result ≡ judged descriptor.now (entry book.old) (latest claims.now) i chunk.now }
+    ensures fits { (result ≡ Verdict.Fits) ↔ FitsAs descriptor.now (entry book.old) (latest claims.now) i chunk.now }
+    ensures added { result ≡ Verdict.Fits → AddsPath (path (latest claims.now) (height_of descriptor.now) 0 i (sha256 chunk.now))
+        (entry book.old) (entry book.new) }
+    ensures unchanged { (result ≡ Verdict.Fits → ⊥) → book.new ≡ book.old }
+    ensures kept { KeepsEntries (entry book.old) (entry book.new) }
+    ensures backed { result ≡ Verdict.Fits → IsBacked descriptor.now (entry book.new) i chunk.now }
+    ensures rooted { (d : Descriptor) → IsRooted d (entry book.old) → IsRooted d (entry book.new) }
+    ensures descriptor { book.new.descriptor ≡ book.old.descriptor }
+{
+    let want = descriptor.chunk_len(i);
+    if chunk.len() != want as usize {
+        let found = chunk.len();
+        return Verdict::Length { found, want };
+    }
+    if let Some(node) = first_absent(book, descriptor.chunks()) {
+        return Verdict::Missing(node);
+    }
+    let start = Node {
+        layer: 0,
+        offset: i,
+    };
+    match adopt_from(book, claims, start, leaf(chunk), descriptor.height()) {
+        Climb::Lacks(absent) => Verdict::Missing(absent),
+        Climb::Reached { node, found, kept } => {
+            if found == kept {
+                Verdict::Fits
+            } else {
+                Verdict::Wrong { node, found, kept }
+            }
+        }
+    }
 }
 
 // the leftmost peak over so many chunks that the book lacks

@@ -11,6 +11,6 @@ mod settling;
 mod tests;
 
 pub use claims::Claims;
-pub use judging::{Verdict, adopt, judge};
+pub use judging::{Verdict, adopt, judge, judge_and_adopt};
 pub use laws::laws_of_judging;
 pub use settling::{Settled, settle_peaks, wrong_node};

@@ -53,12 +53,10 @@ pub fn settle_peaks(book: &mut Book, claims: &Claims, chunks: u32) -> Settled
     }
     let digest = claims.latest(last).unwrap();
     let peaks = Peaks { claims, chunks };
-    let top = height(chunks);
-    match climb_from(book, &peaks, last, digest, top) {
+    match adopt_from(book, &peaks, last, digest, height(chunks)) {
         Climb::Lacks(node) => Settled::Missing(node),
         Climb::Reached { found, kept, .. } => {
             if found == kept {
-                adopt_from(book, &peaks, last, digest, top);
                 Settled::Known
             } else {
                 Settled::Wrong { found, kept }

@@ -20,5 +20,5 @@ pub use content::root_of;
 pub use descriptor::{Descriptor, DescriptorFault, FieldFault, Method};
 pub use digest::{Digest, leaf};
 pub use laws::{examples_of_reading, laws_of_books};
-pub use node::{Node, height, is_full, is_peak, leaf_at, parent, parent_of, peaks, sibling_of};
+pub use node::{Node, height, is_full, parent, peaks};
 pub use set::ChunkSet;

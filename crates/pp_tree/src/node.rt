@@ -17,42 +17,58 @@ pub struct Node {
     pub offset: u32,
 }
 
-/// The leaf of a chunk.
-pub fn leaf_at(chunk: u32) -> Node
-    ensures leaf { node_of result ≡ terms.leaf_at chunk }
-    ensures is { result ≡ record { layer = 0; offset = chunk } }
-{
-    Node {
-        layer: 0,
-        offset: chunk,
+impl Node {
+    /// The leaf of a chunk.
+    pub fn leaf(chunk: u32) -> Node
+        ensures leaf { node_of result ≡ terms.leaf_at chunk }
+        ensures is { result ≡ record { layer = 0; offset = chunk } }
+    {
+        Node {
+            layer: 0,
+            offset: chunk,
+        }
     }
-}
 
-/// The node above a node.
-pub fn parent_of(node: Node) -> Node
-    requires { node.layer < 255 }
-    ensures parent { node_of result ≡ bins.parent_of (node_of node) }
-    ensures is { result ≡ record { layer = node.layer + 1; offset = node.offset / 2 } }
-{
-    Node {
-        layer: node.layer + 1,
-        offset: node.offset / 2,
+    /// The node above this one.
+    pub fn parent(self) -> Node
+        requires { self.layer < 255 }
+        ensures parent { node_of result ≡ bins.parent_of (node_of self) }
+        ensures is { result ≡ record { layer = self.layer + 1; offset = self.offset / 2 } }
+    {
+        Node {
+            layer: self.layer + 1,
+            offset: self.offset / 2,
+        }
     }
-}
 
-/// The other child of a node's parent.
-pub fn sibling_of(node: Node) -> Node
-    ensures sibling { node_of result ≡ bins.sibling_of (node_of node) }
-    ensures is { result ≡ record { layer = node.layer; offset = bins.sibling node.offset } }
-{
-    let offset = if node.offset % 2 == 0 {
-        node.offset + 1
-    } else {
-        node.offset - 1
-    };
-    Node {
-        layer: node.layer,
-        offset,
+    /// The other child of its parent.
+    pub fn sibling(self) -> Node
+        ensures sibling { node_of result ≡ bins.sibling_of (node_of self) }
+        ensures is { result ≡ record { layer = self.layer; offset = bins.sibling self.offset } }
+    {
+        let offset = if self.offset % 2 == 0 {
+            self.offset + 1
+        } else {
+            self.offset - 1
+        };
+        Node {
+            layer: self.layer,
+            offset,
+        }
+    }
+
+    /// Whether it is a peak of the tree over that many chunks: the last full one of an odd number in its layer.
+    #[tactic(auto, using(crate::proofs::PeakNodes::too_high, crate::proofs::PeakNodes::right_child))]
+    pub fn is_peak(self, chunks: u32) -> bool
+        ensures { result ≡ terms.is_peak chunks (node_of self) }
+    {
+        if self.layer >= 21 {
+            return false;
+        }
+        if self.offset % 2 == 1 {
+            return false;
+        }
+        chunks >> self.layer == self.offset + 1
     }
 }
 
@@ -107,20 +123,6 @@ pub fn is_full(node: Node, chunks: u32) -> bool
     ensures { result ≡ terms.is_full chunks (node_of node) }
 {
     node.layer < 32 && (u64::from(node.offset) + 1) << node.layer <= u64::from(chunks)
-}
-
-/// Whether the node is a peak of the tree over that many chunks: the last full one of an odd number in its layer.
-#[tactic(auto, using(crate::proofs::PeakNodes::too_high, crate::proofs::PeakNodes::right_child))]
-pub fn is_peak(node: Node, chunks: u32) -> bool
-    ensures { result ≡ terms.is_peak chunks (node_of node) }
-{
-    if node.layer >= 21 {
-        return false;
-    }
-    if node.offset % 2 == 1 {
-        return false;
-    }
-    chunks >> node.layer == node.offset + 1
 }
 
 #[cfg(test)]

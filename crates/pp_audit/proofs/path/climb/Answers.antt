@@ -14,11 +14,11 @@ returns-then-is_peak c =
 pub returns-then-is_known : goal.returns-then-is_known
 returns-then-is_known c =
     climb_sibling (chunks_of c.args.descriptor.now) c.chunks.result (brought c.args.descriptor.now c.args.bytes.now c.args.count)
-    (told c.args.descriptor.now (life_of c.args.life) (past c.args.entries.now)) (node_of c.args.node) (node_of c.sibling_of.result) c.is_told.result c.is_peak.result c.is_known.result
-    c.chunks.ensures.chunks c.is_told.ensures c.if-is_told.false c.is_peak.ensures c.if-is_peak.false c.sibling_of.ensures.sibling c.is_known.ensures c.if-is_known.true
+    (told c.args.descriptor.now (life_of c.args.life) (past c.args.entries.now)) (node_of c.args.node) (node_of c.sibling.result) c.is_told.result c.is_peak.result c.is_known.result
+    c.chunks.ensures.chunks c.is_told.ensures c.if-is_told.false c.is_peak.ensures c.if-is_peak.false c.sibling.ensures.sibling c.is_known.ensures c.if-is_known.true
 
 pub returns : goal.returns
 returns c =
     climb_none (chunks_of c.args.descriptor.now) c.chunks.result (brought c.args.descriptor.now c.args.bytes.now c.args.count)
-    (told c.args.descriptor.now (life_of c.args.life) (past c.args.entries.now)) (node_of c.args.node) (node_of c.sibling_of.result) c.is_told.result c.is_peak.result c.is_known.result
-    c.chunks.ensures.chunks c.is_told.ensures c.if-is_told.false c.is_peak.ensures c.if-is_peak.false c.sibling_of.ensures.sibling c.is_known.ensures c.if-is_known.false
+    (told c.args.descriptor.now (life_of c.args.life) (past c.args.entries.now)) (node_of c.args.node) (node_of c.sibling.result) c.is_told.result c.is_peak.result c.is_known.result
+    c.chunks.ensures.chunks c.is_told.ensures c.if-is_told.false c.is_peak.ensures c.if-is_peak.false c.sibling.ensures.sibling c.is_known.ensures c.if-is_known.false

@@ -22,10 +22,10 @@ layers-preserved c =
     let b = brought c.args.descriptor.now c.args.bytes.now c.args.count in
     let t = told c.args.descriptor.now (life_of c.args.life) (past c.args.entries.now) in
     record {
-      low = (let up : c.parent_of-node.result.layer ≡ c.layers.node.layer + 1 = ap (λ (n : Node). n.layer) c.parent_of-node.ensures.parent in
+      low = (let up : c.parent-node.result.layer ≡ c.layers.node.layer + 1 = ap (λ (n : Node). n.layer) c.parent-node.ensures.parent in
           omega (arith, up, c.layers.invariant.low));
       same = c.layers.invariant.same
           ∙ climb_more (chunks_of c.args.descriptor.now) c.layers.layers (c.layers.layers - 1) b t (node_of c.layers.node) (let e : c.layers.layers ≡ suc (c.layers.layers - 1) = omega arith in e)
           ∙ ap (λ (a : Option Bool). settled a (completes_from (c.layers.layers - 1) (chunks_of c.args.descriptor.now) b t (parent_of (node_of c.layers.node)))) (sym c.in-None.ensures)
-          ∙ ap (λ (n : Node). completes_from (c.layers.layers - 1) (chunks_of c.args.descriptor.now) b t n) (sym c.parent_of-node.ensures.parent);
+          ∙ ap (λ (n : Node). completes_from (c.layers.layers - 1) (chunks_of c.args.descriptor.now) b t n) (sym c.parent-node.ensures.parent);
     }
