@@ -9,3 +9,4 @@ pub mod Followed
 pub mod ProvenChunks
 pub mod ProvenClashes
 pub mod MetNodes
+pub mod Datagrams

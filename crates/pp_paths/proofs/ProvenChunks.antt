@@ -42,7 +42,7 @@ above_twice (suc a) b c zero e = absurd (omega arith)
 above_twice (suc a) b c (suc m) e = ap (λ (n : ℕ). n / 2) (above_twice a b c m (omega arith))
 
 -- A climb that reaches its own digest.
-abbrev Reaches : Climb → Type 0
+abbrev pub Reaches : Climb → Type 0
 Reaches end = (at : Node) × (digest : List ℕ) × (end ≡ Reached at digest digest)
 
 ends_same : (book others : LookUp) (n k j : ℕ) (digest kept : List ℕ) → book k j ≡ Some kept

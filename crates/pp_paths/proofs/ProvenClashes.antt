@@ -11,11 +11,9 @@ use Rattle.pp_terms.specs.tree.Book.{LookUp, AreDigests, IsJoined, IsRooted}
 use Rattle.pp_terms.specs.format.Descriptor.{Descriptor, chunks_of, height_of, IsDescriptor}
 use Rattle.pp_terms.specs.tree.Proves.{joined, climbed, filled, last_layer, peak_offset, Proves}
 use Rattle.pp_terms.specs.tree.Bins.{sibling}
-use Rattle.pp_paths.specs.Judge.{same}
 use Rattle.pp_paths.specs.Law.{ClimbClashes, ProofClashes}
 use Rattle.pp_paths.proofs.Followed.{Follows, IsFollowed}
 use Rattle.pp_paths.proofs.Growth.{option_cases, even_sibling, odd_sibling, sibling_absent}
-use Rattle.pp_paths.proofs.Verdicts.{same_bytes, other_bytes}
 use Rattle.pp_paths.proofs.ProvenChunks.{Counted, counted, climbed_on, above_half, past_full, last_there, covered}
 use Rattle.pp_paths.proofs.PeakNodes.{layer_within, peak_known}
 use Rattle.pp_terms.proofs.Heights.{height_is}

@@ -3,4 +3,5 @@ pub mod Climb
 pub mod Judge
 pub mod Settle
 pub mod Law
+pub mod Datagram
 pub mod Ends

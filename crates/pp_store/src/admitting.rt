@@ -11,7 +11,7 @@ ghost use Rattle.pp_paths.specs.Climb.{path};
 ghost use Rattle.pp_paths.specs.Judge.{judged, KeepsEntries};
 ghost use Rattle.pp_store.specs.Answer.{admitted, learned, by_verdict, with_path};
 
-use pp_paths::{Claims, Settled, Verdict, adopt, judge, settle_peaks, wrong_node};
+use pp_paths::{Claims, Settled, Verdict, judge_and_adopt, settle_peaks, wrong_node};
 use pp_tree::{Book, Descriptor, Digest, Node};
 
 /// What a store says to bytes that came as a chunk.
@@ -96,11 +96,8 @@ fn admit_judged(
     ensures rooted { (d : terms.Descriptor) → IsRooted d (entry book.old) → IsRooted d (entry book.new) }
     ensures descriptor { book.new.descriptor ≡ book.old.descriptor }
 {
-    match judge(book, claims, descriptor, i, chunk) {
-        Verdict::Fits => {
-            adopt(book, claims, descriptor, i, chunk);
-            Put::Stored
-        }
+    match judge_and_adopt(book, claims, descriptor, i, chunk) {
+        Verdict::Fits => Put::Stored,
         Verdict::Missing(node) => Put::Missing(node),
         Verdict::Wrong { node, found, kept } => Put::Wrong { node, found, kept },
         Verdict::Length { found, want } => Put::Length { found, want },

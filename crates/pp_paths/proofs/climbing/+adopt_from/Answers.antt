@@ -1,4 +1,4 @@
-use Rattle.std.proofs.Common.{arith, refl, sym, ◌∙◌, ap, subst, ◌-◌}
+use Rattle.std.proofs.Common.{arith, sym, ◌∙◌, ap, subst, ◌-◌}
 use Rattle.std.specs.Prelude.{is_some}
 use Rattle.pp_tree.specs.Book.{entry}
 use Rattle.pp_tree.specs.declared.node.Node.{Node}

@@ -5,4 +5,4 @@ use Rattle.pp_store.proofs.admitting.admit_judged.Goals as goal
 
 pub returns-in-Fits-clause-peaks : goal.returns-in-Fits-clause-peaks
 returns-in-Fits-clause-peaks c =
-    peaks_kept (entry c.args.book.now) (entry c.adopt.new.book) (chunks_of c.args.descriptor.now) c.adopt.ensures.kept c.requires.peaks
+    peaks_kept (entry c.args.book.now) (entry c.judge_and_adopt.new.book) (chunks_of c.args.descriptor.now) c.judge_and_adopt.ensures.kept c.requires.peaks
