@@ -1,12 +1,12 @@
 -- Numbers taken from the front of a list of ranges.
-use Rattle.std.proofs.Common.{◌≡◌, ⊎_elim, ℕ, suc, ◌+◌, ◌-◌, ◌<◌, ◌≤◌, nat_le, nat_lt, max, Bool, true, false, ◌&&◌, ◌||◌, List, [], ◌∷◌, ◌++◌, length, drop, get_or, refl, sym, ◌∙◌, ap, subst, arith}
+use Rattle.std.proofs.Common.{◌≡◌, ⊎_elim, ℕ, suc, ◌+◌, ◌-◌, ◌<◌, ◌≤◌, ◌==◌, nat_le, nat_lt, max, Bool, true, false, not, ◌&&◌, ◌||◌, List, [], ◌∷◌, ◌++◌, length, drop, get_or, refl, sym, ◌∙◌, ap, subst, arith}
 use Rattle.std.proofs.lemmas.Bool.{cases_lt, lt-ltb, le-ltb}
 use Rattle.std.proofs.lemmas.Bool.Decides.{nat_tests}
 use Rattle.std.proofs.Math.Seq.{drop-cons}
 use Rattle.std.specs.Prelude.{remove}
 use Rattle.pp_terms.specs.tree.Range.{Span, within, has, IsRunsFrom}
 use Rattle.pp_ranges.specs.Edits.{removed, without_below, number_count, above}
-use Rattle.pp_ranges.proofs.Runs.{runs_weaken, none_below}
+use Rattle.pp_ranges.proofs.Runs.{runs_weaken, none_below, removed_has}
 use Rattle.pp_ranges.proofs.Lengths.{removed_apart, below_none, above_none, above_some}
 
 -- ---- the numbers below one
@@ -141,3 +141,9 @@ taken_count (y ∷ ys) x runs some at =
         let left = ap number_count (without_first y ys [] runs (above_none (record { first = y.first; last = y.first }) y (le-ltb y.first y.last le))) in
         let order = runs.1 in
         omega (arith, left)
+
+-- one number alone is taken out
+pub one_removed : (n : ℕ) (xs : List Span) (i : ℕ) → IsRunsFrom 0 xs → has (removed (record { first = n; last = n }) xs) i ≡ (not (i == n) && has xs i)
+one_removed n xs i runs =
+    let same : within (record { first = n; last = n }) i ≡ (i == n) = grind (arith, nat_tests) in
+    removed_has (record { first = n; last = n }) xs 0 i (omega arith) runs ∙ ap (λ (b : Bool). not b && has xs i) same

@@ -1,5 +1,5 @@
 // Sets of numbers as lists of ranges.
-ghost use Rattle.std.specs.Prelude.{◌≡◌, ◌↔◌, ℕ, ◌+◌, ◌*◌, ◌<◌, ◌≤◌, nat_le, true, false, not, ◌&&◌, ◌||◌, Some, List, [], ◌∷◌, ◌++◌, length, drop, slice_index_or, OnOk, OnErr, IsOk, IsErr, MatchOption};
+ghost use Rattle.std.specs.Prelude.{◌≡◌, ◌↔◌, ℕ, ◌+◌, ◌*◌, ◌<◌, ◌≤◌, ◌==◌, nat_le, true, false, not, ◌&&◌, ◌||◌, Some, List, [], ◌∷◌, ◌++◌, length, drop, slice_index_or, OnOk, OnErr, IsOk, IsErr, MatchOption};
 ghost use Rattle.std.specs.List.{filter};
 ghost use Rattle.pp_terms.specs.tree.Range.{Span, within, has, IsRunsFrom, NeedsMore};
 ghost use Rattle.pp_ranges.specs.Edits.{inserted, removed, without_below, number_count, pending_count, below, above, is_apart};
@@ -122,6 +122,8 @@ impl RangeList {
         ensures least { MatchOption result (self.old ≡ [])
             (λ first. (has self.old first ≡ true) × ((i : ℕ) → i < first → has self.old i ≡ false)) }
         ensures exact { MatchOption result (self.new ≡ self.old) (λ first. self.new ≡ removed (record { first = first; last = first }) self.old) }
+        ensures rest { MatchOption result (self.new ≡ self.old)
+            (λ first. (i : ℕ) → has self.new i ≡ (not (i == first) && has self.old i)) }
         ensures count { MatchOption result (self.new ≡ self.old) (λ _. number_count self.new + 1 ≡ number_count self.old) }
         ensures few { length self.new ≤ length self.old }
         ensures runs { IsRunsFrom 0 self.new }

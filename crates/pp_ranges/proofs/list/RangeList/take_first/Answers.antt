@@ -3,7 +3,7 @@ use Rattle.std.specs.Prelude.{remove}
 use Rattle.std.proofs.lemmas.Bool.Decides.{nat_tests}
 use Rattle.pp_terms.specs.tree.Range.{Span, has, IsRunsFrom}
 use Rattle.pp_ranges.specs.Edits.{removed, without_below, number_count}
-use Rattle.pp_ranges.proofs.Fronts.{first_shrinks, first_goes, taken_count, tail_runs}
+use Rattle.pp_ranges.proofs.Fronts.{first_shrinks, first_goes, taken_count, tail_runs, one_removed}
 use Rattle.pp_ranges.proofs.Runs.{first_is, removed_runs}
 use Rattle.pp_ranges.proofs.Lengths.{removed_front}
 use Rattle.pp_ranges.proofs.list.RangeList.take_first.Goals as goal
@@ -35,6 +35,11 @@ returns-clause-exact c =
       | else-first-last w ↦ w.self-is ∙ w.remove.ensures.items ∙ ap (λ (xs : List Span). remove xs 0) c.self.view_is
           ∙ first_goes c.args.self.now c.index-deref-0.result runs some' at (omega arith)
     ]) ∙ ap (λ (n : ℕ). removed (record { first = n; last = n }) c.args.self.now) (sym first)
+
+pub returns-clause-rest : goal.returns-clause-rest
+returns-clause-rest c i =
+    ap (λ (xs : List Span). has xs i) (returns-clause-exact c)
+    ∙ one_removed c.first-2.result c.args.self.now i (subst (λ (xs : List Span). IsRunsFrom 0 xs) c.self.view_is c.self.invariant)
 
 pub returns-clause-few : goal.returns-clause-few
 returns-clause-few c =
