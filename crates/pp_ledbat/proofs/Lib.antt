@@ -4,3 +4,4 @@ pub mod Bounds
 pub mod Timeouts
 pub mod Calls
 pub mod Fresh
+pub mod Cuts

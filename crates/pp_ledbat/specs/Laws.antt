@@ -1,5 +1,5 @@
 -- Laws on the congestion window of a story.
-use Rattle.std.specs.Prelude.{◌≡◌, ◌↔◌, ℕ, ◌+◌, ◌-◌, ◌*◌, ◌%◌, ◌^◌, ◌<◌, ◌≤◌, nat_lt, true, false, if◌then◌else◌, ℤ, pos, ◌+ℤ◌, ◌-ℤ◌, nat_abs, Some, List, [], ◌∷◌, length}
+use Rattle.std.specs.Prelude.{◌≡◌, ◌↔◌, ℕ, ◌+◌, ◌-◌, ◌*◌, ◌%◌, ◌^◌, ◌<◌, ◌≤◌, nat_lt, min, true, false, if◌then◌else◌, ℤ, pos, ◌+ℤ◌, ◌-ℤ◌, nat_abs, Some, List, [], ◌∷◌, length}
 use Rattle.std.specs.List.{AllByRecursion}
 use Rattle.pp_terms.specs.format.Messages.{Data, Ack}
 use Rattle.pp_terms.specs.tree.Range.{Span}
@@ -58,3 +58,15 @@ pub record CallsStand : Type 0 where
       → timed_out now m ≡ meter chunk (Taken now ∷ story)
   pub waits : (chunk now : ℕ) (story : List Line) (m : Meter) → m ≡ meter chunk story → is_due now m ≡ false
       → m ≡ meter chunk (Taken now ∷ story)
+
+-- Where all that flies are chunks of a content, an ACK that is cut to the content acknowledges the same, and whatever is
+-- acknowledged, or sent of the content, all that flies then are chunks of it too.
+pub record CutsAcknowledgeAlike : Type 0 where
+  pub same : (chunks first last delay now : ℕ) (m : Meter) → AllByRecursion (λ e. e.chunk < chunks) m.entries
+      → acked first (min last (chunks - 1)) delay now m ≡ acked first last delay now m
+  pub hears : (chunks first last delay now : ℕ) (m : Meter) → AllByRecursion (λ e. e.chunk < chunks) m.entries
+      → AllByRecursion (λ e. e.chunk < chunks) (acked first last delay now m).entries
+  pub sends : (chunks i now : ℕ) (m : Meter) → i < chunks → AllByRecursion (λ e. e.chunk < chunks) m.entries
+      → AllByRecursion (λ e. e.chunk < chunks) (sent i now m).entries
+  pub waits : (chunks now : ℕ) (m : Meter) → AllByRecursion (λ e. e.chunk < chunks) m.entries
+      → AllByRecursion (λ e. e.chunk < chunks) (ended now m).entries

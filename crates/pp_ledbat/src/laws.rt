@@ -1,6 +1,6 @@
 //! Laws on the window.
 
-ghost use Rattle.pp_ledbat.specs.Laws.{SamplesAreSigned, BaseIsLeast, WindowsAreBounded, FlightsAreFresh, TimeoutsSettle, CallsStand};
+ghost use Rattle.pp_ledbat.specs.Laws.{SamplesAreSigned, BaseIsLeast, WindowsAreBounded, FlightsAreFresh, TimeoutsSettle, CallsStand, CutsAcknowledgeAlike};
 ghost use Rattle.pp_ledbat.specs.Examples.{WindowExamples};
 
 /// What is so of every window, whatever its story (RFC 6817, section 2.4). It does nothing.
@@ -11,6 +11,7 @@ pub fn laws_of_windows()
     ensures flights { FlightsAreFresh }
     ensures timeouts { TimeoutsSettle }
     ensures calls { CallsStand }
+    ensures cuts { CutsAcknowledgeAlike }
 {}
 
 /// Windows in examples that were worked out elsewhere. It does nothing.

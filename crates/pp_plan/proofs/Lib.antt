@@ -4,3 +4,4 @@ pub mod Places
 pub mod Plans
 pub mod Stories
 pub mod Telling
+pub mod Ranges

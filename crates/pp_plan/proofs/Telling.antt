@@ -1,5 +1,5 @@
 -- What one span more makes known.
-use Rattle.std.proofs.Common.{◌≡◌, ⊎_elim, ℕ, ◌+◌, ◌/◌, ◌^◌, ◌<◌, ◌≤◌, ◌==◌, nat_le, nat_lt, Bool, true, false, ◌&&◌, ◌||◌, refl, sym, ◌∙◌, ap, arith}
+use Rattle.std.proofs.Common.{◌≡◌, ⊎_elim, ℕ, ◌+◌, ◌/◌, ◌^◌, ◌<◌, ◌≤◌, ◌==◌, nat_le, nat_lt, Bool, true, false, ◌&&◌, ◌||◌, List, ◌∷◌, refl, sym, ◌∙◌, ap, arith}
 use Rattle.std.proofs.lemmas.Bool.{cases_eq, eq-eqb, ne_eqb}
 use Rattle.std.proofs.lemmas.Bool.Decides.{nat_tests}
 use Rattle.pp_terms.specs.tree.Tree.{Node, height, is_peak}
@@ -7,7 +7,7 @@ use Rattle.std.proofs.Math.Bool.{or-false}
 use Rattle.pp_terms.specs.tree.Bins.{parent_of}
 use Rattle.pp_terms.specs.tree.Range.{Span}
 use Rattle.pp_traffic.specs.Hashes.{meets, tells}
-use Rattle.pp_plan.specs.Told.{ToldNodes, knows, is_marked, lies, is_over, is_over_below}
+use Rattle.pp_plan.specs.Told.{ToldNodes, knows, is_marked, lies, is_over, is_over_below, tells_any, IsToldBy}
 use Rattle.pp_plan.proofs.Places.{meets_is}
 
 -- below the first layer nothing has a mark
@@ -62,3 +62,16 @@ told_more old new span same is_some order inside marks n =
     ∙ either (is_peak old.chunks n) old.some (is_marked old (parent_of n)) (nat_lt n.layer (height old.chunks) && is_over span (parent_of n))
     ∙ sym (ap (λ (b : Bool). knows old n || (b && (is_peak old.chunks n || (nat_lt n.layer (height old.chunks) && meets old.chunks span (parent_of n))))) begins
     ∙ ap (λ (b : Bool). knows old n || (is_peak old.chunks n || (nat_lt n.layer (height old.chunks) && b))) over)
+
+-- and of all ranges so far
+pub told_by_more : (old new : ToldNodes) (span : Span) (ranges : List Span) → new.chunks ≡ old.chunks
+    → ((n : Node) → knows new n ≡ (knows old n || tells old.chunks span n)) → IsToldBy ranges old → IsToldBy (span ∷ ranges) new
+told_by_more old new span ranges same more is n =
+    more n ∙ ap (λ (b : Bool). b || tells old.chunks span n) (is n) ∙ swap (tells_any old.chunks ranges n) (tells old.chunks span n)
+    ∙ ap (λ (k : ℕ). tells k span n || tells_any k ranges n) (sym same)
+  where
+    swap : (a b : Bool) → (a || b) ≡ (b || a)
+    swap true true = refl
+    swap true false = refl
+    swap false true = refl
+    swap false false = refl

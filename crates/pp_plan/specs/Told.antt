@@ -1,8 +1,9 @@
 -- What a peer has told that it knows, by marks in a table.
-use Rattle.std.specs.Prelude.{ℕ, ◌+◌, ◌-◌, ◌/◌, ◌^◌, ◌==◌, nat_le, nat_lt, Bool, false, ◌&&◌, ◌||◌, List, slice_index_or}
+use Rattle.std.specs.Prelude.{◌≡◌, ℕ, ◌+◌, ◌-◌, ◌/◌, ◌^◌, ◌==◌, nat_le, nat_lt, Bool, false, ◌&&◌, ◌||◌, List, [], ◌∷◌, slice_index_or}
 use Rattle.pp_terms.specs.tree.Tree.{Node, height, is_peak}
 use Rattle.pp_terms.specs.tree.Bins.{parent_of}
 use Rattle.pp_terms.specs.tree.Range.{Span}
+use Rattle.pp_traffic.specs.Hashes.{tells}
 
 -- Of a content of so many chunks, whether any chunk was told of, and a mark for each node that such a chunk lies under,
 -- the leaves left out.
@@ -40,3 +41,12 @@ is_over span n = nat_le (span.first / 2 ^ n.layer) n.offset && nat_le n.offset (
 -- the node has a mark once the span was told of, in the layers below one
 abbrev pub is_over_below : ℕ → Span → Node → Bool
 is_over_below layer span n = nat_lt 0 n.layer && nat_lt n.layer layer && is_over span n
+
+-- What a peer told by these ranges since the last forgetting, the newest first: some range tells that it knows the node.
+abbrev pub tells_any : ℕ → List Span → Node → Bool
+tells_any chunks [] n = false
+tells_any chunks (range ∷ before) n = tells chunks range n || tells_any chunks before n
+
+-- These ranges were told since the last forgetting, and nothing else.
+abbrev pub IsToldBy : List Span → ToldNodes → Type 0
+IsToldBy ranges t = (n : Node) → knows t n ≡ tells_any t.chunks ranges n

@@ -3,7 +3,7 @@
 #![tactic(auto)]
 
 ghost use Rattle.pp_plan.specs.Examples.{PlanExamples};
-ghost use Rattle.pp_plan.specs.Law.{PlansAreLeast, StoriesTell};
+ghost use Rattle.pp_plan.specs.Law.{PlansAreLeast, StoriesTell, StoriesAreRanges, CutsTellAlike};
 
 #[cfg(test)]
 mod plain;
@@ -15,10 +15,12 @@ mod told;
 pub use planning::plan;
 pub use told::Told;
 
-/// What a plan is for.
+/// What a plan is for, and what is told.
 pub fn laws_of_plans()
     ensures least { PlansAreLeast }
     ensures stories { StoriesTell }
+    ensures ranges { StoriesAreRanges }
+    ensures cuts { CutsTellAlike }
 {}
 
 /// Plans, and what is told, in examples that were worked out elsewhere. It does nothing.

@@ -1,11 +1,12 @@
 // What a peer has told that it knows.
-ghost use Rattle.std.specs.Prelude.{◌≡◌, ℕ, ◌-◌, ◌^◌, ◌<◌, ◌≤◌, ◌&&◌, ◌||◌, nat_le, true, false, length, slice_index_or, IfOk};
+ghost use Rattle.std.specs.Prelude.{◌≡◌, ℕ, ◌-◌, ◌^◌, ◌<◌, ◌≤◌, ◌&&◌, ◌||◌, nat_le, true, false, List, [], ◌∷◌, length, slice_index_or, IfOk};
 ghost use Rattle.std.specs.List.{list_all};
 ghost use Rattle.pp_terms.specs.tree.Tree as terms;
 ghost use Rattle.pp_terms.specs.tree.Bins.{parent_of};
 ghost use Rattle.pp_traffic.specs.Hashes.{tells};
 ghost use Rattle.pp_tree.specs.Node.{node_of};
-ghost use Rattle.pp_plan.specs.Told.{knows, is_marked, lies, span_of};
+ghost use Rattle.pp_terms.specs.tree.Range.{Span};
+ghost use Rattle.pp_plan.specs.Told.{knows, is_marked, lies, span_of, IsToldBy};
 
 use pp_ranges::ChunkRange;
 use pp_tree::{Bits, Node, height, is_peak};
@@ -54,6 +55,7 @@ impl Told {
         ensures chunks { IfOk result (λ t. t.chunks ≡ chunks) }
         ensures nothing { IfOk result (λ t. (n : terms.Node) → knows t n ≡ false) }
         ensures none { IfOk result (λ t. t.some ≡ false) }
+        ensures calls { IfOk result (IsToldBy []) }
     {
         let height = height(chunks);
         Ok(Told {
@@ -69,6 +71,8 @@ impl Told {
         requires { range.last < self.old.chunks }
         ensures chunks { self.new.chunks ≡ self.old.chunks }
         ensures more { (n : terms.Node) → knows self.new n ≡ (knows self.old n || tells self.old.chunks (span_of range) n) }
+        ensures some { self.new.some ≡ true }
+        ensures calls { (ranges : List Span) → IsToldBy ranges self.old → IsToldBy (span_of range ∷ ranges) self.new }
     {
         self.begin();
         let first = range.first();
@@ -148,12 +152,16 @@ impl Told {
         offset < base && self.marks.has(base + offset)
     }
 
-    /// Nothing is told any more.
+    /// Nothing is told any more. Where nothing was told this touches no mark.
     pub fn forget(&mut self)
         ensures chunks { self.new.chunks ≡ self.old.chunks }
         ensures nothing { (n : terms.Node) → knows self.new n ≡ false }
+        ensures none { self.new.some ≡ false }
+        ensures calls { IsToldBy [] self.new }
     {
-        self.marks.clear();
-        self.some = false;
+        if self.some {
+            self.marks.clear();
+            self.some = false;
+        }
     }
 }

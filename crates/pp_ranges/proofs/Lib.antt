@@ -3,3 +3,4 @@ pub mod NodeSpans
 pub mod Dyadic
 pub mod CoverSteps
 pub mod Lengths
+pub mod Fronts

@@ -1,6 +1,6 @@
 -- Lists of ranges in rising order: what edits leave in them, and that no list of the same numbers is shorter.
 use Rattle.std.proofs.Common.{◌≡◌, ◌⊎◌, ℕ, zero, suc, ◌+◌, ◌-◌, ◌<◌, ◌≤◌, nat_lt, nat_le, min, max, Bool, true, false, cond, not, ◌&&◌, ◌||◌, Some, List, [], ◌∷◌, ◌++◌, length, take, get_or, refl, sym, ◌∙◌, ap, subst, inl, inr, arith}
-use Rattle.std.specs.Prelude.{count_by, Result, Ok, Err, OnOk, OnErr, IsErr}
+use Rattle.std.specs.Prelude.{count_by, Result, Ok, Err, OnOk, OnErr, IsOk, IsErr}
 use Rattle.std.specs.List.{filter}
 use Rattle.std.proofs.lemmas.Bool.{cases_eq, cases_Bool}
 use Rattle.std.proofs.lemmas.Bool.Decides.{nat_tests}
@@ -324,3 +324,13 @@ pub settled_full : {T E : Type 0} (r : Result T E) (old new xs : List Span) (num
 settled_full (Ok x) old new xs numbers is kept h same =
     (λ err. absurd (let bad = err in cc), λ more. absurd (not_needed 64 xs numbers same is.1 more))
 settled_full (Err e) old new xs numbers is kept h same = (λ err. needed 64 xs numbers h same kept.1, λ more. refl)
+
+pub settled_few : {T E : Type 0} (r : Result T E) (old new xs : List Span) (most : ℕ) → OnOk r ((new ≡ xs) × (length xs ≤ 64))
+    → OnErr r ((new ≡ old) × (64 < length xs)) → length xs ≤ most → length old ≤ most → length new ≤ most
+settled_few (Ok x) old new xs most is kept few fits = let same = ap (λ (ys : List Span). length ys) is.0 in omega arith
+settled_few (Err e) old new xs most is kept few fits = let same = ap (λ (ys : List Span). length ys) kept.0 in omega arith
+
+pub settled_front : {T E : Type 0} (r : Result T E) (old new xs : List Span) (most : ℕ) → OnOk r ((new ≡ xs) × (length xs ≤ 64))
+    → OnErr r ((new ≡ old) × (64 < length xs)) → length xs ≤ most → most ≤ 64 → IsOk r × (length new ≤ most)
+settled_front (Ok x) old new xs most is kept few fits = (refl, let same = ap (λ (ys : List Span). length ys) is.0 in omega arith)
+settled_front (Err e) old new xs most is kept few fits = absurd (omega (arith, kept.1))

@@ -34,6 +34,17 @@ removed s (x ∷ xs) = below s x ++ above s x ++ removed s xs
 abbrev pub is_apart : Span → Span → Bool
 is_apart s x = nat_lt x.last s.first || nat_lt s.last x.first
 
+-- the ranges without the numbers below one
+abbrev pub without_below : ℕ → List Span → List Span
+without_below i [] = []
+without_below i (x ∷ xs) =
+    elim (nat_lt x.last i) [ true ↦ without_below i xs | false ↦ record { first = max x.first i; last = x.last } ∷ xs ]
+
+-- how many numbers are in ranges that don't meet
+abbrev pub number_count : List Span → ℕ
+number_count [] = 0
+number_count (x ∷ xs) = (x.last + 1 - x.first) + number_count xs
+
 -- how many ranges are pending
 abbrev pub pending_count : Option Span → ℕ
 pending_count None = 0

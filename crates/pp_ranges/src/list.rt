@@ -1,8 +1,8 @@
 // Sets of numbers as lists of ranges.
-ghost use Rattle.std.specs.Prelude.{◌≡◌, ◌↔◌, ℕ, ◌+◌, ◌*◌, ◌<◌, ◌≤◌, true, false, not, ◌&&◌, ◌||◌, Some, List, [], ◌∷◌, ◌++◌, length, slice_index_or, OnOk, OnErr, IsErr, MatchOption};
+ghost use Rattle.std.specs.Prelude.{◌≡◌, ◌↔◌, ℕ, ◌+◌, ◌*◌, ◌<◌, ◌≤◌, ◌==◌, nat_le, true, false, not, ◌&&◌, ◌||◌, Some, List, [], ◌∷◌, ◌++◌, length, drop, slice_index_or, OnOk, OnErr, IsOk, IsErr, MatchOption};
 ghost use Rattle.std.specs.List.{filter};
 ghost use Rattle.pp_terms.specs.tree.Range.{Span, within, has, IsRunsFrom, NeedsMore};
-ghost use Rattle.pp_ranges.specs.Edits.{inserted, removed, pending_count, below, above, is_apart};
+ghost use Rattle.pp_ranges.specs.Edits.{inserted, removed, without_below, number_count, pending_count, below, above, is_apart};
 
 use crate::range::ChunkRange;
 use arrayvec::ArrayVec;
@@ -45,6 +45,7 @@ impl RangeList {
         // The list itself, which these numbers determine.
         ensures exact { OnOk result ((self.new ≡ inserted (Some range) self.old) × (length (inserted (Some range) self.old) ≤ 64)) }
         ensures many { OnErr result (64 < length (inserted (Some range) self.old)) }
+        ensures few { length self.new ≤ length self.old + 1 }
         ensures runs { IsRunsFrom 0 self.new }
         ensures err { OnErr result (self.new ≡ self.old) }
         ensures full { IsErr result ↔ NeedsMore 64 (λ i. within range i || has self.old i) }
@@ -60,6 +61,9 @@ impl RangeList {
         ensures ok { OnOk result ((i : ℕ) → has self.new i ≡ (not (within range i) && has self.old i)) }
         ensures exact { OnOk result ((self.new ≡ removed range self.old) × (length (removed range self.old) ≤ 64)) }
         ensures many { OnErr result (64 < length (removed range self.old)) }
+        ensures few { length self.new ≤ length self.old + 1 }
+        // No range is split where no number lies below it.
+        ensures front { ((i : ℕ) → i < range.first → has self.old i ≡ false) → IsOk result × (length self.new ≤ length self.old) }
         ensures runs { IsRunsFrom 0 self.new }
         ensures err { OnErr result (self.new ≡ self.old) }
         ensures full { IsErr result ↔ NeedsMore 64 (λ i. not (within range i) && has self.old i) }
@@ -73,6 +77,7 @@ impl RangeList {
     /// Takes out the range, and the whole of each range of the list that meets it.
     pub fn remove_wide(&mut self, range: ChunkRange)
         ensures kept { self.new ≡ filter (is_apart range) self.old }
+        ensures few { length self.new ≤ length self.old }
         ensures runs { IsRunsFrom 0 self.new }
     {
         let mut ranges = ArrayVec::new();
@@ -82,6 +87,57 @@ impl RangeList {
             }
         }
         self.ranges = ranges;
+    }
+
+    /// Takes out the numbers below one, and answers how many these were.
+    pub fn remove_below(&mut self, i: u32) -> u32
+        ensures exact { self.new ≡ without_below i self.old }
+        ensures rest { (j : ℕ) → has self.new j ≡ (nat_le i j && has self.old j) }
+        ensures count { result + number_count self.new ≡ number_count self.old }
+        ensures few { length self.new ≤ length self.old }
+        ensures runs { IsRunsFrom 0 self.new }
+    {
+        let (ended, count) = ended_below(&self.ranges, i);
+        self.ranges.drain(..ended);
+        count + self.cut_first(i)
+    }
+
+    // Takes the numbers below one out of the first range, which doesn't end below it, and answers how many these were.
+    fn cut_first(&mut self, i: u32) -> u32
+        requires { (x : Span) (xs : List Span) → self.old ≡ x ∷ xs → i ≤ x.last }
+        ensures exact { self.new ≡ without_below i self.old }
+        ensures count { result + number_count self.new ≡ number_count self.old }
+        ensures most { (low : ℕ) → IsRunsFrom low self.old → low ≤ i → result + low ≤ i }
+    {
+        if self.ranges.is_empty() {
+            return 0;
+        }
+        let range = self.ranges[0];
+        self.ranges[0] = range.from_on(i);
+        i.saturating_sub(range.first())
+    }
+
+    /// Takes out the least number.
+    pub fn take_first(&mut self) -> Option<u32>
+        ensures least { MatchOption result (self.old ≡ [])
+            (λ first. (has self.old first ≡ true) × ((i : ℕ) → i < first → has self.old i ≡ false)) }
+        ensures exact { MatchOption result (self.new ≡ self.old) (λ first. self.new ≡ removed (record { first = first; last = first }) self.old) }
+        ensures rest { MatchOption result (self.new ≡ self.old)
+            (λ first. (i : ℕ) → has self.new i ≡ (not (i == first) && has self.old i)) }
+        ensures count { MatchOption result (self.new ≡ self.old) (λ _. number_count self.new + 1 ≡ number_count self.old) }
+        ensures few { length self.new ≤ length self.old }
+        ensures runs { IsRunsFrom 0 self.new }
+    {
+        if self.ranges.is_empty() {
+            return None;
+        }
+        let range = self.ranges[0];
+        if range.first() < range.last() {
+            self.cut_first(range.first() + 1);
+        } else {
+            self.ranges.remove(0);
+        }
+        Some(range.first())
     }
 
     pub fn contains(&self, i: u32) -> bool
@@ -97,8 +153,10 @@ impl RangeList {
 
     /// The least number of the set.
     pub fn first(&self) -> Option<u32>
-        ensures { MatchOption result (self.now ≡ [])
+        ensures least { MatchOption result (self.now ≡ [])
             (λ first. (has self.now first ≡ true) × ((i : ℕ) → i < first → has self.now i ≡ false)) }
+        ensures runs { IsRunsFrom 0 self.now }
+        ensures most { length self.now ≤ 64 }
     {
         if self.ranges.is_empty() {
             return None;
@@ -139,6 +197,26 @@ impl RangeList {
         self.ranges = kept;
         Ok(())
     }
+}
+
+// How many of the ranges end below a number, and how many numbers these have.
+fn ended_below(list: &[ChunkRange], i: u32) -> (usize, u32)
+    requires { IsRunsFrom 0 list.now }
+    ensures within { result.0 ≤ length list.now }
+    ensures next { (x : Span) (xs : List Span) → drop result.0 list.now ≡ x ∷ xs → i ≤ x.last }
+    ensures exact { without_below i (drop result.0 list.now) ≡ without_below i list.now }
+    ensures count { result.1 + number_count (drop result.0 list.now) ≡ number_count list.now }
+    ensures runs { IsRunsFrom result.1 (drop result.0 list.now) }
+    ensures most { result.1 ≤ i }
+{
+    let mut count = 0;
+    for (n, range) in list.iter().enumerate() {
+        if i <= range.last() {
+            return (n, count);
+        }
+        count += range.last() - range.first() + 1;
+    }
+    (list.len(), count)
 }
 
 // The ranges with one more.
@@ -270,5 +348,22 @@ mod tests {
             assert_eq!(rt; list.count(), 1);
             assert!(rt; list.contains(7) && !list.contains(10));
         }
+    }
+
+    // Of the even numbers from 0 to 126 and the odd ones from 1 to 9: 0 to 10, and each even one above.
+    #[test]
+    fn takes_numbers_from_the_front(rt: HostRuntime) {
+        let mut list = evens();
+        if let Some(range) = ChunkRange::new(0, 10) {
+            assert_eq!(rt; list.insert(range), Ok(()));
+        }
+        assert_eq!(rt; (list.take_first(), list.take_first()), (Some(0), Some(1)));
+        assert_eq!(rt; list.remove_below(5), 3);
+        assert_eq!(rt; (list.first(), list.count()), (Some(5), 59));
+        assert_eq!(rt; list.remove_below(5), 0);
+        assert_eq!(rt; list.remove_below(17), 9);
+        assert_eq!(rt; (list.take_first(), list.first()), (Some(18), Some(20)));
+        assert_eq!(rt; list.remove_below(u32::MAX), 54);
+        assert_eq!(rt; (list.take_first(), list.count()), (None, 0));
     }
 }

@@ -1,5 +1,5 @@
 // One range of chunks.
-ghost use Rattle.std.specs.Prelude.{◌≡◌, ℕ, ◌^◌, ◌<◌, ◌≤◌, None, MatchOption};
+ghost use Rattle.std.specs.Prelude.{◌≡◌, ℕ, ◌^◌, ◌<◌, ◌≤◌, max, None, MatchOption};
 ghost use Rattle.pp_terms.specs.tree.Range.{leaves_of};
 ghost use Rattle.pp_terms.specs.tree.Tree as terms;
 ghost use Rattle.pp_tree.specs.Node.{node_of};
@@ -54,6 +54,17 @@ impl ChunkRange {
         ensures range { self.last < 2 ^ 32 }
     {
         self.last
+    }
+
+    // The numbers of the range from one on, which isn't above its last.
+    pub(crate) fn from_on(self, i: u32) -> ChunkRange
+        requires { i ≤ self.last }
+        ensures { result ≡ record { first = max self.first i; last = self.last } }
+    {
+        ChunkRange {
+            first: self.first.max(i),
+            last: self.last,
+        }
     }
 
     /// The leaves under a node; none where the last of them isn't a number of 32 bits.

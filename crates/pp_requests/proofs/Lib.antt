@@ -1,3 +1,4 @@
 pub mod Entries
 pub mod LeastNumbers
+pub mod Calls
 pub mod SeatCounts

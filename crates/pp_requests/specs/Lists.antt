@@ -1,8 +1,8 @@
 -- The numbers of a list of ranges, and what a REQUEST and a CANCEL make of it.
-use Rattle.std.specs.Prelude.{◌≡◌, ℕ, ◌+◌, ◌-◌, ◌<◌, nat_lt, Bool, true, false, if◌then◌else◌, Some, List, [], ◌∷◌, length}
+use Rattle.std.specs.Prelude.{◌≡◌, ℕ, ◌<◌, nat_lt, Bool, true, false, if◌then◌else◌, Some, List, length}
 use Rattle.std.specs.List.{filter}
 use Rattle.pp_terms.specs.tree.Range.{Span, has}
-use Rattle.pp_ranges.specs.Edits.{inserted, removed, is_apart}
+use Rattle.pp_ranges.specs.Edits.{inserted, removed, number_count, is_apart}
 
 -- a number of the list, and no lesser one is in it
 pub record IsLeast (list : List Span) (least : ℕ) : Type 0 where
@@ -25,7 +25,6 @@ cancelled range list = if are_too_many (removed range list) then filter (is_apar
 abbrev pub without : ℕ → List Span → List Span
 without i list = removed (record { first = i; last = i }) list
 
--- how many numbers are in ranges that don't meet
+-- how many chunks are listed
 abbrev pub chunk_count : List Span → ℕ
-chunk_count [] = 0
-chunk_count (x ∷ xs) = (x.last + 1 - x.first) + chunk_count xs
+chunk_count list = number_count list

@@ -1,7 +1,7 @@
 // This peer's own requests on one channel.
 ghost use Rattle.std.specs.Prelude.{◌≡◌, ℕ, ◌+◌, ◌==◌, ◌<◌, ◌≤◌, None, Some, is_some, [], length, MatchOption, if◌then◌else◌, position, nat_le, ◌-◌};
 ghost use Rattle.std.specs.List.{list_any};
-ghost use Rattle.pp_requests.specs.Moments.{asked_at, Changes, IsLeastAsked, IsLeastExpired, NoneExpired};
+ghost use Rattle.pp_requests.specs.Moments.{asked_at, IsRisingFrom, Changes, IsLeastAsked, IsLeastExpired, NoneExpired};
 
 use arrayvec::ArrayVec;
 use std::marker::Model;
@@ -51,7 +51,8 @@ impl Asked {
 
     /// How many more may be asked for.
     pub fn room(&self) -> u32
-        ensures { result + length self.now ≡ 32 }
+        ensures room { result + length self.now ≡ 32 }
+        ensures rising { IsRisingFrom 0 self.now }
     {
         (MOST_ASKED - self.entries.len()) as u32
     }
@@ -103,6 +104,13 @@ impl Asked {
     {
         let at = first_expired(&self.entries, now)?;
         Some(self.entries.remove(at).chunk)
+    }
+
+    /// Takes out all chunks.
+    pub fn clear(&mut self)
+        ensures { self.new ≡ [] }
+    {
+        self.entries.clear();
     }
 
     /// Takes out the least chunk.
@@ -171,5 +179,11 @@ mod tests {
             assert!(rt; asked.drop_one().is_some());
         }
         assert_eq!(rt; asked.drop_one(), None);
+        if asked.room() > 0 && !asked.contains(7) {
+            asked.ask(7, 0);
+        }
+        assert_eq!(rt; asked.room(), 31);
+        asked.clear();
+        assert_eq!(rt; (asked.room(), asked.contains(7)), (32, false));
     }
 }

@@ -3,9 +3,11 @@
 #![tactic(auto)]
 
 mod asking;
+mod laws;
 mod listing;
 mod seating;
 
 pub use asking::Asked;
+pub use laws::laws_of_requests;
 pub use listing::{Cancelled, Requests};
 pub use seating::Slots;

@@ -1,8 +1,8 @@
 // The chunks that one channel's peer may still be sent.
-ghost use Rattle.std.specs.Prelude.{◌≡◌, ◌↔◌, ℕ, ◌<◌, ◌==◌, ◌&&◌, ◌||◌, not, true, false, Some, [], OnOk, OnErr, IsErr, IsSome, MatchOption};
+ghost use Rattle.std.specs.Prelude.{◌≡◌, ◌↔◌, ℕ, ◌+◌, ◌<◌, ◌≤◌, ◌==◌, nat_le, length, ◌&&◌, ◌||◌, not, true, false, Some, [], OnOk, OnErr, IsErr, IsSome, MatchOption};
 ghost use Rattle.std.specs.List.{filter};
-ghost use Rattle.pp_terms.specs.tree.Range.{within, has, NeedsMore};
-ghost use Rattle.pp_ranges.specs.Edits.{inserted, removed, is_apart};
+ghost use Rattle.pp_terms.specs.tree.Range.{within, has, IsRunsFrom, NeedsMore};
+ghost use Rattle.pp_ranges.specs.Edits.{inserted, removed, without_below, is_apart};
 ghost use Rattle.pp_requests.specs.Lists.{IsLeast, are_too_many, requested, cancelled, without, chunk_count};
 
 use pp_ranges::{ChunkRange, Full, RangeList};
@@ -51,6 +51,7 @@ impl Requests {
         ensures exact { self.new ≡ requested range self.old }
         ensures many { OnErr result (are_too_many (inserted (Some range) self.old) ≡ true) }
         ensures few { OnOk result (are_too_many (inserted (Some range) self.old) ≡ false) }
+        ensures ranges { length self.new ≤ length self.old + 1 }
     {
         self.list.insert(range)
     }
@@ -65,6 +66,7 @@ impl Requests {
         ensures list { self.new ≡ cancelled range self.old }
         ensures many { result ≡ Cancelled.Wide → are_too_many (removed range self.old) ≡ true }
         ensures few { result ≡ Cancelled.Exact → are_too_many (removed range self.old) ≡ false }
+        ensures ranges { length self.new ≤ length self.old + 1 }
     {
         match self.list.remove(range) {
             Ok(()) => Cancelled::Exact,
@@ -84,7 +86,9 @@ impl Requests {
 
     /// The least chunk that was asked for.
     pub fn peek(&self) -> Option<u32>
-        ensures { MatchOption result (self.now ≡ []) (IsLeast self.now) }
+        ensures least { MatchOption result (self.now ≡ []) (IsLeast self.now) }
+        ensures runs { IsRunsFrom 0 self.now }
+        ensures most { length self.now ≤ 64 }
     {
         self.list.first()
     }
@@ -96,14 +100,23 @@ impl Requests {
             (λ least. (i : ℕ) → has self.new i ≡ (not (i == least) && has self.old i)) }
         ensures list { MatchOption result (self.new ≡ self.old) (λ least. self.new ≡ without least self.old) }
         ensures fewer { IsSome result → chunk_count self.new < chunk_count self.old }
+        ensures count { IsSome result → chunk_count self.new + 1 ≡ chunk_count self.old }
+        // A chunk that was looked at before is the one that goes.
+        ensures peeked { (i : ℕ) → IsLeast self.old i → (result ≡ Some i) × (self.new ≡ without i self.old) }
+        ensures ranges { length self.new ≤ length self.old }
     {
-        // Its contract tells that there are at most 64 ranges, in order: the least number of one is left out without one more.
-        let _ = self.list.count();
-        let least = self.list.first()?;
-        if let Some(range) = ChunkRange::new(least, least) {
-            let _ = self.list.remove(range);
-        }
-        Some(least)
+        self.list.take_first()
+    }
+
+    /// Takes out all chunks below one, and answers how many these were. So a run of chunks that this peer lacks is passed
+    /// over at once.
+    pub fn drop_below(&mut self, i: u32) -> u32
+        ensures rest { (j : ℕ) → has self.new j ≡ (nat_le i j && has self.old j) }
+        ensures list { self.new ≡ without_below i self.old }
+        ensures count { result + chunk_count self.new ≡ chunk_count self.old }
+        ensures ranges { length self.new ≤ length self.old }
+    {
+        self.list.remove_below(i)
     }
 
     pub fn contains(&self, i: u32) -> bool
@@ -138,8 +151,12 @@ mod tests {
             assert_eq!(rt; requests.peek(), Some(want));
             assert_eq!(rt; requests.take(), Some(want));
         }
+        assert_eq!(rt; (requests.drop_below(9), requests.drop_below(9)), (2, 0));
+        assert_eq!(rt; requests.peek(), Some(10));
+        assert_eq!(rt; requests.drop_below(121), 56);
+        assert_eq!(rt; requests.take(), Some(122));
         requests.clear();
-        assert_eq!(rt; requests.take(), None);
+        assert_eq!(rt; (requests.take(), requests.drop_below(u32::MAX)), (None, 0));
     }
 
     // Those from 0 to 10, and the even ones from 20 to 144: a hole in the first range makes a 65th.

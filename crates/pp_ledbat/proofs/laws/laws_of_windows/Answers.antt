@@ -4,6 +4,7 @@ use Rattle.pp_ledbat.proofs.Bounds.{windows_are_bounded}
 use Rattle.pp_ledbat.proofs.Timeouts.{timeouts_settle}
 use Rattle.pp_ledbat.proofs.Fresh.{flights_are_fresh}
 use Rattle.pp_ledbat.proofs.Calls.{calls_stand}
+use Rattle.pp_ledbat.proofs.Cuts.{cuts_acknowledge_alike}
 use Rattle.pp_ledbat.proofs.laws.laws_of_windows.Goals as goal
 
 pub returns : goal.returns
@@ -14,4 +15,5 @@ returns c = record {
   flights = flights_are_fresh;
   timeouts = timeouts_settle;
   calls = calls_stand;
+  cuts = cuts_acknowledge_alike;
 }

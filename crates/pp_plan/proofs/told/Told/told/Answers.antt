@@ -2,7 +2,7 @@ use Rattle.std.proofs.Common.{◌≡◌, ◌+◌, ◌-◌, ◌/◌, ◌^◌, ◌
 use Rattle.pp_terms.specs.tree.Tree.{height}
 use Rattle.pp_plan.specs.Told.{is_marked, lies, is_over_below, span_of}
 use Rattle.pp_plan.proofs.Places.{offset_fits}
-use Rattle.pp_plan.proofs.Telling.{one_layer, told_more}
+use Rattle.pp_plan.proofs.Telling.{one_layer, told_more, told_by_more}
 use Rattle.pp_plan.proofs.told.Told.told.Goals as goal
 
 pub mark-requires-clause-inside : goal.mark-requires-clause-inside
@@ -36,3 +36,7 @@ returns-clause-more c =
     let at_end : c.loop-layer.layer ≡ height c.args.self.now.chunks + 1 = omega (arith, c.loop-layer-test.false, c.loop-layer.auto.layer-end (omega arith), c.loop-layer.invariant.5) in
     told_more c.args.self.now c.loop-layer.self (span_of c.args.range) c.loop-layer.invariant.0 c.loop-layer.invariant.1 c.first-first.ensures.order c.requires
     (λ m. c.loop-layer.invariant.6 m ∙ ap (λ k. (c.args.self.now.some && is_marked c.args.self.now m) || is_over_below k (span_of c.args.range) m) at_end)
+
+pub returns-clause-calls : goal.returns-clause-calls
+returns-clause-calls c ranges is =
+    told_by_more c.args.self.now c.loop-layer.self (span_of c.args.range) ranges c.loop-layer.invariant.0 (returns-clause-more c) is

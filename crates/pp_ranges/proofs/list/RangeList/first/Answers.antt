@@ -4,8 +4,8 @@ use Rattle.pp_terms.specs.tree.Range.{Span, has, IsRunsFrom}
 use Rattle.pp_ranges.proofs.Runs.{first_is}
 use Rattle.pp_ranges.proofs.list.RangeList.first.Goals as goal
 
-pub returns : goal.returns
-returns c =
+pub returns-clause-least : goal.returns-clause-least
+returns-clause-least c =
     let e = c.deref.ensures.0 ∙ c.self.view_is in
     let runs = subst (λ (xs : List Span). IsRunsFrom 0 xs) (sym c.deref.ensures.0) c.self.invariant in
     let some : 0 < length c.self.inside.ranges.items = grind (arith, nat_tests) in

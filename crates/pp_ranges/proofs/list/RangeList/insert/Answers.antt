@@ -1,6 +1,7 @@
-use Rattle.std.proofs.Common.{◌||◌, List, ◌∙◌, subst}
+use Rattle.std.proofs.Common.{◌+◌, ◌||◌, List, length, ◌∙◌, ap, subst, arith}
 use Rattle.pp_terms.specs.tree.Range.{Span, within, has, IsRunsFrom}
-use Rattle.pp_ranges.proofs.Runs.{inserted_edit, settled_ok, settled_runs, settled_full}
+use Rattle.pp_ranges.proofs.Runs.{inserted_edit, settled_ok, settled_runs, settled_full, settled_few}
+use Rattle.pp_ranges.proofs.Lengths.{inserted_length}
 use Rattle.pp_ranges.proofs.list.RangeList.insert.Goals as goal
 
 pub settle-requires : goal.settle-requires
@@ -30,3 +31,12 @@ returns-clause-full c =
     (c.deref-2.ensures.0 ∙ c.merged-ranges.ensures) (c.deref.ensures.0 ∙ c.self.view_is) c.first.ensures.order runs in
     settled_full c.settle.result _ c.settle.new.self c.deref-2.result.now (λ i. within c.args.range i || has c.args.self.now i)
     c.settle.ensures.ok c.settle.ensures.err edit.0 edit.1
+
+pub returns-clause-few : goal.returns-clause-few
+returns-clause-few c =
+    let old = ap (λ (xs : List Span). length xs) (c.deref.ensures.0 ∙ c.self.view_is) in
+    let within = ap (λ (xs : List Span). length xs) c.self.view_is in
+    let few = inserted_length c.args.range c.deref.result.now in
+    let same = ap (λ (xs : List Span). length xs) (c.deref-2.ensures.0 ∙ c.merged-ranges.ensures) in
+    settled_few c.settle.result _ c.settle.new.self c.deref-2.result.now (length c.args.self.now + 1) c.settle.ensures.ok c.settle.ensures.err
+    (omega (arith, old, few, same)) (omega (arith, within))
