@@ -10,7 +10,7 @@ ghost use Rattle.pp_plan.specs.Told.{knows};
 
 use crate::told::Told;
 use arrayvec::ArrayVec;
-use pp_tree::{Node, leaf_at, parent_of, peaks, sibling_of};
+use pp_tree::{Node, peaks};
 
 /// The nodes whose hashes go before a chunk to a peer that told what it knows: the peaks from left to right, unless they are
 /// told; then, from the highest layer down, the sibling of each node on the way up from the chunk's leaf to the first node
@@ -23,7 +23,7 @@ pub fn plan(i: u32, told: &Told, chunks: u32) -> ArrayVec<Node, 48>
         → completes chunks brought (knows told.now) i ≡ list_all brought (map node_of result.items) }
 {
     let mut nodes = front(told);
-    climb(&mut nodes, told, leaf_at(i), told.height() + 1);
+    climb(&mut nodes, told, Node::leaf(i), told.height() + 1);
     nodes
 }
 
@@ -54,8 +54,8 @@ fn climb(nodes: &mut ArrayVec<Node, 48>, told: &Told, node: Node, layers: u8)
     if told.ends(node) {
         return;
     }
-    climb(nodes, told, parent_of(node), layers - 1);
-    let sibling = sibling_of(node);
+    climb(nodes, told, node.parent(), layers - 1);
+    let sibling = node.sibling();
     if told.has(sibling) {
         return;
     }

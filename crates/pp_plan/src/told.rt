@@ -9,7 +9,7 @@ ghost use Rattle.pp_terms.specs.tree.Range.{Span};
 ghost use Rattle.pp_plan.specs.Told.{knows, is_marked, lies, span_of, IsToldBy};
 
 use pp_ranges::ChunkRange;
-use pp_tree::{Bits, Node, height, is_peak};
+use pp_tree::{Bits, Node, height};
 use std::alloc::{AllocError, Global};
 use std::marker::Model;
 
@@ -110,14 +110,14 @@ impl Told {
     pub fn has(&self, node: Node) -> bool
         ensures { result ≡ knows self.now (node_of node) }
     {
-        self.some && (is_peak(node, self.chunks) || self.is_marked_above(node))
+        self.some && (node.is_peak(self.chunks) || self.is_marked_above(node))
     }
 
     // Whether the way up ends at the node: it is told, or a peak.
     pub(crate) fn ends(&self, node: Node) -> bool
         ensures { result ≡ (knows self.now (node_of node) || terms.is_peak self.now.chunks (node_of node)) }
     {
-        self.has(node) || is_peak(node, self.chunks)
+        self.has(node) || node.is_peak(self.chunks)
     }
 
     pub(crate) fn is_some(&self) -> bool

@@ -13,7 +13,7 @@ returns-clause-nodes c =
     subst (λ k. map node_of c.climb.new.nodes.items ≡ plan k (knows c.args.told.now) c.args.i) c.requires.content
     (plan_is c.args.told.now c.args.i (map node_of c.front-nodes.result.items) (map node_of c.climb.new.nodes.items) c.front-nodes.ensures.nodes
     (c.climb.ensures.nodes
-    ∙ ap (λ m. map node_of c.front-nodes.result.items ++ uncles_from (c.height.result + 1) c.args.told.now.chunks (knows c.args.told.now) m) c.leaf_at.ensures.leaf
+    ∙ ap (λ m. map node_of c.front-nodes.result.items ++ uncles_from (c.height.result + 1) c.args.told.now.chunks (knows c.args.told.now) m) c.leaf.ensures.leaf
     ∙ ap (λ h. map node_of c.front-nodes.result.items ++ uncles_from (h + 1) c.args.told.now.chunks (knows c.args.told.now) (leaf_at c.args.i)) c.height.ensures.value))
 
 pub returns-clause-least : goal.returns-clause-least
@@ -23,5 +23,5 @@ returns-clause-least c = λ brought.
     (subst (λ k. c.args.i < k) (sym c.requires.content) c.requires.inside)
     (plan_is c.args.told.now c.args.i (map node_of c.front-nodes.result.items) (map node_of c.climb.new.nodes.items) c.front-nodes.ensures.nodes
     (c.climb.ensures.nodes
-    ∙ ap (λ m. map node_of c.front-nodes.result.items ++ uncles_from (c.height.result + 1) c.args.told.now.chunks (knows c.args.told.now) m) c.leaf_at.ensures.leaf
+    ∙ ap (λ m. map node_of c.front-nodes.result.items ++ uncles_from (c.height.result + 1) c.args.told.now.chunks (knows c.args.told.now) m) c.leaf.ensures.leaf
     ∙ ap (λ h. map node_of c.front-nodes.result.items ++ uncles_from (h + 1) c.args.told.now.chunks (knows c.args.told.now) (leaf_at c.args.i)) c.height.ensures.value)))
