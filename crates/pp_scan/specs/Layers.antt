@@ -1,22 +1,28 @@
--- A book while the nodes of a tree are looked up in an image, layer by layer from the root down.
-use Rattle.std.specs.Prelude.{◌≡◌, ℕ, suc, ◌+◌, ◌*◌, ◌<◌, ◌≤◌, None}
-use Rattle.std.specs.Prelude.{List, Some}
+-- A book while the nodes of a tree are looked up in an image, from the root down.
+use Rattle.std.specs.Prelude.{◌≡◌, ℕ, ◌+◌, ◌<◌, None, Some, List}
+use Rattle.pp_terms.specs.tree.Tree.{above}
 use Rattle.pp_terms.specs.tree.Book.{LookUp}
-use Rattle.pp_terms.specs.format.Descriptor.{Descriptor, height_of}
-use Rattle.pp_terms.specs.disk.Image.{known, known_below}
+use Rattle.pp_terms.specs.format.Descriptor.{Descriptor}
+use Rattle.pp_terms.specs.disk.Image.{known}
 
--- In a tree of that height no node lies above the root. Below the layer that is n layers below the root only children of
--- the layer's first i nodes are in the book.
-pub record IsBare (height n i : ℕ) (book : LookUp) : Type 0 where
-  pub high : (l j : ℕ) → height < l → book l j ≡ None
-  pub rest : (l j : ℕ) → l + suc n ≡ height → 2 * i ≤ j → book l j ≡ None
-  pub deep : (l j : ℕ) → l + suc n < height → book l j ≡ None
+-- Node (l, j) lies under node (k, i), so many layers down.
+pub record IsUnder (k i l j : ℕ) : Type 0 where
+  pub down : ℕ
+  pub some : 0 < down
+  pub layer : l + down ≡ k
+  pub way : above down j ≡ i
 
--- The book has exactly the known nodes of the layers down to n below the root, and those of the next one that are
--- children of the first i nodes.
-pub record IsDone (d : Descriptor) (image : List ℕ) (n i : ℕ) (book : LookUp) : Type 0 where
-  pub done : (l m j : ℕ) → l + m ≡ height_of d → m ≤ n → book l j ≡ known_below d image m j
-  pub part : (l j : ℕ) → l + suc n ≡ height_of d → j < 2 * i → book l j ≡ known_below d image (suc n) j
+-- The book has nothing under a node.
+abbrev pub IsBareUnder : ℕ → ℕ → LookUp → Type 0
+IsBareUnder k i book = (l j : ℕ) → IsUnder k i l j → book l j ≡ None
+
+-- It has exactly the known nodes under it; or no others.
+abbrev pub HasKnownUnder : Descriptor → List ℕ → ℕ → ℕ → LookUp → Type 0
+HasKnownUnder d image k i book = (l j : ℕ) → IsUnder k i l j → book l j ≡ known d image l j
+
+abbrev pub HasOnlyKnownUnder : Descriptor → List ℕ → ℕ → ℕ → LookUp → Type 0
+HasOnlyKnownUnder d image k i book =
+    (l j : ℕ) (digest : List ℕ) → IsUnder k i l j → book l j ≡ Some digest → known d image l j ≡ Some digest
 
 -- The book has only known nodes.
 abbrev pub HasOnlyKnown : Descriptor → List ℕ → LookUp → Type 0

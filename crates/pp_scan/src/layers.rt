@@ -3,19 +3,20 @@ ghost use Rattle.std.specs.Prelude.{◌≡◌, ℕ, suc, ◌+◌, ◌-◌, ◌*�
 ghost use Rattle.sha2.specs.Sha256.{sha256};
 ghost use Rattle.pp_terms.specs.tree.Book.{IsRooted};
 ghost use Rattle.pp_terms.specs.format.Descriptor as terms;
-ghost use Rattle.pp_terms.specs.format.Descriptor.{chunks_of, height_of};
-ghost use Rattle.pp_terms.specs.disk.Image.{child, slice};
+ghost use Rattle.pp_terms.specs.format.Descriptor.{height_of};
+ghost use Rattle.pp_terms.specs.disk.Image.{child, known, slice};
 ghost use Rattle.pp_terms.specs.disk.Store.{pair_place};
 ghost use Rattle.pp_terms.specs.disk.Disk.{IsKnown};
 ghost use Rattle.pp_tree.specs.Book.{entry, HasRootAlone};
 ghost use Rattle.pp_scan.specs.Look.{OnlyReads};
-ghost use Rattle.pp_scan.specs.Layers.{IsBare, IsDone, HasOnlyKnown};
+ghost use Rattle.pp_scan.specs.Layers.{IsUnder, IsBareUnder, HasKnownUnder, HasOnlyKnownUnder, HasKnown, HasOnlyKnown};
 
 use crate::layout::slot_place;
 use pp_outside::{Disk, DiskFault};
 use pp_tree::{Book, Descriptor, Digest, Node, parent};
 
-/// Adds to a book that has the root alone every node that the file lets be known. `len` is the file's length in bytes.
+/// Adds to a book that has the root alone every node that the file lets be known, from the root down. Of what isn't known
+/// nothing is read. `len` is the file's length in bytes.
 pub(crate) fn know_nodes<D: Disk>(
     descriptor: &Descriptor,
     len: u64,
@@ -30,49 +31,55 @@ pub(crate) fn know_nodes<D: Disk>(
     ensures descriptor { book.new.descriptor ≡ book.old.descriptor }
     ensures kept { IsRooted descriptor.now (entry book.new) }
     ensures only { IsKnown (D.state disk.old) → HasOnlyKnown descriptor.now (D.state disk.old).history.reads (entry book.new) }
-    ensures known { IsKnown (D.state disk.old)
-        → OnOk result (IsDone descriptor.now (D.state disk.old).history.reads (height_of descriptor.now) 0 (entry book.new)) }
-    ensures high { OnOk result (IsBare (height_of descriptor.now) (height_of descriptor.now) 0 (entry book.new)) }
+    ensures known { IsKnown (D.state disk.old) → OnOk result (HasKnown descriptor.now (D.state disk.old).history.reads (entry book.new)) }
 {
-    for depth in 0..descriptor.height() {
-        match know_layer(descriptor, len, depth, disk, book) {
-            Ok(()) => {}
-            Err(fault) => return Err(fault),
-        }
-    }
-    Ok(())
+    let root = Node {
+        layer: descriptor.height(),
+        offset: 0,
+    };
+    know_under(descriptor, len, root, disk, book)
 }
 
-// Adds the children of the nodes that lie so many layers below the root.
-fn know_layer<D: Disk>(
+// Adds the known nodes under a node.
+fn know_under<D: Disk>(
     descriptor: &Descriptor,
     len: u64,
-    depth: u8,
+    node: Node,
     disk: &mut D,
     book: &mut Book,
 ) -> Result<(), DiskFault>
-    requires inner { depth < height_of descriptor.now }
-    requires bare { IsBare (height_of descriptor.now) depth 0 (entry book.old) }
-    requires rooted { IsRooted descriptor.now (entry book.old) }
+    requires low { node.layer ≤ height_of descriptor.now }
+    requires first { (node.offset + 1) * 2 ^ node.layer ≤ 2 ^ 20 }
+    requires bare { IsBareUnder node.layer node.offset (entry book.old) }
     requires counted { IsKnown (D.state disk.old) → len ≡ length (D.state disk.old).history.reads }
 
     ensures looks { OnlyReads (D.state disk.old) result (D.state disk.new) }
     ensures descriptor { book.new.descriptor ≡ book.old.descriptor }
-    ensures kept { IsRooted descriptor.now (entry book.new) }
-    ensures only { IsKnown (D.state disk.old) → IsDone descriptor.now (D.state disk.old).history.reads depth 0 (entry book.old)
-        → HasOnlyKnown descriptor.now (D.state disk.old).history.reads (entry book.new) }
-    ensures known { IsKnown (D.state disk.old) → IsDone descriptor.now (D.state disk.old).history.reads depth 0 (entry book.old)
-        → OnOk result (IsDone descriptor.now (D.state disk.old).history.reads (depth + 1) 0 (entry book.new)) }
-    ensures high { OnOk result (IsBare (height_of descriptor.now) (depth + 1) 0 (entry book.new)) }
+    ensures kept { (d : terms.Descriptor) → IsRooted d (entry book.old) → IsRooted d (entry book.new) }
+    ensures others { (l j : ℕ) → (IsUnder node.layer node.offset l j → ⊥) → entry book.new l j ≡ entry book.old l j }
+    ensures only { IsKnown (D.state disk.old)
+        → entry book.old node.layer node.offset ≡ known descriptor.now (D.state disk.old).history.reads node.layer node.offset
+        → HasOnlyKnownUnder descriptor.now (D.state disk.old).history.reads node.layer node.offset (entry book.new) }
+    ensures known { IsKnown (D.state disk.old)
+        → entry book.old node.layer node.offset ≡ known descriptor.now (D.state disk.old).history.reads node.layer node.offset
+        → OnOk result (HasKnownUnder descriptor.now (D.state disk.old).history.reads node.layer node.offset (entry book.new)) }
 {
-    let layer = descriptor.height() - depth;
-    for offset in 0..1u32 << depth {
-        match know_children(descriptor, len, Node { layer, offset }, disk, book) {
-            Ok(()) => {}
-            Err(fault) => return Err(fault),
-        }
+    if node.layer == 0 {
+        return Ok(());
     }
-    Ok(())
+    if let Err(fault) = know_children(descriptor, len, node, disk, book) {
+        return Err(fault);
+    }
+    let layer = node.layer - 1;
+    let offset = 2 * node.offset;
+    if book.get(Node { layer, offset }).is_none() {
+        return Ok(());
+    }
+    if let Err(fault) = know_under(descriptor, len, Node { layer, offset }, disk, book) {
+        return Err(fault);
+    }
+    let offset = offset + 1;
+    know_under(descriptor, len, Node { layer, offset }, disk, book)
 }
 
 // Adds the children of a node, where the book has it and their pair lies inside the file and has its digest.
