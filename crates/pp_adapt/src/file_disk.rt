@@ -466,3 +466,6 @@ impl<R: Files<File = File> + AllocGlobal> Disk for FileDisk<R> {
         0
     }
 }
+
+#[cfg(test)]
+mod tests;

@@ -162,3 +162,6 @@ impl Gathering {
         Ok(())
     }
 }
+
+#[cfg(test)]
+mod tests;
