@@ -1,1 +1,3 @@
 pub mod Octets
+pub mod Joining
+pub mod Pieces

@@ -1,4 +1,7 @@
 pub mod Counts
+pub mod Extents
 pub mod FileState
 pub mod Folder
+pub mod Gathered
+pub mod Stored
 pub mod UdpState

@@ -5,7 +5,9 @@
 //! socket or a stream holds. That the system does as its manual says is trusted.
 #![tactic(auto)]
 
+mod extents;
 mod file_disk;
+mod gathering;
 mod stdin_source;
 mod stdout_sink;
 #[cfg(test)]

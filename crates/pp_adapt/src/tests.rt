@@ -43,6 +43,85 @@ fn keeps_a_store_in_a_locked_file(rt: HostRuntime) -> Result<(), Fail> {
     Ok(())
 }
 
+// Writes a run of one byte to a disk, and over a list of bytes.
+fn write_both(
+    alloc: Global,
+    disk: &mut impl Disk,
+    plain: &mut Vec<u8>,
+    (place, len, byte): (u32, u32, u8),
+) -> Result<(), Fail> {
+    let piece = vec![in alloc; byte; len as usize]?;
+    disk.write_at(u64::from(place), &piece)?;
+    let start = place as usize;
+    let end = start + len as usize;
+    plain.resize(plain.len().max(end), 0)?;
+    plain[start..end].copy_from_slice(&piece);
+    Ok(())
+}
+
+// Whether a disk reads as these bytes do, up to their end.
+fn reads_as(alloc: Global, disk: &mut impl Disk, plain: &[u8]) -> Result<bool, Fail> {
+    let mut into = vec![in alloc; 7; plain.len().min(1 << 20)]?;
+    disk.read_at(0, &mut into)?;
+    Ok(into.as_slice() == plain)
+}
+
+#[test]
+fn writes_when_it_has_to(rt: HostRuntime) -> Result<(), Fail> {
+    let mut plain = Vec::new(rt.alloc());
+    let mut disk = FileDisk::new(&rt);
+    disk.attach("waiting")?;
+    for write in [(64, 3, b'a'), (70, 3, b'b')] {
+        write_both(rt.alloc(), &mut disk, &mut plain, write)?;
+    }
+    assert_eq!(rt; fs::metadata(&rt, "waiting")?.len(), 0);
+    assert!(rt; reads_as(rt.alloc(), &mut disk, &plain)?);
+    write_both(rt.alloc(), &mut disk, &mut plain, (72, 3, b'c'))?;
+    assert_eq!(rt; fs::metadata(&rt, "waiting")?.len(), 73);
+    assert_eq!(rt; disk.len()?, 75);
+    write_both(rt.alloc(), &mut disk, &mut plain, (80, 3, b'd'))?;
+    disk.attach("another")?;
+    assert!(rt; fs::read(&rt, "waiting")? == plain);
+    Ok(())
+}
+
+#[test]
+fn gathers_writes(rt: HostRuntime) -> Result<(), Fail> {
+    let mut plain = Vec::new(rt.alloc());
+    let mut disk = FileDisk::new(&rt);
+    disk.attach("gathered")?;
+    for write in [
+        // A header, chunks with gaps between them, and a pair in a gap.
+        (0, 64, 1),
+        (64, 1024, 2),
+        (1152, 1024, 3),
+        (1088, 64, 4),
+        (2240, 1024, 5),
+        // Over some of these.
+        (1000, 500, 6),
+        (1050, 100, 7),
+        // Far ahead; then behind, across the window's beginning, and ahead again.
+        (300_000, 10, 8),
+        (64, 10, 9),
+        (299_990, 20, 10),
+        (400_000, 10, 11),
+        (400_020, 10, 12),
+        // As much as can be gathered, and one byte more.
+        (399_000, 262_144, 13),
+        (399_100, 262_145, 14),
+        (800_000, 3, 15),
+        (800_002, 3, 16),
+    ] {
+        write_both(rt.alloc(), &mut disk, &mut plain, write)?;
+    }
+    for i in 0..40 {
+        write_both(rt.alloc(), &mut disk, &mut plain, (800_000 + 9 * i, 5, 17))?;
+    }
+    disk.sync()?;
+    assert!(rt; fs::read(&rt, "gathered")? == plain);
+    Ok(())
+}
+
 #[test]
 fn refuses_what_is_no_store(rt: HostRuntime) -> Result<(), Fail> {
     let _ = fs::remove_dir_all(&rt, "names");
