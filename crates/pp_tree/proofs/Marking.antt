@@ -8,7 +8,7 @@ use Rattle.std.proofs.lemmas.List.{get_or-set_same, get_or-set_other, get_or_pas
 use Rattle.std.proofs.lemmas.Bool.{cases_eq, cases_lt, eqb-true, eqb-false, eq-eqb, ne_eqb, not-true, not-false, lt-ltb, le-ltb, ltb-true, ltb-false, and_cases, and_parts, both_ways}
 use Rattle.std.proofs.lemmas.Bool.Decides.{nat_tests}
 use Rattle.pp_tree.specs.Bits.{bit_of, bits_of}
-use Rattle.pp_tree.specs.Sets.{is_in_all}
+use Rattle.pp_tree.specs.Sets.{is_in_all, IsWordOf, AreMarksOf}
 use Rattle.pp_tree.specs.Marks.{IsMarked, words_for, full_word}
 use Rattle.pp_tree.proofs.Packing.{shifted, zero_at, no_bit, bit_in, bit_past, count_is}
 
@@ -293,3 +293,27 @@ none_marked count words any lacks n m small size any_size zero none lacks_size a
         (λ ge. le-ltb w n ge ∙ sym (ap not (eq-eqb 0 (full_word count w) (
         let none_left : min 64 (count - 64 * w) ≡ 0 = omega arith in sym (ap (λ (k : ℕ). 2 ^ k - 1) none_left)))))
         (cases_lt w n)
+
+-- one word of a list
+pub word_of : (count : ℕ) (words : List ℕ) (xs : List Bool) (w : ℕ) → bits_of count words ≡ xs
+    → ((k : ℕ) → count ≤ k → bit_of words k ≡ false) → IsWordOf xs w (slice_index words w)
+word_of count words xs w view none k lt =
+    let word : (64 * w + k) / 64 ≡ w = omega arith in
+    let place : (64 * w + k) % 64 ≡ k = omega arith in
+    ap (λ (p : ℕ). bit_at (slice_index words w) p == 1) (sym place)
+    ∙ ap (λ (u : ℕ). bit_at (slice_index words u) ((64 * w + k) % 64) == 1) (sym word)
+    ∙ sym (value_bit count words xs (64 * w + k) view none)
+
+-- the marks of a list's words
+pub marks_of : (count : ℕ) (words any : List ℕ) (xs : List Bool) → bits_of count words ≡ xs
+    → ((k : ℕ) → count ≤ k → bit_of words k ≡ false)
+    → length words ≡ words_for count → length any ≡ words_for (length words)
+    → ((w : ℕ) → bit_of any w ≡ not (slice_index words w == 0))
+    → AreMarksOf xs any
+marks_of count words any xs view none size any_size marks = record {
+  size = any_size ∙ ap (λ (n : ℕ). words_for n) (size ∙ ap (λ (n : ℕ). words_for n) (sym (value_size count words xs view)));
+  some = λ i is_set. marks (i / 64) ∙ ap not (ne_eqb (slice_index words (i / 64)) 0 (λ zero.
+      both_ways (bit_of words i)
+      (ap (λ (v : ℕ). bit_at v (i % 64) == 1) zero ∙ ap (λ (b : ℕ). b == 1) (bit_at-zero (i % 64)))
+      (sym (value_bit count words xs i view none) ∙ is_set)));
+}

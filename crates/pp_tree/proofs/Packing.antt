@@ -25,7 +25,7 @@ ones_from first last order inside =
     )
 
 -- which bits it has
-masked : (first last k : ℕ) → first ≤ last → (bit_at (2 ^ (last + 1) - 2 ^ first) k == 1) ≡ (nat_le first k && nat_le k last)
+pub masked : (first last k : ℕ) → first ≤ last → (bit_at (2 ^ (last + 1) - 2 ^ first) k == 1) ≡ (nat_le first k && nat_le k last)
 masked first last k order = ⊎_elim
     (λ below. ap (λ (b : ℕ). b == 1) (bit_at_mask_below first (last + 1) k below) ∙ grind (arith, nat_tests))
     (λ from. ⊎_elim

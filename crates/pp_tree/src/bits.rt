@@ -2,7 +2,7 @@
 ghost use Rattle.std.specs.Prelude.{◌≡◌, ◌≢◌, ℕ, ◌+◌, ◌*◌, ◌/◌, ◌^◌, ◌-◌, ◌<◌, ◌≤◌, ◌&&◌, ◌||◌, nat_le, nat_lt, true, false, replicate, length, slice_index, slice_set, slice_index_or, IfOk};
 ghost use Rattle.pp_tree.specs.Bits.{bit_of};
 
-use crate::words::zeros;
+use crate::words::{mask, zeros};
 use std::alloc::{AllocError, Global};
 use std::marker::Model;
 
@@ -25,15 +25,6 @@ impl Model for Bits {
     ghost view = { λ b. bits_of b.count b.words.items };
 
     ghost invariant = { λ b. IsPacked b.count b.words.items b.summary.items };
-}
-
-// The word whose bits are those from one place to another.
-fn mask(first: usize, last: usize) -> u64
-    requires order { first ≤ last }
-    requires inside { last < 64 }
-    ensures { result ≡ 2 ^ (last + 1) - 2 ^ first }
-{
-    (u64::MAX >> (63 - last)) - ((1 << first) - 1)
 }
 
 // Sets the bits of one word from one place to another.

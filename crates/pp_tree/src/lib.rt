@@ -12,7 +12,7 @@ mod members;
 mod node;
 mod set;
 mod text;
-mod words;
+pub mod words;
 
 pub use bits::Bits;
 pub use book::Book;

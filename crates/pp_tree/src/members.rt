@@ -1,6 +1,7 @@
 // Truth values in words of 64, each word marked by what it has.
 ghost use Rattle.std.specs.Prelude.{◌≡◌, ℕ, ◌^◌, ◌<◌, ◌≤◌, true, false, replicate, length, slice_set, slice_index_or, IfOk, MatchOption};
-ghost use Rattle.pp_tree.specs.Sets.{is_in_all};
+ghost use Rattle.pp_tree.specs.Marks.{words_for};
+ghost use Rattle.pp_tree.specs.Sets.{is_in_all, IsWordOf, AreMarksOf};
 
 use crate::words::{
     change, full, gaps, lowest, lowest_from, next_common, next_set, ones, put, zeros,
@@ -55,6 +56,21 @@ impl Members {
         ensures { result ≡ slice_index_or self.now i false }
     {
         (self.words[i / 64] >> (i % 64)) & 1 == 1
+    }
+
+    /// The members among the 64 numbers of one word.
+    pub fn word(&self, w: usize) -> u64
+        requires { w < words_for (length self.now) }
+        ensures { IsWordOf self.now w result }
+    {
+        self.words[w]
+    }
+
+    /// For each word whether it has a member, 64 words in one.
+    pub fn marks(&self) -> &[u64]
+        ensures { AreMarksOf self.now result.now }
+    {
+        &self.any
     }
 
     /// Makes a number a member or none.

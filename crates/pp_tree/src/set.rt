@@ -1,6 +1,7 @@
 // Sets of chunks.
-ghost use Rattle.std.specs.Prelude.{◌≡◌, ℕ, ◌<◌, ◌≤◌, true, false, replicate, length, count_by, slice_set, slice_index_or, IfOk, IsTrue, MatchOption};
-ghost use Rattle.pp_tree.specs.Sets.{is_in_all};
+ghost use Rattle.std.specs.Prelude.{◌≡◌, ℕ, ◌^◌, ◌<◌, ◌≤◌, true, false, replicate, length, count_by, slice_set, slice_index_or, IfOk, IsTrue, MatchOption};
+ghost use Rattle.pp_tree.specs.Marks.{words_for};
+ghost use Rattle.pp_tree.specs.Sets.{is_in_all, IsWordOf, AreMarksOf};
 
 use crate::members::Members;
 use std::alloc::{AllocError, Global};
@@ -40,6 +41,22 @@ impl ChunkSet {
         self.members.contains(i as usize)
     }
 
+    /// The chunks of the set among 64, those from number 64 * w on, as bits of a word, the lowest first.
+    pub fn word(&self, w: u32) -> u64
+        requires { w < words_for (length self.now) }
+        ensures { IsWordOf self.now w result }
+    {
+        self.members.word(w as usize)
+    }
+
+    /// For each word of 64 chunks whether any is in the set: one bit a word, the lowest first.
+    pub fn marks(&self) -> &[u64]
+        ensures small { length self.now < 2 ^ 32 }
+        ensures marks { AreMarksOf self.now result.now }
+    {
+        self.members.marks()
+    }
+
     /// Adds a chunk, which may be there already.
     pub fn insert(&mut self, i: u32)
         requires { i < length self.old }
@@ -69,7 +86,8 @@ impl ChunkSet {
         self.count
     }
 
-    fn is_empty(&self) -> bool
+    /// Whether no chunk is in the set.
+    pub fn is_empty(&self) -> bool
         ensures { IsTrue result → (k : ℕ) → slice_index_or self.now k false ≡ false }
     {
         self.count == 0

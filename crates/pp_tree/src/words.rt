@@ -1,4 +1,5 @@
-// Bits in words of 64: one of them written, and the least one that is set.
+//! Bits in words of 64, the lowest first: one of them written, the word of a range, and the least one that is set. The bit
+//! of a number n stands in word n / 64, at the place n % 64; past the last word no bit is set.
 ghost use Rattle.std.specs.Prelude.{◌≡◌, ◌≢◌, ℕ, ◌+◌, ◌*◌, ◌/◌, ◌-◌, ◌^◌, ◌<◌, ◌≤◌, ◌==◌, ◌&&◌, nat_lt, replicate, length, slice_index, bit_xor, IfOk, IfSome};
 ghost use Rattle.std.specs.Int.{bit_at};
 ghost use Rattle.pp_tree.specs.Bits.{bit_of};
@@ -19,7 +20,16 @@ fn with_bit(word: u64, place: usize, value: bool) -> u64
     }
 }
 
-// Writes one bit.
+/// The word whose bits are those from one place to another.
+pub fn mask(first: usize, last: usize) -> u64
+    requires order { first ≤ last }
+    requires inside { last < 64 }
+    ensures { result ≡ 2 ^ (last + 1) - 2 ^ first }
+{
+    (u64::MAX >> (63 - last)) - ((1 << first) - 1)
+}
+
+/// Writes one bit, in a word that is there.
 pub fn put(words: &mut [u64], i: usize, value: bool)
     requires { i / 64 < length words.old }
     ensures len { length words.new ≡ length words.old }
@@ -30,7 +40,7 @@ pub fn put(words: &mut [u64], i: usize, value: bool)
     words[i / 64] = with_bit(words[i / 64], i % 64, value);
 }
 
-// Changes one bit from what it is.
+/// Changes one bit from what it is.
 pub fn change(words: &mut [u64], i: usize, old: bool, new: bool)
     requires inside { i / 64 < length words.old }
     requires before { bit_of words.old i ≡ old }
@@ -43,7 +53,7 @@ pub fn change(words: &mut [u64], i: usize, old: bool, new: bool)
     }
 }
 
-// The word of which each bit is set whose number is below a count.
+/// The word of which each bit is set whose number is below a count.
 pub fn full(count: usize, w: usize) -> u64
     requires { w < 2 ^ 32 }
     ensures { result ≡ full_word count w }
@@ -52,7 +62,7 @@ pub fn full(count: usize, w: usize) -> u64
     if rest < 64 { (1 << rest) - 1 } else { u64::MAX }
 }
 
-// The bits below a count that a word has not set.
+/// The bits below a count that a word has not set.
 pub fn gaps(word: u64, count: usize, w: usize) -> u64
     requires { w < 2 ^ 32 }
     ensures { result ≡ bit_xor word (full_word count w) }
@@ -60,14 +70,14 @@ pub fn gaps(word: u64, count: usize, w: usize) -> u64
     word ^ full(count, w)
 }
 
-// So many words, no bit of them set.
+/// So many words, no bit of them set.
 pub fn zeros(alloc: Global, count: usize) -> Result<Vec<u64>, AllocError>
     ensures { IfOk result (λ words. words.items ≡ replicate count 0) }
 {
     vec![in alloc; 0; count]
 }
 
-// Words of which so many bits are set.
+/// Words of which so many bits are set.
 pub fn ones(alloc: Global, count: usize) -> Result<Vec<u64>, AllocError>
     requires { count < 2 ^ 32 }
     ensures { IfOk result (λ words. (length words.items ≡ words_for count)
@@ -81,7 +91,7 @@ pub fn ones(alloc: Global, count: usize) -> Result<Vec<u64>, AllocError>
     Ok(words)
 }
 
-// The place of a word's lowest bit that is set.
+/// The place of a word's lowest bit that is set.
 pub fn lowest(word: u64) -> usize
     requires { 0 < word }
     ensures range { result < 64 }
@@ -91,7 +101,7 @@ pub fn lowest(word: u64) -> usize
     word.trailing_zeros() as usize
 }
 
-// The same from a place on.
+/// The place of a word's lowest bit that is set, from a place on.
 pub fn lowest_from(word: u64, from: usize) -> Option<usize>
     requires { from < 64 }
     ensures range { IfSome result (λ i. i < 64) }
@@ -104,7 +114,7 @@ pub fn lowest_from(word: u64, from: usize) -> Option<usize>
     Some(from + lowest(rest))
 }
 
-// The least number from one on whose bit is set. It passes over 64 at once that are not.
+/// The least number from one on whose bit is set. It passes over 64 at once that are not.
 pub fn next_set(words: &[u64], from: usize) -> Option<usize>
     requires { length words.now < 2 ^ 32 }
     ensures { IsFirstFrom (λ i. bit_of words.now i) from result }
@@ -119,7 +129,7 @@ pub fn next_set(words: &[u64], from: usize) -> Option<usize>
     None
 }
 
-// The least number from one on whose bit is set in three lists of words. It passes over 64 at once that are not.
+/// The least number from one on whose bit is set in three lists of words. It passes over 64 at once that are not.
 pub fn next_common(words: &[u64], other: &[u64], third: &[u64], from: usize) -> Option<usize>
     requires small { length words.now < 2 ^ 32 }
     requires other { length other.now ≡ length words.now }

@@ -1,6 +1,6 @@
 use Rattle.std.proofs.Common.{arith}
 use Rattle.pp_tree.proofs.Packing.{ones_from}
-use Rattle.pp_tree.proofs.bits.mask.Goals as goal
+use Rattle.pp_tree.proofs.words.mask.Goals as goal
 
 pub overflow_sub-result-3 : goal.overflow_sub-result-3
 overflow_sub-result-3 c =
