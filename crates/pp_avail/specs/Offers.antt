@@ -1,7 +1,7 @@
 -- Which chunks the seats offer.
-use Rattle.std.specs.Prelude.{◌≡◌, ℕ, ◌==◌, nat_le, Bool, false, not, ◌&&◌, ◌||◌, List, [], ◌∷◌, count_by, slice_index_or}
+use Rattle.std.specs.Prelude.{◌≡◌, ℕ, ◌==◌, Bool, false, not, ◌&&◌, ◌||◌, List, [], ◌∷◌, count_by, slice_index_or}
 use Rattle.std.specs.List.{range_with_len}
-use Rattle.pp_terms.specs.tree.Range.{Span}
+use Rattle.pp_terms.specs.tree.Range.{Span, within}
 
 -- of a content of so many chunks, for each seat whether it offers each chunk
 pub record Offers : Type 0 where
@@ -18,9 +18,6 @@ copies_in seats i = count_by (λ seat. slice_index_or seat i false) seats
 abbrev pub copies : Offers → ℕ → ℕ
 copies o i = copies_in o.seats i
 
-abbrev pub lies_in : Span → ℕ → Bool
-lies_in span i = nat_le span.first i && nat_le i span.last
-
 -- a seat offers the chunks of a span, or leaves
 pub data Deed : Type 0 where
   Offer : ℕ → Span → Deed
@@ -29,7 +26,7 @@ pub data Deed : Type 0 where
 -- Whether a seat offered a chunk since it last left, the newest deed first.
 abbrev pub offered : List Deed → ℕ → ℕ → Bool
 offered [] seat i = false
-offered (Offer s span ∷ deeds) seat i = offered deeds seat i || (seat == s && lies_in span i)
+offered (Offer s span ∷ deeds) seat i = offered deeds seat i || (seat == s && within span i)
 offered (Leave s ∷ deeds) seat i = not (seat == s) && offered deeds seat i
 
 -- how many of the 64 seats did

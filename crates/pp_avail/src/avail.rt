@@ -1,26 +1,29 @@
 // What the seats offer.
-ghost use Rattle.std.specs.Prelude.{◌≡◌, ◌≢◌, ℕ, ◌^◌, ◌<◌, ◌≤◌, ◌==◌, ◌&&◌, ◌||◌, nat_le, not, true, false, List, [], ◌∷◌, length, replicate, slice_set, slice_index_or, IfOk, MatchOption};
-ghost use Rattle.pp_avail.specs.Offers.{Deed, Offer, Leave, Tells, offers_of, lies_in};
+ghost use Rattle.std.specs.Prelude.{◌≡◌, ◌≢◌, ℕ, ◌/◌, ◌^◌, ◌<◌, ◌≤◌, ◌==◌, ◌&&◌, ◌||◌, nat_le, not, true, false, List, [], ◌∷◌, length, replicate, IfOk, MatchOption};
+ghost use Rattle.pp_terms.specs.tree.Range.{within};
+ghost use Rattle.pp_tree.specs.Marks.{words_for};
+ghost use Rattle.pp_avail.specs.Offers.{Deed, Offer, Leave, Tells, offers_of};
 ghost use Rattle.pp_avail.specs.Offers as offers;
 ghost use Rattle.pp_avail.specs.Picks.{is_candidate};
+ghost use Rattle.pp_avail.specs.Rows.{is_among};
 
-use crate::levels::shift;
+use crate::copies::Copies;
+use crate::row::Row;
 use pp_ranges::ChunkRange;
 use pp_tree::ChunkSet;
+use pp_tree::words::{mask, next_set};
 use std::alloc::{AllocError, Global};
 use std::marker::Model;
 
 const SEATS: usize = 64;
 
-/// The chunks that each of 64 seats offers, of one content.
+/// The chunks that each of 64 seats offers, of one content. One of no chunks takes no memory for them, and keeps no offer.
 #[derive(Drop)]
 pub struct Avail {
     chunks: u32,
-    seats: Vec<ChunkSet>,
+    seats: Vec<Row>,
     // How many seats have each chunk.
-    counts: Vec<u8>,
-    // The chunks of one copy, those of two, and so on.
-    levels: Vec<ChunkSet>,
+    counts: Copies,
 }
 
 impl Model for Avail {
@@ -28,28 +31,34 @@ impl Model for Avail {
 
     ghost Value = { Offers };
 
-    ghost use Rattle.pp_avail.specs.Counts.{IsCounted, IsSorted};
+    ghost use Rattle.pp_avail.specs.Counts.{IsCounted};
 
     ghost view = { λ a. record { chunks = a.chunks; seats = a.seats.items } };
 
-    ghost invariant = { λ a. IsCounted a.chunks a.seats.items a.counts.items × IsSorted a.chunks a.seats.items a.levels.items };
+    ghost invariant = { λ a. IsCounted a.chunks a.seats.items a.counts };
 }
 
-fn zeros(alloc: Global, count: usize) -> Result<Vec<u8>, AllocError>
-    ensures { IfOk result (λ counts. counts.items ≡ replicate count 0) }
+// One empty row for each seat.
+fn empty_rows(alloc: Global, chunks: u32) -> Result<Vec<Row>, AllocError>
+    ensures { IfOk result (λ rows. rows.items ≡ replicate 64 (replicate chunks false)) }
 {
-    vec![in alloc; 0; count]
-}
-
-// One empty set for each seat, and for each number of copies.
-fn empty_sets(alloc: Global, chunks: u32) -> Result<Vec<ChunkSet>, AllocError>
-    ensures { IfOk result (λ sets. sets.items ≡ replicate 64 (replicate chunks false)) }
-{
-    let mut sets = Vec::with_capacity(alloc, SEATS)?;
+    let mut rows = Vec::with_capacity(alloc, SEATS)?;
     for _ in 0..SEATS {
-        sets.push(ChunkSet::none(alloc, chunks)?)?;
+        rows.push(Row::none(alloc, chunks as usize)?)?;
     }
-    Ok(sets)
+    Ok(rows)
+}
+
+// The part of a range that lies in one word.
+fn part(w: usize, first: usize, last: usize) -> u64
+    requires low { first / 64 ≤ w }
+    requires high { w ≤ last / 64 }
+    requires order { first ≤ last }
+    ensures { (i : ℕ) → is_among w result i ≡ (i / 64 == w && (nat_le first i && nat_le i last)) }
+{
+    let low = if first / 64 == w { first % 64 } else { 0 };
+    let high = if last / 64 == w { last % 64 } else { 63 };
+    mask(low, high)
 }
 
 impl Avail {
@@ -59,14 +68,12 @@ impl Avail {
         ensures chunks { IfOk result (λ a. a.chunks ≡ chunks) }
         ensures nothing { IfOk result (λ a. Tells [] a) }
     {
-        let seats = empty_sets(alloc, chunks)?;
-        let counts = zeros(alloc, chunks as usize)?;
-        let levels = empty_sets(alloc, chunks)?;
+        let seats = empty_rows(alloc, chunks)?;
+        let counts = Copies::none(alloc, (chunks as usize).div_ceil(64))?;
         Ok(Avail {
             chunks,
             seats,
             counts,
-            levels,
         })
     }
 
@@ -78,120 +85,103 @@ impl Avail {
         self.chunks
     }
 
-    /// Whether a seat offers a chunk.
+    /// Whether a seat offers a chunk; of no chunks, it offers none.
     pub fn has(&self, seat: u8, i: u32) -> bool
         requires seat { seat < 64 }
-        requires chunk { i < self.now.chunks }
+        requires chunk { 0 < self.now.chunks → i < self.now.chunks }
         ensures { result ≡ offers.has self.now seat i }
     {
-        let set = &self.seats[seat as usize];
-        set.contains(i)
+        self.chunks > 0 && self.seats[seat as usize].has(i as usize)
     }
 
-    /// How many seats have a chunk.
+    /// How many seats have a chunk; of no chunks, none has.
     pub fn copies(&self, i: u32) -> u32
-        requires chunk { i < self.now.chunks }
+        requires chunk { 0 < self.now.chunks → i < self.now.chunks }
         ensures copies { result ≡ offers.copies self.now i }
         ensures range { result ≤ 64 }
         ensures most { self.now.chunks ≤ 2 ^ 20 }
         ensures deeds { (deeds : List Deed) → Tells deeds self.now → result ≡ offers_of deeds i }
     {
-        u32::from(self.counts[i as usize])
+        if self.chunks == 0 {
+            return 0;
+        }
+        self.counts.of(i as usize)
     }
 
-    // A seat has one more chunk.
-    fn add(&mut self, seat: u8, i: u32)
-        requires seat { seat < 64 }
-        requires chunk { i < self.old.chunks }
-        requires absent { offers.has self.old seat i ≡ false }
-        ensures chunks { self.new.chunks ≡ self.old.chunks }
-        ensures seats { (s k : ℕ) → offers.has self.new s k ≡ (offers.has self.old s k || (s == seat && k == i)) }
-    {
-        let set = &mut self.seats[seat as usize];
-        set.insert(i);
-        let count = self.counts[i as usize];
-        self.counts[i as usize] = count + 1;
-        shift(&mut self.levels, i, count, count + 1);
-    }
-
-    // A seat has one chunk fewer.
-    fn take(&mut self, seat: u8, i: u32)
-        requires seat { seat < 64 }
-        requires chunk { i < self.old.chunks }
-        requires held { offers.has self.old seat i ≡ true }
-        ensures chunks { self.new.chunks ≡ self.old.chunks }
-        ensures seats { (s k : ℕ) → offers.has self.new s k ≡ (not (s == seat && k == i) && offers.has self.old s k) }
-    {
-        let set = &mut self.seats[seat as usize];
-        set.remove(i);
-        let count = self.counts[i as usize];
-        self.counts[i as usize] = count - 1;
-        shift(&mut self.levels, i, count, count - 1);
-    }
-
-    /// A seat offers the chunks of a range, which lies in the content.
+    /// A seat offers the chunks of a range, which lies in the content; of no chunks, nothing is kept.
     pub fn offer(&mut self, seat: u8, range: ChunkRange)
         requires seat { seat < 64 }
-        requires inside { range.last < self.old.chunks }
+        requires inside { 0 < self.old.chunks → range.last < self.old.chunks }
         ensures chunks { self.new.chunks ≡ self.old.chunks }
-        ensures seats { (s i : ℕ) → offers.has self.new s i ≡ (offers.has self.old s i || (s == seat && lies_in range i)) }
-        ensures deeds { (deeds : List Deed) → Tells deeds self.old → Tells (Offer seat range ∷ deeds) self.new }
+        ensures seats { 0 < self.old.chunks → (s i : ℕ) → offers.has self.new s i ≡ (offers.has self.old s i || (s == seat && within range i)) }
+        ensures deeds { 0 < self.old.chunks → (deeds : List Deed) → Tells deeds self.old → Tells (Offer seat range ∷ deeds) self.new }
+        ensures none { self.old.chunks ≡ 0 → self.new ≡ self.old }
     {
-        self.fill(seat, range.first(), range.last());
+        if self.chunks > 0 {
+            self.fill(seat, range.first() as usize, range.last() as usize);
+        }
     }
 
     // A seat offers the chunks from one to another.
-    fn fill(&mut self, seat: u8, first: u32, last: u32)
+    fn fill(&mut self, seat: u8, first: usize, last: usize)
         requires seat { seat < 64 }
+        requires order { first ≤ last }
         requires inside { last < self.old.chunks }
         ensures chunks { self.new.chunks ≡ self.old.chunks }
         ensures seats { (s i : ℕ) → offers.has self.new s i ≡ (offers.has self.old s i || (s == seat && (nat_le first i && nat_le i last))) }
     {
-        let mut next = first;
-        while let Some(i) = self.first_absent(seat, next, last) {
-            self.add(seat, i);
-            next = i + 1;
+        for w in first / 64..last / 64 + 1 {
+            self.add(seat, w, part(w, first, last));
         }
     }
 
-    // The least chunk from one to another that a seat doesn't offer.
-    fn first_absent(&self, seat: u8, from: u32, last: u32) -> Option<u32>
+    // A seat offers some chunks of one word.
+    fn add(&mut self, seat: u8, w: usize, chunks: u64)
         requires seat { seat < 64 }
-        requires inside { last < self.now.chunks }
-        ensures most { self.now.chunks ≤ 2 ^ 20 }
-        ensures first { MatchOption result ((i : ℕ) → from ≤ i → i ≤ last → offers.has self.now seat i ≡ true)
-            (λ i. (from ≤ i) × (i ≤ last) × (offers.has self.now seat i ≡ false)
-            × ((k : ℕ) → from ≤ k → k < i → offers.has self.now seat k ≡ true)) }
+        requires here { w < words_for self.old.chunks }
+        requires inside { (i : ℕ) → is_among w chunks i ≡ true → i < self.old.chunks }
+        ensures chunks { self.new.chunks ≡ self.old.chunks }
+        ensures seats { (s i : ℕ) → offers.has self.new s i ≡ (offers.has self.old s i || (s == seat && is_among w chunks i)) }
     {
-        let set = &self.seats[seat as usize];
-        match set.first_absent_from(from) {
-            Some(i) if i <= last => Some(i),
-            _ => None,
-        }
+        let row = &mut self.seats[seat as usize];
+        let fresh = chunks & !row.word(w);
+        row.add(w, fresh);
+        self.counts.raise(w, fresh);
     }
 
-    // The least chunk from one on that a seat offers.
-    fn first_offered(&self, seat: u8, from: u32) -> Option<u32>
+    // A seat offers no chunk of one word any more.
+    fn take(&mut self, seat: u8, w: usize)
+        requires seat { seat < 64 }
+        requires here { w < words_for self.old.chunks }
+        ensures chunks { self.new.chunks ≡ self.old.chunks }
+        ensures seats { (s i : ℕ) → offers.has self.new s i ≡ (not (s == seat && i / 64 == w) && offers.has self.old s i) }
+    {
+        let row = &mut self.seats[seat as usize];
+        let chunks = row.take(w);
+        self.counts.lower(w, chunks);
+    }
+
+    // The least word from one on of which a seat offers a chunk.
+    fn next_word(&self, seat: u8, from: usize) -> Option<usize>
         requires { seat < 64 }
         ensures most { self.now.chunks ≤ 2 ^ 20 }
-        ensures first { MatchOption result ((i : ℕ) → from ≤ i → offers.has self.now seat i ≡ false)
-            (λ i. (from ≤ i) × (i < self.now.chunks) × (offers.has self.now seat i ≡ true)
-            × ((k : ℕ) → from ≤ k → k < i → offers.has self.now seat k ≡ false)) }
+        ensures first { MatchOption result ((i : ℕ) → from ≤ i / 64 → offers.has self.now seat i ≡ false)
+            (λ w. (from ≤ w) × (w < words_for self.now.chunks)
+            × ((i : ℕ) → from ≤ i / 64 → i / 64 < w → offers.has self.now seat i ≡ false)) }
     {
-        let set = &self.seats[seat as usize];
-        set.first_from(from)
+        next_set(self.seats[seat as usize].marks(), from)
     }
 
     // As many copies as a chunk can have.
-    pub(crate) fn most_copies(&self) -> u8
+    pub(crate) fn most_copies(&self) -> u32
         ensures value { result ≡ 64 }
         ensures copies { (seat i : ℕ) → offers.has self.now seat i ≡ true → (0 < offers.copies self.now i) × (offers.copies self.now i ≤ 64) }
     {
-        self.levels.len() as u8
+        self.seats.len() as u32
     }
 
     // The least chunk of so many copies that is wanted, and that the seat has.
-    pub(crate) fn first_of(&self, seat: u8, wanted: &ChunkSet, copies: u8) -> Option<u32>
+    pub(crate) fn first_of(&self, seat: u8, wanted: &ChunkSet, copies: u32) -> Option<u32>
         requires seat { seat < 64 }
         requires wanted { length wanted.now ≡ self.now.chunks }
         requires some { 0 < copies }
@@ -201,9 +191,8 @@ impl Avail {
             (λ i. (i < self.now.chunks) × (is_candidate self.now seat wanted.now i ≡ true) × (offers.copies self.now i ≡ copies)
             × ((j : ℕ) → is_candidate self.now seat wanted.now j ≡ true → offers.copies self.now j ≡ copies → i ≤ j)) }
     {
-        let set = &self.seats[seat as usize];
-        let level = &self.levels[copies as usize - 1];
-        wanted.first_common(set, level)
+        let row = &self.seats[seat as usize];
+        self.counts.first_of(wanted, row, copies)
     }
 
     /// A seat offers nothing any more.
@@ -214,9 +203,9 @@ impl Avail {
         ensures deeds { (deeds : List Deed) → Tells deeds self.old → Tells (Leave seat ∷ deeds) self.new }
     {
         let mut next = 0;
-        while let Some(i) = self.first_offered(seat, next) {
-            self.take(seat, i);
-            next = i + 1;
+        while let Some(w) = self.next_word(seat, next) {
+            self.take(seat, w);
+            next = w + 1;
         }
     }
 }

@@ -1,47 +1,49 @@
-// Chunks by the number of seats that have them.
-ghost use Rattle.std.specs.Prelude.{◌≡◌, ℕ, ◌+◌, ◌<◌, ◌≤◌, ◌==◌, ◌&&◌, ◌||◌, not, [], length, slice_index_or};
-ghost use Rattle.pp_avail.specs.Counts.{is_in};
+// Words by the number of copies that a chunk of them has.
+ghost use Rattle.std.specs.Prelude.{◌≡◌, ◌≢◌, ℕ, ◌+◌, ◌<◌, ◌≤◌, [], length, slice_index_or};
+ghost use Rattle.std.specs.Int.{bit_at};
+ghost use Rattle.pp_avail.specs.Planes.{number_at};
+ghost use Rattle.pp_avail.specs.Levels.{is_in, IsLevelAt};
 
-use pp_tree::ChunkSet;
+use crate::planes::Planes;
+use crate::row::Row;
+use pp_tree::words::lowest;
 
-/// A chunk goes from the set of those with so many copies to that of those with other copies; with none it is in no set.
-pub(crate) fn shift(levels: &mut [ChunkSet], i: u32, from: u8, to: u8)
+/// Brings the levels to the numbers of one word, of which those at some places have changed, equal ones alike.
+pub(crate) fn refresh(levels: &mut [Row], w: usize, old: &Planes, new: &Planes, changed: u64)
     requires width { length levels.old ≡ 64 }
-    requires sizes { (k : ℕ) → k < 64 → i < length (slice_index_or levels.old k []) }
-    requires from { from ≤ 64 }
-    requires to { to ≤ 64 }
+    requires sizes { (k : ℕ) → k < 64 → w < length (slice_index_or levels.old k []) }
+    requires most { (k : ℕ) → k < 64 → (number_at old.now k ≤ 64) × (number_at new.now k ≤ 64) }
+    requires same { (k : ℕ) → k < 64 → bit_at changed k ≡ 0 → number_at new.now k ≡ number_at old.now k }
+    requires alike { (j k : ℕ) → bit_at changed j ≡ 1 → bit_at changed k ≡ 1 → number_at old.now j ≡ number_at old.now k → number_at new.now j ≡ number_at new.now k }
+    requires before { (fewer : ℕ) → fewer < 64 → IsLevelAt levels.old w old.now fewer }
     ensures width { length levels.new ≡ 64 }
     ensures sizes { (k : ℕ) → length (slice_index_or levels.new k []) ≡ length (slice_index_or levels.old k []) }
-    ensures bits { (k j : ℕ) → is_in levels.new k j ≡ ((is_in levels.old k j && not (j == i && k + 1 == from)) || (j == i && k + 1 == to)) }
+    ensures others { (k v : ℕ) → v ≢ w → is_in levels.new k v ≡ is_in levels.old k v }
+    ensures here { (fewer : ℕ) → fewer < 64 → IsLevelAt levels.new w new.now fewer }
 {
-    take_out(levels, i, from);
-    put_in(levels, i, to);
-}
-
-fn take_out(levels: &mut [ChunkSet], i: u32, copies: u8)
-    requires width { length levels.old ≡ 64 }
-    requires sizes { (k : ℕ) → k < 64 → i < length (slice_index_or levels.old k []) }
-    requires most { copies ≤ 64 }
-    ensures width { length levels.new ≡ 64 }
-    ensures sizes { (k : ℕ) → length (slice_index_or levels.new k []) ≡ length (slice_index_or levels.old k []) }
-    ensures bits { (k j : ℕ) → is_in levels.new k j ≡ (is_in levels.old k j && not (j == i && k + 1 == copies)) }
-{
-    if copies > 0 {
-        let set = &mut levels[copies as usize - 1];
-        set.remove(i);
+    let mut rest = changed;
+    while rest != 0 {
+        let k = lowest(rest);
+        let from = old.at(k);
+        mark(levels, w, new, from);
+        mark(levels, w, new, new.at(k));
+        rest &= !old.places_of(from);
     }
 }
 
-fn put_in(levels: &mut [ChunkSet], i: u32, copies: u8)
+// Brings the level of one number to the numbers of one word. None is kept of those with 0.
+fn mark(levels: &mut [Row], w: usize, planes: &Planes, copies: u32)
     requires width { length levels.old ≡ 64 }
-    requires sizes { (k : ℕ) → k < 64 → i < length (slice_index_or levels.old k []) }
+    requires sizes { (k : ℕ) → k < 64 → w < length (slice_index_or levels.old k []) }
     requires most { copies ≤ 64 }
     ensures width { length levels.new ≡ 64 }
     ensures sizes { (k : ℕ) → length (slice_index_or levels.new k []) ≡ length (slice_index_or levels.old k []) }
-    ensures bits { (k j : ℕ) → is_in levels.new k j ≡ (is_in levels.old k j || (j == i && k + 1 == copies)) }
+    ensures others { (k v : ℕ) → v ≢ w → is_in levels.new k v ≡ is_in levels.old k v }
+    ensures levels { (k : ℕ) → k + 1 ≢ copies → is_in levels.new k w ≡ is_in levels.old k w }
+    ensures here { (fewer : ℕ) → fewer + 1 ≡ copies → IsLevelAt levels.new w planes.now fewer }
 {
     if copies > 0 {
-        let set = &mut levels[copies as usize - 1];
-        set.insert(i);
+        let level = &mut levels[copies as usize - 1];
+        level.write(w, planes.places_of(copies) != 0);
     }
 }

@@ -3,11 +3,14 @@
 
 mod avail;
 mod choice;
+mod copies;
 mod levels;
 mod picks;
 #[cfg(test)]
 mod plain;
+mod planes;
 mod ranker;
+mod row;
 #[cfg(test)]
 mod tests;
 

@@ -33,7 +33,7 @@ fn considered(
     seat: u8,
     wanted: &ChunkSet,
     ranker: &Ranker,
-    fewer: u8,
+    fewer: u32,
     best: Option<Choice>,
 ) -> Option<Choice>
     requires seat { seat < 64 }
@@ -44,14 +44,14 @@ fn considered(
 {
     let copies = fewer + 1;
     if let Some(best) = best
-        && best.rank < ranker.rank(0, u32::from(copies))
+        && best.rank < ranker.rank(0, copies)
     {
         return Some(best);
     }
     let Some(chunk) = avail.first_of(seat, wanted, copies) else {
         return best;
     };
-    let rank = ranker.rank(chunk, u32::from(copies));
+    let rank = ranker.rank(chunk, copies);
     let choice = Choice { rank, chunk };
     Some(choice.lesser(best))
 }

@@ -12,20 +12,20 @@ pub enum Rank {
 }
 
 /// What ranks chunks, by the number of a chunk and of the seats that have it.
-pub type Rule = Box<dyn Fn(u32, u32) -> u32 + Drop>;
+pub type Rule = fn(u32, u32) -> u32;
 
-/// A closure that ranks chunks, kept beside its kind and the fact that it may be called at each chunk below 2^20 and each
-/// number of seats up to 64, and gives the rank of its kind there.
-#[derive(Drop)]
+/// A function that ranks chunks, kept beside its kind and the fact that it may be called at each chunk below 2^20 and each
+/// number of seats up to 64, and gives the rank of its kind there. A plain value: one of a kind serves every opening.
+#[derive(Clone, Copy)]
 pub struct Ranker {
     pub kind: Rank,
     rule: Rule,
     ghost follows: { Follows kind (Rule.pre rule) (Rule.post rule) },
 }
 
-fn ask(rule: &Rule, i: u32, copies: u32) -> u32
-    requires { Rule.pre rule.now i copies }
-    ensures { Rule.post rule.now i copies result }
+fn ask(rule: Rule, i: u32, copies: u32) -> u32
+    requires { Rule.pre rule i copies }
+    ensures { Rule.post rule i copies result }
 {
     rule(i, copies)
 }
@@ -45,7 +45,7 @@ impl Ranker {
         requires seats { copies ≤ 64 }
         ensures { result ≡ rank_of self.now.kind i copies }
     {
-        ask(&self.rule, i, copies)
+        ask(self.rule, i, copies)
     }
 }
 
@@ -54,14 +54,18 @@ mod tests {
     use super::*;
     use std::test::Fail;
 
+    fn copies_of(_i: u32, copies: u32) -> u32
+        ensures { result ≡ copies }
+    {
+        copies
+    }
+
     #[test]
     fn keeps_rules(rt: HostRuntime) -> Result<(), Fail> {
-        let ranker = Ranker::new(
-            Rank::Rarest,
-            Box::new(rt.alloc(), |_: u32, copies: u32| copies)?,
-        );
-        assert_eq!(rt; ranker.rank(7, 3), 3);
-        let ranker = Ranker::new(Rank::Sequential, Box::new(rt.alloc(), |_: u32, _: u32| 0)?);
+        let ranker = Ranker::new(Rank::Rarest, copies_of);
+        let same = ranker;
+        assert_eq!(rt; (ranker.rank(7, 3), same.rank(7, 4)), (3, 4));
+        let ranker = Ranker::new(Rank::Sequential, |_: u32, _: u32| 0);
         assert_eq!(rt; ranker.rank(7, 3), 0);
         Ok(())
     }

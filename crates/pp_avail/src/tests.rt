@@ -47,11 +47,8 @@ fn counts_seats(rt: HostRuntime) -> Result<(), Fail> {
 fn picks_the_least_rank(rt: HostRuntime) -> Result<(), Fail> {
     let avail = two_seats(rt.alloc())?;
     let mut wanted = all_wanted(rt.alloc(), 7)?;
-    let rarest = Ranker::new(
-        Rank::Rarest,
-        Box::new(rt.alloc(), |_: u32, copies: u32| copies)?,
-    );
-    let sequential = Ranker::new(Rank::Sequential, Box::new(rt.alloc(), |_: u32, _: u32| 0)?);
+    let rarest = Ranker::new(Rank::Rarest, |_: u32, copies: u32| copies);
+    let sequential = Ranker::new(Rank::Sequential, |_: u32, _: u32| 0);
     assert_eq!(rt; pick(&avail, 0, &wanted, &rarest), Some(4));
     assert_eq!(rt; pick(&avail, 0, &wanted, &sequential), Some(0));
     wanted.remove(0);
@@ -117,11 +114,8 @@ fn picks_alike(alloc: Global, avail: &Avail, seat: u8, ranker: &Ranker) -> Resul
 #[test]
 fn agrees_with_the_plain_pick(rt: HostRuntime) -> Result<(), Fail> {
     let avail = spread(rt.alloc())?;
-    let rarest = Ranker::new(
-        Rank::Rarest,
-        Box::new(rt.alloc(), |_: u32, copies: u32| copies)?,
-    );
-    let sequential = Ranker::new(Rank::Sequential, Box::new(rt.alloc(), |_: u32, _: u32| 0)?);
+    let rarest = Ranker::new(Rank::Rarest, |_: u32, copies: u32| copies);
+    let sequential = Ranker::new(Rank::Sequential, |_: u32, _: u32| 0);
     for seat in [0, 1, 2, 3, 4, 5, 63] {
         assert!(rt;
             picks_alike(rt.alloc(), &avail, seat, &rarest)?,
@@ -205,10 +199,7 @@ fn picks_few_in_order(avail: &Avail, wanted: &mut ChunkSet, ranker: &Ranker) -> 
 fn picks_among_few_wanted(rt: HostRuntime) -> Result<(), Fail> {
     let avail = two_offer_all(rt.alloc())?;
     let mut wanted = none_wanted(rt.alloc(), CHUNKS)?;
-    let rarest = Ranker::new(
-        Rank::Rarest,
-        Box::new(rt.alloc(), |_: u32, copies: u32| copies)?,
-    );
+    let rarest = Ranker::new(Rank::Rarest, |_: u32, copies: u32| copies);
     assert!(rt; picks_few_in_order(&avail, &mut wanted, &rarest));
     assert_eq!(rt;
         (wanted.count(), pick(&avail, 0, &wanted, &rarest)),
@@ -221,10 +212,7 @@ fn picks_among_few_wanted(rt: HostRuntime) -> Result<(), Fail> {
 fn picks_among_all_wanted(rt: HostRuntime) -> Result<(), Fail> {
     let avail = two_offer_all(rt.alloc())?;
     let mut wanted = all_wanted(rt.alloc(), CHUNKS)?;
-    let rarest = Ranker::new(
-        Rank::Rarest,
-        Box::new(rt.alloc(), |_: u32, copies: u32| copies)?,
-    );
+    let rarest = Ranker::new(Rank::Rarest, |_: u32, copies: u32| copies);
     assert!(rt; picks_in_order(&avail, &mut wanted, &rarest, 100_000, 1));
     assert_eq!(rt;
         (wanted.count(), wanted.first_from(0)),

@@ -37,7 +37,7 @@ masked first last k order = ⊎_elim
 either_bit : (a b : ℕ) → a < 2 → b < 2 → (max a b == 1) ≡ (a == 1 || b == 1)
 either_bit a b low small = grind (arith, nat_tests)
 
-joined : (a m k : ℕ) → (bit_at (bit_or a m) k == 1) ≡ (bit_at a k == 1 || bit_at m k == 1)
+pub joined : (a m k : ℕ) → (bit_at (bit_or a m) k == 1) ≡ (bit_at a k == 1 || bit_at m k == 1)
 joined a m k = ap (λ (b : ℕ). b == 1) (bit_at_or a m k) ∙ either_bit (bit_at a k) (bit_at m k) (bit_at-lt a k) (bit_at-lt m k)
 
 in_word : (first last i : ℕ) → first / 64 ≡ last / 64 → i / 64 ≡ first / 64

@@ -1,77 +1,37 @@
-use Rattle.std.proofs.Common.{sym, ap, ◌∙◌, ◌≡◌, ◌+◌, ◌<◌, ◌==◌, ◌&&◌, ◌||◌, not, false, true, [], length, arith, slice_index_or, slice_set, subst}
-use Rattle.std.specs.Vec.{with_items}
-use Rattle.std.proofs.lemmas.List.{with_items_is}
-use Rattle.pp_avail.specs.Offers.{copies_in}
-use Rattle.pp_avail.specs.Counts.{IsSorted, is_in}
-use Rattle.pp_avail.proofs.Counting.{seat_read, count_read, room, counted_more, sorted_more, has_added}
+use Rattle.std.proofs.Common.{◌≡◌, ◌==◌, ◌&&◌, ◌||◌, false, [], ap, sym, ◌∙◌, arith, length, slice_index, slice_index_or}
+use Rattle.pp_avail.specs.Rows.{is_among}
+use Rattle.pp_avail.proofs.Counting.{seat_read, room, counted_anew, counts_with, row_with, fresh_parts, has_added}
 use Rattle.pp_avail.proofs.avail.Avail.add.Goals as goal
 
-pub overflow_add-count : goal.overflow_add-count
-overflow_add-count c =
-    let inside : c.args.i < c.self.inside.chunks = omega (arith, ap (λ o. o.chunks) c.self.view_is, c.requires.chunk) in
-    let absent : slice_index_or (slice_index_or c.self.inside.seats.items c.args.seat []) c.args.i false ≡ false =
-    ap (λ o. slice_index_or (slice_index_or o.seats c.args.seat []) c.args.i false) c.self.view_is ∙ c.requires.absent in
-    let read : c.index-count.result.now ≡ copies_in c.self.inside.seats.items c.args.i =
-    count_read c.self.inside.chunks c.self.inside.seats.items c.self.inside.counts.items c.args.i c.index-count.result.now c.self.invariant.0 inside c.index-count.ensures in
-    let most = room c.self.inside.chunks c.self.inside.seats.items c.self.inside.counts.items c.args.seat c.args.i c.self.invariant.0 c.requires.seat inside absent in
-    omega (arith, read, most)
+pub add-requires-clause-inside : goal.add-requires-clause-inside
+add-requires-clause-inside c = λ i among.
+    let row : c.index_mut-row.result.now ≡ slice_index_or c.self.inside.seats.items c.args.seat [] =
+    seat_read c.self.inside.seats.items c.args.seat c.index_mut-row.result.now (omega (arith, c.self.invariant.width, c.requires.seat)) c.index_mut-row.ensures.value in
+    let parts = fresh_parts c.index_mut-row.result.now c.args.w c.args.chunks c.word.result i c.word.type_inv c.word.ensures among in
+    omega (arith, c.requires.inside i parts.0, ap (λ xs. length xs) row, c.self.invariant.sizes c.args.seat c.requires.seat, ap (λ o. o.chunks) c.self.view_is)
 
-pub overflow_add-count-2 : goal.overflow_add-count-2
-overflow_add-count-2 c =
-    let inside : c.args.i < c.self.inside.chunks = omega (arith, ap (λ o. o.chunks) c.self.view_is, c.requires.chunk) in
-    let absent : slice_index_or (slice_index_or c.self.inside.seats.items c.args.seat []) c.args.i false ≡ false =
-    ap (λ o. slice_index_or (slice_index_or o.seats c.args.seat []) c.args.i false) c.self.view_is ∙ c.requires.absent in
-    let read : c.index-count.result.now ≡ copies_in c.self.inside.seats.items c.args.i =
-    count_read c.self.inside.chunks c.self.inside.seats.items c.self.inside.counts.items c.args.i c.index-count.result.now c.self.invariant.0 inside c.index-count.ensures in
-    let most = room c.self.inside.chunks c.self.inside.seats.items c.self.inside.counts.items c.args.seat c.args.i c.self.invariant.0 c.requires.seat inside absent in
-    omega (arith, read, most)
-
-pub shift-requires-clause-from : goal.shift-requires-clause-from
-shift-requires-clause-from c =
-    let inside : c.args.i < c.self.inside.chunks = omega (arith, ap (λ o. o.chunks) c.self.view_is, c.requires.chunk) in
-    let absent : slice_index_or (slice_index_or c.self.inside.seats.items c.args.seat []) c.args.i false ≡ false =
-    ap (λ o. slice_index_or (slice_index_or o.seats c.args.seat []) c.args.i false) c.self.view_is ∙ c.requires.absent in
-    let read : c.index-count.result.now ≡ copies_in c.self.inside.seats.items c.args.i =
-    count_read c.self.inside.chunks c.self.inside.seats.items c.self.inside.counts.items c.args.i c.index-count.result.now c.self.invariant.0 inside c.index-count.ensures in
-    let most = room c.self.inside.chunks c.self.inside.seats.items c.self.inside.counts.items c.args.seat c.args.i c.self.invariant.0 c.requires.seat inside absent in
-    omega (arith, read, most)
-
-pub shift-requires-clause-to : goal.shift-requires-clause-to
-shift-requires-clause-to c =
-    let inside : c.args.i < c.self.inside.chunks = omega (arith, ap (λ o. o.chunks) c.self.view_is, c.requires.chunk) in
-    let absent : slice_index_or (slice_index_or c.self.inside.seats.items c.args.seat []) c.args.i false ≡ false =
-    ap (λ o. slice_index_or (slice_index_or o.seats c.args.seat []) c.args.i false) c.self.view_is ∙ c.requires.absent in
-    let read : c.index-count.result.now ≡ copies_in c.self.inside.seats.items c.args.i =
-    count_read c.self.inside.chunks c.self.inside.seats.items c.self.inside.counts.items c.args.i c.index-count.result.now c.self.invariant.0 inside c.index-count.ensures in
-    let most = room c.self.inside.chunks c.self.inside.seats.items c.self.inside.counts.items c.args.seat c.args.i c.self.invariant.0 c.requires.seat inside absent in
-    omega (arith, read, most)
+pub raise-requires-clause-room : goal.raise-requires-clause-room
+raise-requires-clause-room c = λ i among.
+    let row : c.index_mut-row.result.now ≡ slice_index_or c.self.inside.seats.items c.args.seat [] =
+    seat_read c.self.inside.seats.items c.args.seat c.index_mut-row.result.now (omega (arith, c.self.invariant.width, c.requires.seat)) c.index_mut-row.ensures.value in
+    let parts = fresh_parts c.index_mut-row.result.now c.args.w c.args.chunks c.word.result i c.word.type_inv c.word.ensures among in
+    room c.self.inside.chunks c.self.inside.seats.items c.self.inside.counts c.args.seat i c.self.invariant c.requires.seat
+    (ap (λ xs. slice_index_or xs i false) (sym row) ∙ parts.1)
 
 pub invariant_of-self : goal.invariant_of-self
 invariant_of-self c =
-    let inside : c.args.i < c.self.inside.chunks = omega (arith, ap (λ o. o.chunks) c.self.view_is, c.requires.chunk) in
-    let absent : slice_index_or (slice_index_or c.self.inside.seats.items c.args.seat []) c.args.i false ≡ false =
-    ap (λ o. slice_index_or (slice_index_or o.seats c.args.seat []) c.args.i false) c.self.view_is ∙ c.requires.absent in
-    let read : c.index-count.result.now ≡ copies_in c.self.inside.seats.items c.args.i =
-    count_read c.self.inside.chunks c.self.inside.seats.items c.self.inside.counts.items c.args.i c.index-count.result.now c.self.invariant.0 inside c.index-count.ensures in
-    let written = c.insert.ensures ∙ ap (λ xs. slice_set xs c.args.i true) (seat_read c.self.inside.seats.items c.args.seat c.index_mut-set.result.now
-    (omega (arith, c.self.invariant.0.width, c.requires.seat)) c.index_mut-set.ensures.value) in
-    let whole : (with_items c.self.inside.levels c.shift.new.levels).items ≡ c.shift.new.levels =
-    with_items_is c.self.inside.levels c.shift.new.levels (omega (arith, c.shift.ensures.width, c.deref_mut.ensures.len, ap (λ xs. length xs) c.deref_mut.ensures.value, c.self.invariant.1.width)) in (
-      counted_more c.self.inside.chunks c.self.inside.seats.items c.self.inside.counts.items c.args.seat c.args.i c.index-count.result.now c.insert.new.self
-          c.self.invariant.0 c.requires.seat inside absent read written,
-      subst (λ xs. IsSorted c.self.inside.chunks (slice_set c.self.inside.seats.items c.args.seat c.insert.new.self) xs) (sym whole)
-          (sorted_more c.self.inside.chunks c.self.inside.seats.items c.self.inside.counts.items c.self.inside.levels.items c.shift.new.levels c.args.seat c.args.i c.index-count.result.now c.insert.new.self
-          c.self.invariant.0 c.self.invariant.1 c.requires.seat inside absent read written c.shift.ensures.width
-          (λ k. c.shift.ensures.sizes k ∙ ap (λ xs. length (slice_index_or xs k [])) c.deref_mut.ensures.value)
-          (λ k j. c.shift.ensures.bits k j ∙ ap (λ xs. (is_in xs k j && not (j == c.args.i && k + 1 == c.index-count.result.now)) || (j == c.args.i && k + 1 == c.index-count.result.now + 1)) c.deref_mut.ensures.value)),
-    )
+    let row : c.index_mut-row.result.now ≡ slice_index_or c.self.inside.seats.items c.args.seat [] =
+    seat_read c.self.inside.seats.items c.args.seat c.index_mut-row.result.now (omega (arith, c.self.invariant.width, c.requires.seat)) c.index_mut-row.ensures.value in
+    counted_anew c.self.inside.chunks c.self.inside.seats.items c.self.inside.counts c.raise.new.self c.args.seat c.add.new.self c.self.invariant c.requires.seat
+    (c.add.ensures.len ∙ ap (λ xs. length xs) row ∙ c.self.invariant.sizes c.args.seat c.requires.seat)
+    c.raise.ensures.len
+    (λ i. counts_with (slice_index_or c.self.inside.seats.items c.args.seat []) c.index_mut-row.result.now c.add.new.self c.args.w c.args.chunks c.word.result i
+    (slice_index c.self.inside.counts i) (slice_index c.raise.new.self i) row c.word.type_inv c.word.ensures (c.add.ensures.bits i) (c.raise.ensures.counts i))
 
 pub returns-clause-seats : goal.returns-clause-seats
-returns-clause-seats c = λ s k.
-    let inside : c.args.i < c.self.inside.chunks = omega (arith, ap (λ o. o.chunks) c.self.view_is, c.requires.chunk) in
-    ap (λ seat. slice_index_or (slice_index_or (slice_set c.self.inside.seats.items c.args.seat seat) s []) k false)
-    (c.insert.ensures ∙ ap (λ xs. slice_set xs c.args.i true) (seat_read c.self.inside.seats.items c.args.seat c.index_mut-set.result.now
-    (omega (arith, c.self.invariant.0.width, c.requires.seat)) c.index_mut-set.ensures.value))
-    ∙ has_added c.self.inside.seats.items c.args.seat c.args.i s k (omega (arith, c.self.invariant.0.width, c.requires.seat))
-    (omega (arith, c.self.invariant.0.sizes c.args.seat c.requires.seat, inside))
-    ∙ ap (λ o. slice_index_or (slice_index_or o.seats s []) k false || (s == c.args.seat && k == c.args.i)) c.self.view_is
+returns-clause-seats c = λ s i.
+    let row : c.index_mut-row.result.now ≡ slice_index_or c.self.inside.seats.items c.args.seat [] =
+    seat_read c.self.inside.seats.items c.args.seat c.index_mut-row.result.now (omega (arith, c.self.invariant.width, c.requires.seat)) c.index_mut-row.ensures.value in
+    has_added c.self.inside.seats.items c.args.seat s i c.add.new.self (is_among c.args.w c.args.chunks i) (omega (arith, c.self.invariant.width, c.requires.seat))
+    (row_with (slice_index_or c.self.inside.seats.items c.args.seat []) c.index_mut-row.result.now c.add.new.self c.args.w c.args.chunks c.word.result i row c.word.type_inv c.word.ensures (c.add.ensures.bits i))
+    ∙ ap (λ o. slice_index_or (slice_index_or o.seats s []) i false || (s == c.args.seat && is_among c.args.w c.args.chunks i)) c.self.view_is

@@ -1,19 +1,21 @@
-use Rattle.std.proofs.Common.{◌≡◌, ◌<◌, ◌∙◌, ap, sym, length, arith}
+use Rattle.std.proofs.Common.{◌≡◌, ◌∙◌, ap, sym, length}
 use Rattle.pp_avail.specs.Offers.{copies_in}
-use Rattle.pp_avail.proofs.Counting.{copies_at_most, told_copies, count_read}
+use Rattle.pp_avail.proofs.Counting.{told_copies, no_chunks}
 use Rattle.pp_avail.proofs.avail.Avail.copies.Goals as goal
 
-pub returns-clause-range : goal.returns-clause-range
-returns-clause-range c =
-    let inside : c.args.i < c.self.inside.chunks = omega (arith, ap (λ o. o.chunks) c.self.view_is, c.requires.chunk) in
-    let read : c.index.result.now ≡ copies_in c.self.inside.seats.items c.args.i =
-    count_read c.self.inside.chunks c.self.inside.seats.items c.self.inside.counts.items c.args.i c.index.result.now c.self.invariant.0 inside c.index.ensures in
-    omega (arith, c.from.ensures, read, copies_at_most c.self.inside.seats.items c.args.i, c.self.invariant.0.width)
+pub returns-then-self-eq0-clause-copies : goal.returns-then-self-eq0-clause-copies
+returns-then-self-eq0-clause-copies c =
+    sym (no_chunks c.self.inside.seats.items c.self.inside.counts c.self.inside.chunks c.args.i c.self.invariant c.if-self-eq0.true)
+    ∙ ap (λ o. copies_in o.seats c.args.i) c.self.view_is
+
+pub returns-then-self-eq0-clause-deeds : goal.returns-then-self-eq0-clause-deeds
+returns-then-self-eq0-clause-deeds c = λ deeds tells.
+    sym (no_chunks c.self.inside.seats.items c.self.inside.counts c.self.inside.chunks c.args.i c.self.invariant c.if-self-eq0.true)
+    ∙ ap (λ o. copies_in o.seats c.args.i) c.self.view_is
+    ∙ told_copies deeds c.args.self.now c.args.i (ap (λ o. length o.seats) (sym c.self.view_is) ∙ c.self.invariant.width) tells
 
 pub returns-clause-deeds : goal.returns-clause-deeds
 returns-clause-deeds c = λ deeds tells.
-    let inside : c.args.i < c.self.inside.chunks = omega (arith, ap (λ o. o.chunks) c.self.view_is, c.requires.chunk) in
-    c.from.ensures
-    ∙ count_read c.self.inside.chunks c.self.inside.seats.items c.self.inside.counts.items c.args.i c.index.result.now c.self.invariant.0 inside c.index.ensures
+    c.of.ensures ∙ c.self.invariant.copies c.args.i
     ∙ ap (λ o. copies_in o.seats c.args.i) c.self.view_is
-    ∙ told_copies deeds c.args.self.now c.args.i (ap (λ o. length o.seats) (sym c.self.view_is) ∙ c.self.invariant.0.width) tells
+    ∙ told_copies deeds c.args.self.now c.args.i (ap (λ o. length o.seats) (sym c.self.view_is) ∙ c.self.invariant.width) tells
