@@ -1,5 +1,6 @@
 -- One extent more among sorted ones.
-use Rattle.std.proofs.Common.{◌≡◌, ◌⊎◌, inl, inr, ℕ, suc, ◌+◌, ◌<◌, ◌≤◌, Bool, true, false, ◌||◌, List, [], ◌∷◌, ◌++◌, length, get_or, take, drop, refl, ◌∙◌, ap, arith}
+use Rattle.std.proofs.Common.{◌≡◌, ◌⊎◌, inl, inr, ℕ, suc, ◌+◌, ◌<◌, ◌≤◌, Bool, true, false, ◌||◌, List, [], ◌∷◌, ◌++◌, length, get_or, take, drop, refl, sym, ◌∙◌, ap, arith}
+use Rattle.std.proofs.Math.Bool.{or_comm}
 use Rattle.std.proofs.lemmas.Bool.{cases_lt, lt-ltb, le-ltb, le-leb, lt-leb}
 use Rattle.std.proofs.lemmas.Bool.Decides.{nat_tests}
 use Rattle.std.specs.Prelude.{insert}
@@ -32,12 +33,6 @@ or_regroup : (a b c : Bool) → ((a || b) || c) ≡ (a || (b || c))
 or_regroup true b c = refl
 or_regroup false b c = refl
 
-or_turned : (a b c : Bool) → (a || (b || c)) ≡ (b || (a || c))
-or_turned true true c = refl
-or_turned true false c = refl
-or_turned false true c = refl
-or_turned false false c = refl
-
 pub swallowed_apart : (low : ℕ) (es : List Extent) (n : Extent) → AreApart low es → low ≤ n.start → n.start < n.end → n.end ≤ WINDOW → AreApart low (whole_of es n ∷ rest_of es n)
 swallowed_apart low [] n apart a b c = (a, b, c, tt)
 swallowed_apart low (e ∷ es) n apart a b c = elim (cases_lt n.end e.start) [
@@ -66,7 +61,8 @@ pub joined_covers : (low : ℕ) (es : List Extent) (n : Extent) (k : ℕ) → Ar
 joined_covers low [] n k apart = refl
 joined_covers low (e ∷ es) n k apart = elim (cases_lt e.end n.start) [
   | inl before ↦ rw (lt-ltb e.end n.start before)
-      (ap (λ (b : Bool). is_in e k || b) (joined_covers (suc e.end) es n k apart.3) ∙ or_turned (is_in e k) (is_in n k) (is_covered es k))
+      (ap (λ (b : Bool). is_in e k || b) (joined_covers (suc e.end) es n k apart.3) ∙ sym (or_regroup (is_in e k) (is_in n k) (is_covered es k))
+      ∙ ap (λ (b : Bool). b || is_covered es k) (or_comm (is_in e k) (is_in n k)) ∙ or_regroup (is_in n k) (is_in e k) (is_covered es k))
   | inr met ↦ rw (le-ltb e.end n.start met) (swallowed_covers low (e ∷ es) n k apart met)
 ]
 

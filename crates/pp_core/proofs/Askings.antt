@@ -3,7 +3,7 @@ use Rattle.std.proofs.Common.{◌≡◌, ◌⊎◌, inr, ⊎_elim, ℕ, ◌+◌,
 use Rattle.std.proofs.lemmas.Bool.{and_parts, and_from, or_cases, or_left, or_right, not-true, not_from_false, cases_Bool, both_ways, cond-true, cond-false, le-leb, leb-true, lt-ltb, ltb-true, false_from_ne_true, false≢true}
 use Rattle.pp_terms.specs.tree.Range.{Span, within, has, IsRunsFrom}
 use Rattle.pp_ranges.specs.Edits.{inserted, removed, is_apart}
-use Rattle.pp_ranges.proofs.Lengths.{inserted_length, removed_few}
+use Rattle.pp_ranges.proofs.Lengths.{inserted_length, removed_few, kept_length}
 use Rattle.pp_ranges.proofs.Runs.{inserted_has, inserted_runs, removed_has, removed_runs, filter_runs}
 use Rattle.pp_requests.specs.Lists.{are_too_many, requested, cancelled, without}
 use Rattle.pp_core.specs.Hearing.{inside}
@@ -106,21 +106,13 @@ filter_has part (x ∷ list) i e = ⊎_elim
     (rest.0, or_right (within x i) (has list i) rest.1))
     (cases_Bool (is_apart part x))
 
-filter_fewer : (p : Span → Bool) (list : List Span) → length (filter p list) ≤ length list
-filter_fewer p [] = omega arith
-filter_fewer p (x ∷ list) = by (p x) (filter_fewer p list)
-  where
-    by : (b : Bool) → length (filter p list) ≤ length list → length (cond b (x ∷ filter p list) (filter p list)) ≤ length (x ∷ list)
-    by true less = omega arith
-    by false less = omega arith
-
 pub is_let_go : (part : Span) (list : List Span) → part.first ≤ part.last → IsRunsFrom 0 list → IsLetGo part list (cancelled part list)
 is_let_go part list order runs = ⊎_elim
     (λ many. subst (λ (xs : List Span). IsLetGo part list xs) (sym (cond-true (are_too_many (removed part list)) (filter (is_apart part) list) (removed part list) many)) (record {
       runs = filter_runs (is_apart part) list 0 runs;
       from = λ i e. filter_has part list i e;
       to = λ few. absurd (both_ways (are_too_many (removed part list)) few many);
-      few = let less = filter_fewer (is_apart part) list in omega arith;
+      few = let less = kept_length (is_apart part) list in omega arith;
     }))
     (λ few. subst (λ (xs : List Span). IsLetGo part list xs) (sym (cond-false (are_too_many (removed part list)) (filter (is_apart part) list) (removed part list) few)) (record {
       runs = removed_runs part list 0 order runs;

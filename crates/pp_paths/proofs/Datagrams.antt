@@ -30,7 +30,8 @@ use Rattle.pp_paths.proofs.PeakNodes.{peak_known, peaks_known}
 use Rattle.pp_paths.proofs.Followed.{Follows, HasNoOther}
 use Rattle.pp_paths.proofs.SettledPeaks.{settled_known}
 use Rattle.pp_paths.proofs.Verdicts.{as_fits}
-use Rattle.pp_paths.proofs.ProvenChunks.{Reaches, above_half, Counted, counted, last_there, past_full, covered, followed_is_settled, followed_fits}
+use Rattle.pp_tree.proofs.Halving.{above_half}
+use Rattle.pp_paths.proofs.ProvenChunks.{Reaches, Counted, counted, last_there, past_full, covered, followed_is_settled, followed_fits}
 
 abbrev at_node : ℕ → ℕ → Node
 at_node k j = record { layer = k; offset = j }

@@ -17,7 +17,8 @@ use Rattle.pp_terms.proofs.Peaks.{peak_in, peak_found, above_is}
 use Rattle.pp_paths.specs.Law.{ProvenIsSettled, ProvenFits, ProvenOrClash}
 use Rattle.pp_paths.proofs.PeakNodes.{layer_within, peak_known}
 use Rattle.pp_paths.proofs.Followed.{Follows, HasNoOther, IsFollowed}
-use Rattle.pp_paths.proofs.ProvenChunks.{Counted, counted, climbed_on, above_half, above_twice, past_full, last_there, followed_is_settled, followed_fits}
+use Rattle.pp_tree.proofs.Halving.{above_half}
+use Rattle.pp_paths.proofs.ProvenChunks.{Counted, counted, climbed_on, above_twice, past_full, last_there, followed_is_settled, followed_fits}
 use Rattle.pp_paths.proofs.ProvenClashes.{followed_or_clash}
 use Rattle.pp_terms.proofs.Facts.{bytes_cases}
 

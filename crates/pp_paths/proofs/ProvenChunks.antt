@@ -16,6 +16,7 @@ use Rattle.pp_terms.specs.tree.Bins.{sibling}
 use Rattle.pp_terms.proofs.Heights.{height_is}
 use Rattle.pp_tree.specs.declared.node.Node.{Node}
 use Rattle.pp_terms.proofs.Peaks.{above_is}
+use Rattle.pp_tree.proofs.Halving.{above_half}
 use Rattle.pp_tree.proofs.Sizes.{chunk_count_range, chunk_size_range}
 use Rattle.pp_paths.specs.declared.climbing.Climb.{Climb}
 use Rattle.pp_paths.specs.declared.climbing.Climb.TheVariants.{Reached}
@@ -32,10 +33,6 @@ use Rattle.pp_paths.proofs.Verdicts.{same_as_itself, as_fits}
 use Rattle.pp_paths.proofs.SettledPeaks.{settled_known}
 
 -- halving in two parts
-pub above_half : (n j : ℕ) → above n (j / 2) ≡ above (suc n) j
-above_half zero j = refl
-above_half (suc n) j = ap (λ (m : ℕ). m / 2) (above_half n j)
-
 pub above_twice : (a b c m : ℕ) → m ≡ a + b → above m c ≡ above a (above b c)
 above_twice zero b c m e = ap (λ (n : ℕ). above n c) (omega arith)
 above_twice (suc a) b c zero e = absurd (omega arith)

@@ -14,7 +14,8 @@ use Rattle.pp_terms.specs.tree.Bins.{sibling}
 use Rattle.pp_paths.specs.Law.{ClimbClashes, ProofClashes}
 use Rattle.pp_paths.proofs.Followed.{Follows, IsFollowed}
 use Rattle.pp_paths.proofs.Growth.{option_cases, even_sibling, odd_sibling, sibling_absent}
-use Rattle.pp_paths.proofs.ProvenChunks.{Counted, counted, climbed_on, above_half, past_full, last_there, covered}
+use Rattle.pp_tree.proofs.Halving.{above_half}
+use Rattle.pp_paths.proofs.ProvenChunks.{Counted, counted, climbed_on, past_full, last_there, covered}
 use Rattle.pp_paths.proofs.PeakNodes.{layer_within, peak_known}
 use Rattle.pp_terms.proofs.Heights.{height_is}
 use Rattle.pp_terms.proofs.Nodes.{hung}

@@ -15,6 +15,7 @@ use Rattle.pp_terms.specs.disk.Image.{slice, half, child, known, known_below}
 use Rattle.pp_terms.specs.disk.Store.{chunk_place, pair_place}
 use Rattle.pp_tree.specs.Book.{HasRootAlone}
 use Rattle.pp_terms.proofs.Facts.{which_half}
+use Rattle.pp_tree.proofs.Halving.{above_half}
 use Rattle.pp_scan.specs.Layers.{IsUnder, IsBareUnder, HasKnownUnder, HasOnlyKnownUnder, HasOnlyKnown, HasKnown}
 use Rattle.pp_scan.proofs.Children.{node_slot, child_none}
 
@@ -52,11 +53,6 @@ known_child d image k j le =
   where
     within : (l : ℕ) → l ≤ height_of d → nat_le l (height_of d) ≡ true
     within l low = grind (arith, nat_tests)
-
--- halving in two parts
-above_half : (n j : ℕ) → above n (j / 2) ≡ above (suc n) j
-above_half zero j = refl
-above_half (suc n) j = ap (λ (m : ℕ). m / 2) (above_half n j)
 
 -- under what isn't known nothing is
 pub unknown_under : (d : Descriptor) (image : List ℕ) (k i l j : ℕ) → k ≤ height_of d → IsUnder k i l j → known d image k i ≡ None → known d image l j ≡ None

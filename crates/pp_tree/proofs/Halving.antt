@@ -5,6 +5,11 @@ use Rattle.std.proofs.lemmas.Bool.Decides.{nat_tests}
 use Rattle.pp_terms.specs.tree.Tree.{above, peaks_below, Node}
 use Rattle.pp_terms.proofs.Peaks.{above_is}
 
+-- halving once, and then so many times
+pub above_half : (n j : ℕ) → above n (j / 2) ≡ above (suc n) j
+above_half zero j = refl
+above_half (suc n) j = ap (λ (m : ℕ). m / 2) (above_half n j)
+
 one_peak : (m n : ℕ) → n / 2 ^ m % 2 ≡ 1
     → peaks_below (suc m) n ≡ record { layer = m; offset = n / 2 ^ m - 1 } ∷ peaks_below m n
 one_peak m n odd =

@@ -316,8 +316,5 @@ marks_of count words any xs view none size any_size marks = record {
       both_ways (bit_of words i)
       (ap (λ (v : ℕ). bit_at v (i % 64) == 1) zero ∙ ap (λ (b : ℕ). b == 1) (bit_at-zero (i % 64)))
       (sym (value_bit count words xs i view none) ∙ is_set)));
-<<<<<<< HEAD
-=======
   inside = λ w is_set. omega (arith, word_within words w (marked (slice_index words w) 0 (bit_of any w) (marks w) is_set), size, value_size count words xs view);
->>>>>>> 5ca64675dbeacf6267f362620c50a26d5e89574a
 }
