@@ -1,5 +1,5 @@
 -- An ACK that is cut to a content, all in flight being chunks of it.
-use Rattle.std.proofs.Common.{◌≡◌, ℕ, ◌+◌, ◌-◌, ◌*◌, ◌<◌, ◌==◌, min, nat_le, Bool, true, false, cond, not, ◌&&◌, ◌||◌, Option, Some, None, List, [], ◌∷◌, ◌++◌, refl, sym, ◌∙◌, ap, arith}
+use Rattle.std.proofs.Common.{◌≡◌, ℕ, ◌+◌, ◌-◌, ◌*◌, ◌<◌, ◌==◌, min, nat_le, Bool, true, false, cond, ◌&&◌, ◌||◌, Option, Some, None, List, [], ◌∷◌, ◌++◌, refl, sym, ◌∙◌, arith}
 use Rattle.std.specs.List.{AllByRecursion}
 use Rattle.std.proofs.lemmas.Bool.Decides.{nat_tests}
 use Rattle.std.proofs.lemmas.List.Sums.{sum_by-cons}
@@ -7,7 +7,7 @@ use Rattle.pp_traffic.specs.declared.entries.Entry.{Entry}
 use Rattle.pp_traffic.specs.Trips.{timed_by}
 use Rattle.pp_traffic.specs.Delays.{sample_of, is_near, sampled, queuing}
 use Rattle.pp_traffic.specs.Gain.{gained}
-use Rattle.pp_traffic.specs.Meter.{Meter, sent, covers, hits, oldest, overtakes, flying, loses, flight, half_of, is_rested, settled, acked, is_due, timed_out, ended}
+use Rattle.pp_traffic.specs.Meter.{Meter, covers, hits, oldest, overtakes, flying, loses, flight, half_of, is_rested, settled, acked, is_due, timed_out, ended}
 use Rattle.pp_ledbat.specs.Laws.{CutsAcknowledgeAlike}
 
 abbrev IsWithin : ℕ → List Entry → Type 0
