@@ -260,16 +260,19 @@ module _ (d : Descriptor) (receiver sender claims : LookUp) (sent told : Node �
   climbs_up none (suc m) n k j x sum high at path = ⊎_elim
       (λ first. ⊎_elim
       (λ is_told. absurd (both_ways (told (at_node k j)) (none (at_node k j)) is_told))
-      (λ peak. let parts = and_parts (is_peak (chunks_of d) (at_node k j)) (list_all (λ p. sent p || told p) (peaks (chunks_of d))) peak in (k, record {
-        up = 0;
-        top_is = omega arith;
-        peak = parts.0;
-        all = parts.1;
-        end = x;
-        climbs = refl;
-        own = at;
-        follows = kept k j x at;
-      }))
+      (λ peak. let parts = and_parts (is_peak (chunks_of d) (at_node k j)) (list_all (λ p. sent p || told p) (peaks (chunks_of d))) peak in (
+        k,
+        record {
+          up = 0;
+          top_is = omega arith;
+          peak = parts.0;
+          all = parts.1;
+          end = x;
+          climbs = refl;
+          own = at;
+          follows = kept k j x at;
+        },
+      ))
       (or_cases (told (at_node k j)) (is_peak (chunks_of d) (at_node k j) && list_all (λ p. sent p || told p) (peaks (chunks_of d))) first))
       (λ up. climbs_on n high (goes_on m k j up)
       (λ n' y sum' high' over on. climbs_up none m n' (suc k) (j / 2) (sha256 (joined j x y)) sum' high' over on))
@@ -289,17 +292,23 @@ module _ (d : Descriptor) (receiver sender claims : LookUp) (sent told : Node �
           let (y, beside, up) = risen n k j x high at in
           let claim = claimed_is (at_node k (sibling j)) y (sent_alone none (at_node k (sibling j)) on.0) beside in
           let (top, rest) = more n y (omega arith) (omega arith) up (step_on m k j (omega arith) on.1) in
-          let half = above_half rest.up j in (top, record {
-            up = suc rest.up;
-            top_is = omega (arith, rest.top_is);
-            peak = ap (λ o. is_peak (chunks_of d) (at_node top o)) (sym half) ∙ rest.peak;
-            all = rest.all;
-            end = rest.end;
-            climbs = rw claim rest.climbs;
-            own = ap (λ o. sender top o) (sym half) ∙ rest.own;
-            follows = (kept k j x at, λ other is_other. subst (λ z. Follows receiver claims rest.up (suc k) (j / 2) (sha256 (joined j x z)))
-                (some_same y other (claims k (sibling j)) claim is_other) rest.follows);
-          })
+          let half = above_half rest.up j in (
+            top,
+            record {
+              up = suc rest.up;
+              top_is = omega (arith, rest.top_is);
+              peak = ap (λ o. is_peak (chunks_of d) (at_node top o)) (sym half) ∙ rest.peak;
+              all = rest.all;
+              end = rest.end;
+              climbs = rw claim rest.climbs;
+              own = ap (λ o. sender top o) (sym half) ∙ rest.own;
+              follows = (
+                kept k j x at,
+                λ other is_other. subst (λ z. Follows receiver claims rest.up (suc k) (j / 2) (sha256 (joined j x z)))
+                    (some_same y other (claims k (sibling j)) claim is_other) rest.follows,
+              );
+            },
+          )
 
   -- the peak of a layer was sent
   peak_sent : ((n : Node) → told n ≡ false) → list_all (λ p. sent p || told p) (peaks (chunks_of d)) ≡ true → (k : ℕ) → k < 21
@@ -413,8 +422,11 @@ module _ (d : Descriptor) (receiver sender claims : LookUp) (sent told : Node �
       let claim = beside_on none all up l y layer (omega arith) beside in
       let rest = rises none all n (suc up) (suc l) (sha256 (joined (above up off) x y)) (omega arith) (omega arith) over in (
         rw claim rest.0,
-        (kept l (above up off) x at, λ other is_other. subst (λ z. Follows receiver (filled (chunks_of d) claims) n (suc l) (above up off / 2) (sha256 (joined (above up off) x z)))
-            (some_same y other (filled (chunks_of d) claims l (sibling (above up off))) claim is_other) rest.1),
+        (
+          kept l (above up off) x at,
+          λ other is_other. subst (λ z. Follows receiver (filled (chunks_of d) claims) n (suc l) (above up off / 2) (sha256 (joined (above up off) x z)))
+              (some_same y other (filled (chunks_of d) claims l (sibling (above up off))) claim is_other) rest.1,
+        ),
       )
 
   -- so the claims prove the chunk, and the receiver contradicts none of their climbs
