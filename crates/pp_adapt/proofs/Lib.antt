@@ -1,3 +1,3 @@
 pub mod Octets
-pub mod Joining
+pub mod Joins
 pub mod Pieces

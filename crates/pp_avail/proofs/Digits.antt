@@ -1,5 +1,5 @@
 -- Numbers in bit planes, digit by digit.
-use Rattle.std.proofs.Common.{◌≡◌, ℕ, ◌+◌, ◌*◌, ◌/◌, ◌%◌, ◌^◌, ◌-◌, ◌<◌, ◌≤◌, ◌==◌, min, Bool, true, false, ◌&&◌, List, length, refl, sym, ◌∙◌, ap, arith, ⊎_elim, bit_and, bit_xor, w64}
+use Rattle.std.proofs.Common.{◌≡◌, ℕ, ◌+◌, ◌*◌, ◌/◌, ◌%◌, ◌^◌, ◌-◌, ◌<◌, ◌==◌, min, Bool, true, false, ◌&&◌, refl, ◌∙◌, ap, arith, bit_and, bit_xor, w64}
 use Rattle.std.specs.Int.{bit_at, bit_not}
 use Rattle.std.proofs.lemmas.Nat.Bits.{bit_at_and, bit_at_xor, bit_at_not, bit_at-lt}
 use Rattle.std.proofs.lemmas.Bool.Decides.{nat_tests}
@@ -65,7 +65,7 @@ pub all_digits : (a b c d e f g n k t u v w x y z : ℕ) → n < 128
     ≡ (bit_at t k + 2 * bit_at u k + 4 * bit_at v k + 8 * bit_at w k + 16 * bit_at x k + 32 * bit_at y k + 64 * bit_at z k == n)
 all_digits a b c d e f g n k t u v w x y z fits ea eb ec ed ee ef eg =
     let same : (bit_at a k == 1 && (bit_at b k == 1 && (bit_at c k == 1 && (bit_at d k == 1 && (bit_at e k == 1 && (bit_at f k == 1 && bit_at g k == 1))))))
-        ≡ (bit_at t k == bit_at n 0 && (bit_at u k == bit_at n 1 && (bit_at v k == bit_at n 2 && (bit_at w k == bit_at n 3 && (bit_at x k == bit_at n 4 && (bit_at y k == bit_at n 5 && bit_at z k == bit_at n 6)))))) = cc in
+    ≡ (bit_at t k == bit_at n 0 && (bit_at u k == bit_at n 1 && (bit_at v k == bit_at n 2 && (bit_at w k == bit_at n 3 && (bit_at x k == bit_at n 4 && (bit_at y k == bit_at n 5 && bit_at z k == bit_at n 6)))))) = cc in
     both (bit_and (bit_and (bit_and (bit_and (bit_and a b) c) d) e) f) g k
     ∙ ap (λ (p : Bool). p && bit_at g k == 1) (both (bit_and (bit_and (bit_and (bit_and a b) c) d) e) f k
     ∙ ap (λ (p : Bool). p && bit_at f k == 1) (both (bit_and (bit_and (bit_and a b) c) d) e k

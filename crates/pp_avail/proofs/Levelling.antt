@@ -1,10 +1,8 @@
 -- The levels of one word's numbers.
-use Rattle.std.proofs.Common.{◌≡◌, ◌≢◌, ⊎_elim, ◌⊎◌, inl, inr, ℕ, ◌+◌, ◌-◌, ◌/◌, ◌%◌, ◌^◌, ◌<◌, ◌≤◌, ◌==◌, min, not, Bool, true, false, ◌&&◌, List, [], length, refl, sym, ◌∙◌, ap, arith, bit_and, w64}
-use Rattle.std.specs.Prelude.{slice_set, slice_index_or}
+use Rattle.std.proofs.Common.{◌≡◌, ◌≢◌, ⊎_elim, ◌⊎◌, inl, inr, ℕ, ◌+◌, ◌^◌, ◌<◌, ◌≤◌, ◌==◌, not, Bool, true, List, sym, ◌∙◌, ap, arith, bit_and, w64}
 use Rattle.std.specs.Int.{bit_at, bit_not}
 use Rattle.std.proofs.lemmas.Nat.{and_le_l}
 use Rattle.std.proofs.lemmas.Nat.Bits.{bit_at_and, bit_at_not, bit_at-lt, bit_at-zero, bit_at_above, same_from_bits_below}
-use Rattle.std.proofs.lemmas.List.{get_or-set_same, get_or_default}
 use Rattle.std.proofs.lemmas.Bool.{cases_eq, cases_lt, eqb-true, eqb-false, eq-eqb, ne_eqb}
 use Rattle.pp_avail.specs.declared.planes.Planes.{Planes}
 use Rattle.pp_avail.specs.Planes.{number_at}
@@ -18,32 +16,27 @@ level_kept levels changed w planes fewer is same = record {
   none = λ others. same ∙ is.none others;
 }
 
--- one level written anew
-pub level_written : (levels : List (List Bool)) (w copies : ℕ) (planes : Planes) (word : ℕ) (row level : List Bool) (fewer : ℕ)
-    → length levels ≡ 64 → 0 < copies → copies ≤ 64 → fewer + 1 ≡ copies → w < length (slice_index_or levels (copies - 1) []) → word < 2 ^ 64
-    → ((k : ℕ) → k < 64 → (bit_at word k == 1) ≡ (number_at planes k == copies))
-    → row ≡ slice_set (slice_index_or levels (copies - 1) level) w (not (word == 0))
-    → IsLevelAt (slice_set levels (copies - 1) row) w planes fewer
-level_written levels w copies planes word row level fewer width some most is inside fits places written = record {
-  some = λ k lt number. value ∙ ap not (ne_eqb word 0 (λ zero.
-      let one : bit_at word k ≡ 1 = eqb-true (bit_at word k) 1 (places k lt ∙ eq-eqb (number_at planes k) copies (number ∙ is)) in
-      let none : bit_at word k ≡ 0 = ap (λ (v : ℕ). bit_at v k) zero ∙ bit_at-zero k in
+-- a level that is marked by the places which have its number, and one that is marked since a place has it
+pub level_by_places : (levels : List (List Bool)) (w copies : ℕ) (planes : Planes) (places fewer : ℕ) → fewer + 1 ≡ copies → places < 2 ^ 64
+    → ((k : ℕ) → k < 64 → (bit_at places k == 1) ≡ (number_at planes k == copies))
+    → is_in levels fewer w ≡ not (places == 0)
+    → IsLevelAt levels w planes fewer
+level_by_places levels w copies planes places fewer is fits are value = record {
+  some = λ k lt number. value ∙ ap not (ne_eqb places 0 (λ zero.
+      let one : bit_at places k ≡ 1 = eqb-true (bit_at places k) 1 (are k lt ∙ eq-eqb (number_at planes k) copies (number ∙ is)) in
+      let none : bit_at places k ≡ 0 = ap (λ (v : ℕ). bit_at v k) zero ∙ bit_at-zero k in
       omega (arith, one, none)));
-  none = λ others. value ∙ ap not (eq-eqb word 0 (same_from_bits_below 64 word 0 fits (omega arith) (λ k lt.
-      let out : bit_at word k ≡ 1 → ⊥ = eqb-false (bit_at word k) 1 (places k lt ∙ ne_eqb (number_at planes k) copies (λ e. others k lt (e ∙ sym is))) in
-      omega (arith, out, bit_at-lt word k, bit_at-zero k))));
+  none = λ others. value ∙ ap not (eq-eqb places 0 (same_from_bits_below 64 places 0 fits (omega arith) (λ k lt.
+      let out : bit_at places k ≡ 1 → ⊥ = eqb-false (bit_at places k) 1 (are k lt ∙ ne_eqb (number_at planes k) copies (λ e. others k lt (e ∙ sym is))) in
+      omega (arith, out, bit_at-lt places k, bit_at-zero k))));
 }
-  where
-    here : fewer ≡ copies - 1
-    here = omega arith
 
-    value : is_in (slice_set levels (copies - 1) row) fewer w ≡ not (word == 0)
-    value =
-        ap (λ (k : ℕ). is_in (slice_set levels (copies - 1) row) k w) here
-        ∙ ap (λ (xs : List Bool). slice_index_or xs w false)
-        (get_or-set_same levels (copies - 1) row [] (omega arith)
-        ∙ written ∙ ap (λ (xs : List Bool). slice_set xs w (not (word == 0))) (get_or_default levels (copies - 1) level [] (omega arith)))
-        ∙ get_or-set_same (slice_index_or levels (copies - 1) []) w (not (word == 0)) false inside
+pub level_by_one : (levels : List (List Bool)) (w copies : ℕ) (planes : Planes) (k fewer : ℕ) → fewer + 1 ≡ copies → k < 64 → number_at planes k ≡ copies
+    → is_in levels fewer w ≡ true → IsLevelAt levels w planes fewer
+level_by_one levels w copies planes k fewer is lt number value = record {
+  some = λ j low at. value;
+  none = λ others. absurd (others k lt (number ∙ sym is));
+}
 
 -- a level of a number that no place lost or gained
 pub level_untouched : (levels : List (List Bool)) (w changed : ℕ) (old new : Planes) (fewer : ℕ) → IsLevelAt levels w old fewer

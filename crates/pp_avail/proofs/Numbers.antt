@@ -2,7 +2,7 @@
 use Rattle.std.proofs.Common.{◌≡◌, ◌≢◌, ⊎_elim, ℕ, zero, suc, ◌+◌, ◌*◌, ◌-◌, ◌/◌, ◌%◌, ◌^◌, ◌<◌, ◌≤◌, ◌==◌, Bool, true, false, cond, ◌&&◌, List, [], length, replicate, Option, None, Some, refl, sym, ◌∙◌, ap, subst, arith, bit_and}
 use Rattle.std.specs.Prelude.{slice_index, slice_set, slice_index_or, MatchOption}
 use Rattle.std.specs.Int.{bit_at}
-use Rattle.std.proofs.lemmas.Nat.Bits.{bit_at-lt, bit_at-zero, bit_at_above}
+use Rattle.std.proofs.lemmas.Nat.Bits.{bit_at-lt, bit_at-zero}
 use Rattle.std.proofs.lemmas.List.{get_or-set_same, get_or-set_other, get_or_past, get_or_default, get_or-replicate, length-set, length-replicate, same_lists}
 use Rattle.std.proofs.lemmas.List.FromFn.{length-map-range_with_len, get_or-map-range_with_len}
 use Rattle.std.proofs.lemmas.Bool.{cases_eq, cases_lt, eq-eqb, ne_eqb, eqb-true, and_parts, false_from_ne_true, both_ways}
@@ -266,9 +266,9 @@ next_found wanted row level counts wanted_marks row_marks level_words copies fro
 next_found wanted row level counts wanted_marks row_marks level_words copies from end (Some w) first second third has size found = (
   found.0,
   (let parts = and_parts (bit_of wanted_marks w) (bit_of row_marks w && bit_of level_words w) found.1 in
-  let last = and_parts (bit_of row_marks w) (bit_of level_words w) parts.1 in
-  let inside : w < length level = member_below level w (sym (third.bits w) ∙ last.1) in
-  omega (arith, inside, size)),
+      let last = and_parts (bit_of row_marks w) (bit_of level_words w) parts.1 in
+      let inside : w < length level = member_below level w (sym (third.bits w) ∙ last.1) in
+      omega (arith, inside, size)),
   (λ i low high. unmarked_word wanted row level counts wanted_marks row_marks level_words copies i first second third (has i) (found.2 (i / 64) low high)),
 )
 

@@ -1,13 +1,12 @@
 -- Rows of bits.
-use Rattle.std.proofs.Common.{◌≡◌, ⊎_elim, ℕ, ◌+◌, ◌*◌, ◌/◌, ◌%◌, ◌^◌, ◌<◌, ◌≤◌, ◌==◌, not, Bool, true, false, ◌&&◌, ◌||◌, List, length, replicate, Option, None, Some, refl, sym, ◌∙◌, ap, arith, bit_or}
+use Rattle.std.proofs.Common.{◌≡◌, ⊎_elim, ℕ, ◌/◌, ◌%◌, ◌^◌, ◌<◌, ◌≤◌, ◌==◌, not, Bool, true, false, ◌&&◌, ◌||◌, List, length, replicate, Option, None, Some, refl, sym, ◌∙◌, ap, arith, bit_or}
 use Rattle.std.specs.Prelude.{slice_index, slice_set, slice_index_or}
 use Rattle.std.specs.Int.{bit_at}
 use Rattle.std.specs.Bool.{IsTrue}
 use Rattle.std.specs.Option.{is_some}
 use Rattle.std.proofs.lemmas.Nat.Bits.{bit_at-zero}
-use Rattle.std.proofs.lemmas.List.{get_or-set_same, get_or-set_other, length-set, length-replicate}
-use Rattle.std.proofs.lemmas.Bool.{cases_eq, cases_lt, eq-eqb, ne_eqb, false_from_ne_true}
-use Rattle.std.proofs.Math.Bool.{or-false}
+use Rattle.std.proofs.lemmas.List.{get_or-set_same, get_or-set_other, length-replicate}
+use Rattle.std.proofs.lemmas.Bool.{cases_eq, eq-eqb, ne_eqb, false_from_ne_true}
 use Rattle.pp_tree.specs.Bits.{bit_of, bits_of}
 use Rattle.pp_tree.specs.Marks.{words_for, IsFirstFrom}
 use Rattle.pp_tree.proofs.Packing.{joined, no_bit, zero_at}

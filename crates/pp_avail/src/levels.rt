@@ -25,14 +25,14 @@ pub(crate) fn refresh(levels: &mut [Row], w: usize, old: &Planes, new: &Planes, 
     while rest != 0 {
         let k = lowest(rest);
         let from = old.at(k);
-        mark(levels, w, new, from);
-        mark(levels, w, new, new.at(k));
+        mark(levels, w, from, new.places_of(from) != 0);
+        mark(levels, w, new.at(k), true);
         rest &= !old.places_of(from);
     }
 }
 
-// Brings the level of one number to the numbers of one word. None is kept of those with 0.
-fn mark(levels: &mut [Row], w: usize, planes: &Planes, copies: u32)
+// Writes whether a word has a chunk of so many copies. None is kept of those with 0.
+fn mark(levels: &mut [Row], w: usize, copies: u32, some: bool)
     requires width { length levels.old ≡ 64 }
     requires sizes { (k : ℕ) → k < 64 → w < length (slice_index_or levels.old k []) }
     requires most { copies ≤ 64 }
@@ -40,10 +40,10 @@ fn mark(levels: &mut [Row], w: usize, planes: &Planes, copies: u32)
     ensures sizes { (k : ℕ) → length (slice_index_or levels.new k []) ≡ length (slice_index_or levels.old k []) }
     ensures others { (k v : ℕ) → v ≢ w → is_in levels.new k v ≡ is_in levels.old k v }
     ensures levels { (k : ℕ) → k + 1 ≢ copies → is_in levels.new k w ≡ is_in levels.old k w }
-    ensures here { (fewer : ℕ) → fewer + 1 ≡ copies → IsLevelAt levels.new w planes.now fewer }
+    ensures here { (k : ℕ) → k + 1 ≡ copies → is_in levels.new k w ≡ some }
 {
     if copies > 0 {
         let level = &mut levels[copies as usize - 1];
-        level.write(w, planes.places_of(copies) != 0);
+        level.write(w, some);
     }
 }

@@ -147,6 +147,7 @@ fn shadows_a_dial_when_its_address_loses_another(rt: HostRuntime) -> Result<(), 
     assert_eq!(rt; channels.by_remote(&numbered(1), 9), Some(2));
     assert_eq!(rt; channels.by_remote(&numbered(2), 9), None);
     assert_eq!(rt; channels.by_remote(&numbered(1), 0), None);
+    assert!(rt; channels.state(0).is_some());
     assert!(rt; !channels.is_shadowed(0));
     channels.close(2);
     assert!(rt; channels.state(0).is_some() && channels.state(1).is_some());

@@ -3,7 +3,7 @@ use Rattle.pp_adapt.specs.declared.extents.Extent.{Extent}
 use Rattle.pp_adapt.specs.Extents.{AreApart, is_covered, ended_before, rest_of, joined_at, joined}
 use Rattle.pp_adapt.proofs.extents.add.Goals as goal
 use Rattle.pp_adapt.proofs.extents.add.Goals.{else-len-eq-MOST-via-then-len-eq-MOST+else-not-is_met, else-len-eq-MOST-via-else-len-eq-MOST}
-use Rattle.pp_adapt.proofs.Joining.{joined_apart, joined_covers, rest_within}
+use Rattle.pp_adapt.proofs.Joins.{joined_apart, joined_covers, rest_within}
 
 pub merge_at-requires-clause-few : goal.merge_at-requires-clause-few
 merge_at-requires-clause-few c = elim c.else-len-eq-MOST.branch [

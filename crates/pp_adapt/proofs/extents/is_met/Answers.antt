@@ -1,7 +1,7 @@
 use Rattle.std.proofs.Common.{arith}
 use Rattle.std.proofs.lemmas.Bool.{OnTrue_from, leb-true}
 use Rattle.pp_adapt.proofs.extents.is_met.Goals as goal
-use Rattle.pp_adapt.proofs.Joining.{nothing, rest_shorter}
+use Rattle.pp_adapt.proofs.Joins.{nothing, rest_shorter}
 
 pub returns-then-at-extents : goal.returns-then-at-extents
 returns-then-at-extents c =

@@ -1,6 +1,6 @@
 use Rattle.std.proofs.Common.{◌∙◌, arith}
 use Rattle.pp_adapt.proofs.extents.meets.Goals as goal
-use Rattle.pp_adapt.proofs.Joining.{nothing, met_at, not_met_at}
+use Rattle.pp_adapt.proofs.Joins.{nothing, met_at, not_met_at}
 
 pub returns-then-max-min-clause-met : goal.returns-then-max-min-clause-met
 returns-then-max-min-clause-met c = (

@@ -2,7 +2,7 @@ use Rattle.std.proofs.Common.{◌≡◌, ◌∙◌, ap, length, arith}
 use Rattle.std.proofs.lemmas.Bool.{cond-true}
 use Rattle.pp_adapt.specs.Extents.{joined_at}
 use Rattle.pp_adapt.proofs.extents.merge_at.Goals as goal
-use Rattle.pp_adapt.proofs.Joining.{inserted_is, length-taken, length-joined_at}
+use Rattle.pp_adapt.proofs.Joins.{inserted_is, length-taken, length-joined_at}
 
 items_are : (c : goal.After-insert) → c.insert.new.self.items ≡ joined_at c.args.at c.args.extents.now.items c.args.new
 items_are c =

@@ -1,4 +1,4 @@
-use Rattle.std.proofs.Common.{◌≡◌, ◌/◌, ◌%◌, ◌==◌, ◌≤◌, ◌&&◌, ap, ◌∙◌, arith}
+use Rattle.std.proofs.Common.{◌≡◌, ◌/◌, ◌%◌, ◌==◌, ◌&&◌, ap, ◌∙◌}
 use Rattle.pp_tree.proofs.Packing.{masked}
 use Rattle.pp_avail.specs.Rows.{is_among}
 use Rattle.pp_avail.proofs.Counting.{part_bit, part_order}

@@ -2,7 +2,7 @@ use Rattle.std.proofs.Common.{◌≡◌, ap, sym, ◌∙◌, subst, List, ℕ}
 use Rattle.pp_adapt.specs.declared.extents.Extent.{Extent}
 use Rattle.pp_adapt.specs.Extents.{AreApart}
 use Rattle.pp_adapt.specs.Gathered.{Gathered, pieces_of}
-use Rattle.pp_adapt.proofs.Joining.{nothing}
+use Rattle.pp_adapt.proofs.Joins.{nothing}
 use Rattle.pp_adapt.proofs.Pieces.{apart_at, taken_more}
 use Rattle.pp_adapt.proofs.gathering.Gathering.send.Goals as goal
 

@@ -1,4 +1,4 @@
-use Rattle.std.proofs.Common.{◌≡◌, ◌∙◌, ap, sym, length}
+use Rattle.std.proofs.Common.{◌∙◌, ap, sym, length}
 use Rattle.pp_avail.specs.Offers.{copies_in}
 use Rattle.pp_avail.proofs.Counting.{told_copies, no_chunks}
 use Rattle.pp_avail.proofs.avail.Avail.copies.Goals as goal

@@ -1,6 +1,6 @@
 use Rattle.std.proofs.Common.{◌/◌, ◌==◌, nat_le, ◌&&◌, ◌||◌, ap, ◌∙◌}
 use Rattle.pp_avail.specs.Offers.{has}
-use Rattle.pp_avail.proofs.Counting.{filled_none, filled_more, filled_all}
+use Rattle.pp_avail.proofs.Counting.{filled_more}
 use Rattle.pp_avail.proofs.avail.Avail.fill.Goals as goal
 
 pub loop-w-preserved : goal.loop-w-preserved

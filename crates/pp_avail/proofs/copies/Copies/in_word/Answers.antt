@@ -1,4 +1,4 @@
-use Rattle.std.proofs.Common.{◌≡◌, ◌<◌, ◌+◌, ◌*◌, length, ◌∙◌, arith}
+use Rattle.std.proofs.Common.{◌+◌, ◌*◌, arith}
 use Rattle.pp_avail.specs.Planes.{number_at}
 use Rattle.pp_avail.proofs.Numbers.{numbers_size, place_read, found_in_word}
 use Rattle.pp_avail.proofs.copies.Copies.in_word.Goals as goal

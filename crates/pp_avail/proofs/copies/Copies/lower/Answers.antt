@@ -1,5 +1,4 @@
-use Rattle.std.proofs.Common.{◌≡◌, ◌<◌, ◌+◌, ◌*◌, ◌/◌, ◌%◌, cond, length, ap, sym, ◌∙◌, arith, slice_index}
-use Rattle.std.specs.Int.{bit_at}
+use Rattle.std.proofs.Common.{◌≡◌, ◌<◌, ◌+◌, ◌*◌, ◌%◌, cond, length, ap, ◌∙◌, arith, slice_index}
 use Rattle.pp_avail.specs.Planes.{number_at}
 use Rattle.pp_avail.specs.Rows.{is_among}
 use Rattle.pp_avail.proofs.Numbers.{numbers_size, number_read, place_read, number_by_word, among_place, one_to_take, counts_lowered}
@@ -12,8 +11,11 @@ pub lower-requires : goal.lower-requires
 lower-requires c = λ k.
     let inside : c.args.w < length c.self.inside.planes.items = omega (arith, c.requires.here, numbers_size c.self.inside.planes.items c.args.self.now c.self.view_is) in
     one_to_take c.index.result.now c.args.chunks k c.ranges.chunks.fits (λ lt one.
-    omega (arith, c.requires.some (64 * c.args.w + k) (among_place c.args.w c.args.chunks k lt one),
-    place_read c.self.inside.planes.items c.args.self.now c.index.result.now c.args.w k c.self.view_is inside c.index.ensures lt))
+    omega (
+      arith,
+      c.requires.some (64 * c.args.w + k) (among_place c.args.w c.args.chunks k lt one),
+      place_read c.self.inside.planes.items c.args.self.now c.index.result.now c.args.w k c.self.view_is inside c.index.ensures lt,
+    ))
 
 pub replace-requires-clause-most : goal.replace-requires-clause-most
 replace-requires-clause-most c = λ k lt.
@@ -32,9 +34,16 @@ replace-requires-clause-same c = λ k lt unset.
 pub replace-requires-clause-alike : goal.replace-requires-clause-alike
 replace-requires-clause-alike c = λ j k low lt one two equal.
     let inside : c.args.w < length c.self.inside.planes.items = omega (arith, c.requires.here, numbers_size c.self.inside.planes.items c.args.self.now c.self.view_is) in
-    omega (arith, c.lower.ensures j, c.lower.ensures k, one, two, equal,
-    place_read c.self.inside.planes.items c.args.self.now c.index.result.now c.args.w j c.self.view_is inside c.index.ensures low,
-    place_read c.self.inside.planes.items c.args.self.now c.index.result.now c.args.w k c.self.view_is inside c.index.ensures lt)
+    omega (
+      arith,
+      c.lower.ensures j,
+      c.lower.ensures k,
+      one,
+      two,
+      equal,
+      place_read c.self.inside.planes.items c.args.self.now c.index.result.now c.args.w j c.self.view_is inside c.index.ensures low,
+      place_read c.self.inside.planes.items c.args.self.now c.index.result.now c.args.w k c.self.view_is inside c.index.ensures lt,
+    )
 
 pub returns-clause-counts : goal.returns-clause-counts
 returns-clause-counts c = λ i.

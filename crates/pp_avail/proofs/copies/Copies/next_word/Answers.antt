@@ -1,4 +1,4 @@
-use Rattle.std.proofs.Common.{◌≡◌, ◌-◌, ◌<◌, ◌/◌, ℕ, [], length, ◌∙◌, subst, sym, arith, slice_index_or}
+use Rattle.std.proofs.Common.{◌≡◌, ◌-◌, ◌/◌, [], length, ◌∙◌, arith, slice_index_or}
 use Rattle.std.proofs.lemmas.List.{get_or_default}
 use Rattle.pp_avail.proofs.Numbers.{numbers_size, level_has, level_size, none_of_level, next_found}
 use Rattle.pp_avail.proofs.copies.Copies.next_word.Goals as goal

@@ -1,7 +1,5 @@
-use Rattle.std.proofs.Common.{◌≡◌, ◌<◌, ◌+◌, ◌*◌, ◌/◌, ◌%◌, cond, length, ap, sym, ◌∙◌, arith, slice_index}
-use Rattle.std.specs.Int.{bit_at}
+use Rattle.std.proofs.Common.{◌≡◌, ◌<◌, ◌+◌, ◌*◌, ◌%◌, length, ◌∙◌, arith, slice_index}
 use Rattle.pp_avail.specs.Planes.{number_at}
-use Rattle.pp_avail.specs.Rows.{is_among}
 use Rattle.pp_avail.proofs.Numbers.{numbers_size, number_read, place_read, number_by_word, among_place, room_for_more, still_most, counts_raised}
 use Rattle.pp_avail.proofs.copies.Copies.raise.Goals as goal
 
@@ -12,8 +10,11 @@ pub raise-requires : goal.raise-requires
 raise-requires c = λ k.
     let inside : c.args.w < length c.self.inside.planes.items = omega (arith, c.requires.here, numbers_size c.self.inside.planes.items c.args.self.now c.self.view_is) in
     room_for_more c.index.result.now c.args.chunks k c.ranges.chunks.fits (λ lt one.
-    omega (arith, c.requires.room (64 * c.args.w + k) (among_place c.args.w c.args.chunks k lt one),
-    place_read c.self.inside.planes.items c.args.self.now c.index.result.now c.args.w k c.self.view_is inside c.index.ensures lt))
+    omega (
+      arith,
+      c.requires.room (64 * c.args.w + k) (among_place c.args.w c.args.chunks k lt one),
+      place_read c.self.inside.planes.items c.args.self.now c.index.result.now c.args.w k c.self.view_is inside c.index.ensures lt,
+    ))
 
 pub replace-requires-clause-most : goal.replace-requires-clause-most
 replace-requires-clause-most c = λ k lt.
@@ -22,8 +23,12 @@ replace-requires-clause-most c = λ k lt.
     place_read c.self.inside.planes.items c.args.self.now c.index.result.now c.args.w k c.self.view_is inside c.index.ensures lt in
     let most = c.self.invariant.most (64 * c.args.w + k) in
     let number = number_read c.self.inside.planes.items c.args.self.now (64 * c.args.w + k) c.self.view_is in
-    omega (arith, c.raise.ensures k, still_most c.index.result.now c.args.chunks k (omega (arith, most, number, read))
-    (λ one. omega (arith, c.requires.room (64 * c.args.w + k) (among_place c.args.w c.args.chunks k lt one), read)))
+    omega (
+      arith,
+      c.raise.ensures k,
+      still_most c.index.result.now c.args.chunks k (omega (arith, most, number, read))
+          (λ one. omega (arith, c.requires.room (64 * c.args.w + k) (among_place c.args.w c.args.chunks k lt one), read)),
+    )
 
 pub replace-requires-clause-same : goal.replace-requires-clause-same
 replace-requires-clause-same c = λ k lt unset.
@@ -33,9 +38,16 @@ replace-requires-clause-same c = λ k lt unset.
 pub replace-requires-clause-alike : goal.replace-requires-clause-alike
 replace-requires-clause-alike c = λ j k low lt one two equal.
     let inside : c.args.w < length c.self.inside.planes.items = omega (arith, c.requires.here, numbers_size c.self.inside.planes.items c.args.self.now c.self.view_is) in
-    omega (arith, c.raise.ensures j, c.raise.ensures k, one, two, equal,
-    place_read c.self.inside.planes.items c.args.self.now c.index.result.now c.args.w j c.self.view_is inside c.index.ensures low,
-    place_read c.self.inside.planes.items c.args.self.now c.index.result.now c.args.w k c.self.view_is inside c.index.ensures lt)
+    omega (
+      arith,
+      c.raise.ensures j,
+      c.raise.ensures k,
+      one,
+      two,
+      equal,
+      place_read c.self.inside.planes.items c.args.self.now c.index.result.now c.args.w j c.self.view_is inside c.index.ensures low,
+      place_read c.self.inside.planes.items c.args.self.now c.index.result.now c.args.w k c.self.view_is inside c.index.ensures lt,
+    )
 
 pub returns-clause-counts : goal.returns-clause-counts
 returns-clause-counts c = λ i.

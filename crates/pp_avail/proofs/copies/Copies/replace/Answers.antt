@@ -1,9 +1,8 @@
-use Rattle.std.proofs.Common.{◌≡◌, ◌<◌, ◌+◌, ◌*◌, ⊎_elim, [], length, sym, subst, ap, ◌∙◌, arith, slice_index_or, slice_set}
+use Rattle.std.proofs.Common.{◌≡◌, ◌<◌, ◌+◌, ◌*◌, [], length, sym, subst, ap, ◌∙◌, arith, slice_index_or, slice_set}
 use Rattle.std.specs.Vec.{with_items}
-use Rattle.std.specs.Int.{bit_at}
 use Rattle.std.proofs.lemmas.List.{get_or_default, with_items_is}
 use Rattle.pp_tree.proofs.Marking.{place_in}
-use Rattle.pp_avail.specs.Planes.{number_at, no_planes}
+use Rattle.pp_avail.specs.Planes.{no_planes}
 use Rattle.pp_avail.specs.Levels.{is_in, IsLevelAt, IsLevelled}
 use Rattle.pp_avail.proofs.Numbers.{numbers_size, number_read, place_read, numbers_written, levelled_anew}
 use Rattle.pp_avail.proofs.copies.Copies.replace.Goals as goal
@@ -16,14 +15,23 @@ index_mut-requires c = omega (arith, c.requires.here, numbers_size c.self.inside
 
 pub refresh-requires-clause-sizes : goal.refresh-requires-clause-sizes
 refresh-requires-clause-sizes c = λ k lt.
-    omega (arith, c.self.invariant.sizes k lt, ap (λ xs. length (slice_index_or xs k [])) c.deref_mut.ensures.value, c.requires.here,
-    numbers_size c.self.inside.planes.items c.args.self.now c.self.view_is)
+    omega (
+      arith,
+      c.self.invariant.sizes k lt,
+      ap (λ xs. length (slice_index_or xs k [])) c.deref_mut.ensures.value,
+      c.requires.here,
+      numbers_size c.self.inside.planes.items c.args.self.now c.self.view_is,
+    )
 
 pub refresh-requires-clause-most : goal.refresh-requires-clause-most
 refresh-requires-clause-most c = λ k lt.
     let inside : c.args.w < length c.self.inside.planes.items = omega (arith, c.requires.here, numbers_size c.self.inside.planes.items c.args.self.now c.self.view_is) in (
-      omega (arith, place_read c.self.inside.planes.items c.args.self.now c.index.result.now c.args.w k c.self.view_is inside c.index.ensures lt,
-          number_read c.self.inside.planes.items c.args.self.now (64 * c.args.w + k) c.self.view_is, c.self.invariant.most (64 * c.args.w + k)),
+      omega (
+        arith,
+        place_read c.self.inside.planes.items c.args.self.now c.index.result.now c.args.w k c.self.view_is inside c.index.ensures lt,
+        number_read c.self.inside.planes.items c.args.self.now (64 * c.args.w + k) c.self.view_is,
+        c.self.invariant.most (64 * c.args.w + k),
+      ),
       c.requires.most k lt,
     )
 

@@ -1,5 +1,4 @@
-use Rattle.std.proofs.Common.{◌≡◌, ◌<◌, ◌||◌, ◌==◌, ◌/◌, ◌%◌, not, false, length, sym, subst, ap, ◌∙◌, arith, slice_index, slice_index_or, slice_set, bit_or, ℕ, List, Bool}
-use Rattle.std.proofs.Math.Bool.{or-false}
+use Rattle.std.proofs.Common.{◌≡◌, ◌<◌, ◌||◌, ◌==◌, not, false, length, sym, subst, ap, ◌∙◌, arith, slice_index, slice_index_or, slice_set, bit_or}
 use Rattle.std.specs.Vec.{with_items}
 use Rattle.std.proofs.lemmas.List.{get_or_default, with_items_is, length-set}
 use Rattle.pp_tree.specs.Bits.{bit_of, bits_of}
@@ -15,8 +14,15 @@ pub index_mut-requires : goal.index_mut-requires
 index_mut-requires c = omega (arith, c.requires.here, c.self.invariant.size, value_size c.self.inside.count c.self.inside.words.items c.args.self.now c.self.view_is)
 
 pub put-requires : goal.put-requires
-put-requires c = omega (arith, c.requires.here, c.self.invariant.size, c.self.invariant.marks_size, c.deref_mut.ensures.len, ap (λ xs. length xs) c.deref_mut.ensures.value,
-    value_size c.self.inside.count c.self.inside.words.items c.args.self.now c.self.view_is)
+put-requires c = omega (
+  arith,
+  c.requires.here,
+  c.self.invariant.size,
+  c.self.invariant.marks_size,
+  c.deref_mut.ensures.len,
+  ap (λ xs. length xs) c.deref_mut.ensures.value,
+  value_size c.self.inside.count c.self.inside.words.items c.args.self.now c.self.view_is,
+)
 
 pub invariant_of-self : goal.invariant_of-self
 invariant_of-self c =

@@ -1,7 +1,6 @@
-use Rattle.std.proofs.Common.{◌≡◌, ℕ, ◌/◌, ◌≤◌, true, false, Bool, List, Option, None, Some, sym, subst, ap, ◌∙◌, arith, slice_index}
+use Rattle.std.proofs.Common.{subst}
 use Rattle.pp_tree.specs.Bits.{bit_of}
 use Rattle.pp_tree.specs.Marks.{IsFirstFrom}
-use Rattle.pp_tree.proofs.Marking.{value_bit, unmarked, skipped}
 use Rattle.pp_avail.proofs.Rows.{none_marked_bits}
 use Rattle.pp_avail.proofs.row.Row.is_empty.Goals as goal
 

@@ -1,7 +1,7 @@
-use Rattle.std.proofs.Common.{◌≡◌, ◌<◌, ◌&&◌, ◌==◌, ◌/◌, not, false, length, sym, subst, ap, ◌∙◌, arith, slice_index, slice_index_or, slice_set}
+use Rattle.std.proofs.Common.{◌≡◌, ◌<◌, ◌&&◌, ◌==◌, ◌/◌, not, length, sym, subst, ap, ◌∙◌, arith, slice_set}
 use Rattle.std.specs.Vec.{with_items}
 use Rattle.std.proofs.lemmas.List.{get_or_default, with_items_is, length-set}
-use Rattle.pp_tree.specs.Bits.{bit_of, bits_of}
+use Rattle.pp_tree.specs.Bits.{bit_of}
 use Rattle.pp_tree.specs.Sets.{IsWordOf}
 use Rattle.pp_tree.proofs.Marking.{value_bit, value_size, word_of}
 use Rattle.pp_avail.specs.Rows.{IsRow}
@@ -15,8 +15,15 @@ pub index_mut-requires : goal.index_mut-requires
 index_mut-requires c = omega (arith, c.requires, c.self.invariant.size, value_size c.self.inside.count c.self.inside.words.items c.args.self.now c.self.view_is)
 
 pub put-requires : goal.put-requires
-put-requires c = omega (arith, c.requires, c.self.invariant.size, c.self.invariant.marks_size, c.deref_mut.ensures.len, ap (λ xs. length xs) c.deref_mut.ensures.value,
-    value_size c.self.inside.count c.self.inside.words.items c.args.self.now c.self.view_is)
+put-requires c = omega (
+  arith,
+  c.requires,
+  c.self.invariant.size,
+  c.self.invariant.marks_size,
+  c.deref_mut.ensures.len,
+  ap (λ xs. length xs) c.deref_mut.ensures.value,
+  value_size c.self.inside.count c.self.inside.words.items c.args.self.now c.self.view_is,
+)
 
 pub invariant_of-self : goal.invariant_of-self
 invariant_of-self c =

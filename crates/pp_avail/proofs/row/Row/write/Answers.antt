@@ -1,4 +1,4 @@
-use Rattle.std.proofs.Common.{◌≡◌, ◌<◌, ◌/◌, ◌==◌, not, length, sym, subst, ap, ◌∙◌, arith, slice_index, slice_index_or, slice_set}
+use Rattle.std.proofs.Common.{◌≡◌, ◌/◌, ◌==◌, not, length, sym, subst, ap, ◌∙◌, arith, slice_index, slice_index_or, slice_set}
 use Rattle.std.specs.Vec.{with_items}
 use Rattle.std.proofs.lemmas.List.{get_or_default, with_items_is}
 use Rattle.pp_tree.specs.Bits.{bit_of, bits_of}
@@ -8,19 +8,39 @@ use Rattle.pp_avail.proofs.Rows.{row_written}
 use Rattle.pp_avail.proofs.row.Row.write.Goals as goal
 
 pub put-requires : goal.put-requires
-put-requires c = omega (arith, c.requires, c.self.invariant.size, c.deref_mut.ensures.len, ap (λ xs. length xs) c.deref_mut.ensures.value,
-    value_size c.self.inside.count c.self.inside.words.items c.args.self.now c.self.view_is)
+put-requires c = omega (
+  arith,
+  c.requires,
+  c.self.invariant.size,
+  c.deref_mut.ensures.len,
+  ap (λ xs. length xs) c.deref_mut.ensures.value,
+  value_size c.self.inside.count c.self.inside.words.items c.args.self.now c.self.view_is,
+)
 
 pub index-requires : goal.index-requires
 index-requires c =
     let words_is : (with_items c.self.inside.words c.put.new.words).items ≡ c.put.new.words =
     with_items_is c.self.inside.words c.put.new.words (c.put.ensures.len ∙ c.deref_mut.ensures.len) in
-    omega (arith, c.requires, c.self.invariant.size, c.put.ensures.len, ap (λ xs. length xs) words_is, ap (λ xs. length xs) c.deref_mut.ensures.value,
-    value_size c.self.inside.count c.self.inside.words.items c.args.self.now c.self.view_is)
+    omega (
+      arith,
+      c.requires,
+      c.self.invariant.size,
+      c.put.ensures.len,
+      ap (λ xs. length xs) words_is,
+      ap (λ xs. length xs) c.deref_mut.ensures.value,
+      value_size c.self.inside.count c.self.inside.words.items c.args.self.now c.self.view_is,
+    )
 
 pub put-requires-2 : goal.put-requires-2
-put-requires-2 c = omega (arith, c.requires, c.self.invariant.size, c.self.invariant.marks_size, c.deref_mut-2.ensures.len, ap (λ xs. length xs) c.deref_mut-2.ensures.value,
-    value_size c.self.inside.count c.self.inside.words.items c.args.self.now c.self.view_is)
+put-requires-2 c = omega (
+  arith,
+  c.requires,
+  c.self.invariant.size,
+  c.self.invariant.marks_size,
+  c.deref_mut-2.ensures.len,
+  ap (λ xs. length xs) c.deref_mut-2.ensures.value,
+  value_size c.self.inside.count c.self.inside.words.items c.args.self.now c.self.view_is,
+)
 
 pub invariant_of-self : goal.invariant_of-self
 invariant_of-self c =
