@@ -1,1 +1,14 @@
+pub mod LastTurn
+pub mod Premises
+pub mod ReadStory
+pub mod OwnSide
+pub mod Stored
+pub mod Served
+pub mod Announced
+pub mod Answered
+pub mod Asked
+pub mod Datagrams
+pub mod Batches
+pub mod Missing
+pub mod Promises
 pub mod Example
