@@ -1,1 +1,5 @@
-pub mod Examples
+mod Examples
+pub mod ReadStories
+pub mod Growth
+mod Batches
+pub mod Meters

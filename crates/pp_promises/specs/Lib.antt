@@ -11,4 +11,7 @@ pub mod Datagrams
 pub mod Batches
 pub mod Missing
 pub mod Promises
+pub mod Laws
+pub mod Runs
+pub mod RunExample
 pub mod Example
