@@ -1,4 +1,6 @@
 mod Examples
+mod RunExamples
+mod BrokenRuns
 pub mod ReadStories
 pub mod Growth
 mod Batches

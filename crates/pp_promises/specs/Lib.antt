@@ -14,4 +14,5 @@ pub mod Promises
 pub mod Laws
 pub mod Runs
 pub mod RunExample
+pub mod BrokenRuns
 pub mod Example

@@ -1,15 +1,15 @@
 -- What the definitions say of the small runs, and of runs that differ in one thing.
 use Rattle.std.specs.Prelude.{◌≡◌, ℕ, ◌==◌, Bool, true, false, ◌&&◌, Some, None, List, [], ◌∷◌, ◌++◌, length, map, filter, replicate, count_by, codes, if◌then◌else◌}
-use Rattle.std.specs.List.{list_any, list_all, range_with_len}
+use Rattle.std.specs.List.{list_any, range_with_len}
 use Rattle.pp_terms.specs.command.Report.{held_line}
 use Rattle.pp_terms.specs.command.Tally.{Tally, tally_text}
-use Rattle.pp_terms.specs.format.Traffic.{Address, Record, Received, Quiet, Sent}
+use Rattle.pp_terms.specs.format.Traffic.{Address, Record, Received, Quiet}
 use Rattle.pp_terms.specs.tree.Book.{LookUp}
 use Rattle.pp_terms.specs.tree.Claims.{Contradicts}
 use Rattle.pp_terms.specs.tree.Proves.{Proves}
 use Rattle.pp_terms.specs.tree.Range.{Span, leaves_of}
 use Rattle.pp_traffic.specs.Asking.{asked, asks_in, is_heard}
-use Rattle.pp_traffic.specs.Claims.{claims_in, claimed}
+use Rattle.pp_traffic.specs.Claims.{claims_in}
 use Rattle.pp_traffic.specs.Committed.{requests}
 use Rattle.pp_traffic.specs.Laws.{plan}
 use Rattle.pp_traffic.specs.Life.{Life}
@@ -117,17 +117,12 @@ pub record TellingExamples : Type 0 where
 
 -- ---- storing, of two chunks
 
--- the latest claim of the root before the chunk, as it is counted
+-- the root is among the claims of the run
 abbrev pub root_claimed : List Record → Bool
 root_claimed records = list_any (λ c. c.node.layer == 1) (claims_in 2 (proven_story two (answered 0) (past records)))
 
 abbrev pub acknowledged_in : List Record → Bool
 acknowledged_in records = is_acknowledged 1 (story two (answered 0) (past records))
-
--- the datagram of the run in which the chunk comes
-abbrev pub brings : List Record → Record
-brings [] = Quiet 0
-brings (r ∷ before) = r
 
 -- a book that has another digest of the first of two chunks
 abbrev pub sibling_book : LookUp
