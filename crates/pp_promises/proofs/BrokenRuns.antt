@@ -208,6 +208,41 @@ pub tells_again : (h : History) → ((i : ℕ) → StoodThroughout two_hundred h
 tells_again h stood s = untold (is_told_of 198 (story two_hundred (answered 0) (past run.told_twice))) (new_count two_hundred (answered 0) (past run.told_twice)) twice_told twice_new
     (ends_now two_hundred (TellsOfHeld two_hundred h) (past run.told_twice) twice_turns s (answered 0) twice_plain twice_heard 198 (inr (stood 198)))
 
+few_plain : IsPlainNow two_hundred (answered 0) (past run.told_63)
+unfolding spell bins.leaves_of span_in handshake_at data_at ack_at integrity_at span_at address_at message_at next_message messages_from datagram spelling_of fault_at read_from read_options mismatch_of height
+few_plain = record {
+  local_some = omega arith;
+  remote_some = omega arith;
+  fresh = refl;
+  begins = record { opened = refl; replied = refl; only_one = refl };
+  open_still = refl;
+  timely = refl;
+}
+
+few_heard : is_heard two_hundred (answered 0) (past run.told_63) ≡ true
+unfolding spell bins.leaves_of span_in handshake_at data_at ack_at integrity_at span_at address_at message_at next_message messages_from datagram spelling_of fault_at read_from read_options mismatch_of height
+few_heard = refl
+
+few_told : is_told_of 126 (story two_hundred (answered 0) (past run.told_63)) ≡ false
+unfolding spell bins.leaves_of span_in handshake_at data_at ack_at integrity_at span_at address_at message_at next_message messages_from datagram spelling_of fault_at read_from read_options mismatch_of height
+few_told = refl
+
+few_new : new_count two_hundred (answered 0) (past run.told_63) ≡ 63
+unfolding spell bins.leaves_of span_in handshake_at data_at ack_at integrity_at span_at address_at message_at next_message messages_from datagram spelling_of fault_at read_from read_options mismatch_of height
+few_new = refl
+
+few_turns : in_turns two_hundred (past run.told_63) ≡ past run.told_63
+unfolding spell bins.leaves_of span_in handshake_at data_at ack_at integrity_at span_at address_at message_at next_message messages_from datagram spelling_of fault_at read_from read_options mismatch_of height
+few_turns = refl
+
+too_few : (told : Bool) (new : ℕ) → told ≡ false → new ≡ 63 → (told ≡ true) ⊎ (64 ≤ new) → ⊥
+too_few told new no_told no_new (inl e) = absurd cc
+too_few told new no_told no_new (inr many) = absurd (omega (arith, no_new, many))
+
+pub tells_few : (h : History) → ((i : ℕ) → StoodThroughout two_hundred h i) → TellsAll two_hundred h (past run.told_63) → ⊥
+tells_few h stood s = too_few (is_told_of 126 (story two_hundred (answered 0) (past run.told_63))) (new_count two_hundred (answered 0) (past run.told_63)) few_told few_new
+    (ends_now two_hundred (TellsOfHeld two_hundred h) (past run.told_63) few_turns s (answered 0) few_plain few_heard 126 (inr (stood 126)))
+
 -- what came, and what was before it
 abbrev q : Record
 q = Received 1100000 alice (run.for 7 (run.hashes_of_two ++ run.second_chunk ∷ []))
@@ -365,6 +400,13 @@ silent_turns = refl
 
 pub keeps_up : KeepsUpBut 0 seven (past run.left_silent) → ⊥
 keeps_up s = let e = ends_now seven (KeepsUp seven) (past run.left_silent) silent_turns s (answered 0) silent_plain in let e' = silent in absurd cc
+
+closed_turns : in_turns seven (past run.closed_silent) ≡ in_turns seven (past run.left_silent)
+unfolding spell bins.leaves_of span_in handshake_at data_at ack_at integrity_at span_at address_at message_at next_message messages_from datagram spelling_of fault_at read_from read_options mismatch_of height
+closed_turns = refl
+
+pub keeps_up_closed : KeepsUpBut 0 seven (past run.closed_silent) → ⊥
+keeps_up_closed s = keeps_up (subst (AtEndsOfTurnsBut 0 (KeepsUp seven)) closed_turns s)
 
 missed : IsMissed hundred both (first_turn (in_turns hundred (past run.dials_one))) bob
 unfolding spell bins.leaves_of span_in handshake_at data_at ack_at integrity_at span_at address_at message_at next_message messages_from datagram spelling_of fault_at read_from read_options mismatch_of height

@@ -1,5 +1,6 @@
 mod Examples
 mod RunExamples
+mod KeptRuns
 mod BrokenRuns
 pub mod ReadStories
 pub mod Growth

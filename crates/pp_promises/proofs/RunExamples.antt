@@ -89,8 +89,8 @@ agreed c = ⊎_elim
     (λ here.
     let parts = and_parts (eqb c.layer 0) (eqb c.offset 0) here in
     let at : met_before two (answered 0) proof_of_second (past run.opened_two) run.hashes_of_two 1 (codes "abc") 0 0 ≡ Some c.digest =
-        subst (λ (j : ℕ). met_before two (answered 0) proof_of_second (past run.opened_two) run.hashes_of_two 1 (codes "abc") 0 j ≡ Some c.digest) (eqb-true c.offset 0 parts.1)
-        (subst (λ (k : ℕ). met_before two (answered 0) proof_of_second (past run.opened_two) run.hashes_of_two 1 (codes "abc") k c.offset ≡ Some c.digest) (eqb-true c.layer 0 parts.0) c.is_met) in
+    subst (λ (j : ℕ). met_before two (answered 0) proof_of_second (past run.opened_two) run.hashes_of_two 1 (codes "abc") 0 j ≡ Some c.digest) (eqb-true c.offset 0 parts.1)
+    (subst (λ (k : ℕ). met_before two (answered 0) proof_of_second (past run.opened_two) run.hashes_of_two 1 (codes "abc") k c.offset ≡ Some c.digest) (eqb-true c.layer 0 parts.0) c.is_met) in
     let never : None ≡ Some c.digest = sym unmet ∙ at in cc)
     (λ other. let never : None ≡ Some c.kept = sym (cond-false (eqb c.layer 0 && eqb c.offset 0) _ None other) ∙ c.here in cc)
     (cases_Bool (eqb c.layer 0 && eqb c.offset 0))

@@ -39,6 +39,8 @@ pub record BrokenPromises : Type 0 where
   -- a chunk is announced to one channel and not to the other; the same chunks are told of again
   pub tells : (h : History) → TellsAll two_hundred h (past run.told_never) → ⊥
   pub tells_again : (h : History) → ((i : ℕ) → StoodThroughout two_hundred h i) → TellsAll two_hundred h (past run.told_twice) → ⊥
+  -- 63 new ones are told of, where there are more
+  pub tells_few : (h : History) → ((i : ℕ) → StoodThroughout two_hundred h i) → TellsAll two_hundred h (past run.told_63) → ⊥
   -- a chunk that came isn't acknowledged, or isn't stored
   pub acknowledges : AcknowledgesAll two no_book (past run.unacknowledged) → ⊥
   pub stores : StoresAll two no_book no_bytes (past run.proved) → ⊥
@@ -47,6 +49,8 @@ pub record BrokenPromises : Type 0 where
   pub lets_in : LetsInBut 0 seven (past run.unanswered) → ⊥
   pub chokes_none : ChokesNone 0 seven (past run.choked_at_once) → ⊥
   pub keeps_up : KeepsUpBut 0 seven (past run.left_silent) → ⊥
+  -- a closing handshake doesn't end the silence
+  pub keeps_up_closed : KeepsUpBut 0 seven (past run.closed_silent) → ⊥
   -- a peer isn't dialled in the first turn; what a peer offers isn't asked for
   pub dials : DialsBut 0 hundred both (past run.dials_one) → ⊥
   pub asks : AsksBut 0 hundred no_bytes (past run.asks_too_few) → ⊥

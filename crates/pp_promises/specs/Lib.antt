@@ -14,5 +14,6 @@ pub mod Promises
 pub mod Laws
 pub mod Runs
 pub mod RunExample
+pub mod KeptRuns
 pub mod BrokenRuns
 pub mod Example

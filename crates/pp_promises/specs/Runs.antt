@@ -183,6 +183,9 @@ kept_up = left_silent ++ Sent 1 alice (for 9 []) ∷ []
 abbrev pub closed_up : List Record
 closed_up = kept_up ++ Sent 1 alice (closing 9) ∷ []
 
+abbrev pub closed_silent : List Record
+closed_silent = left_silent ++ Sent 1 alice (closing 9) ∷ []
+
 abbrev pub closed_early : List Record
 closed_early = opened ++ Sent 1 alice (closing 9) ∷ Quiet 2000000 ∷ []
 

@@ -6,6 +6,7 @@
 
 ghost use Rattle.pp_promises.specs.BrokenRuns.{BrokenPromises};
 ghost use Rattle.pp_promises.specs.Example.{NameExamples, BookExamples};
+ghost use Rattle.pp_promises.specs.KeptRuns.{KeptPromises};
 ghost use Rattle.pp_promises.specs.Laws.{AnswersAreRead, PlainsAreRead, ChokesAreRead, ReadTells, ReadAsks, OwedIsAsked, MetersAgree, BatchesAreInTime, ReadsGrow, ContradictionsStay, AcknowledgedStays};
 ghost use Rattle.pp_promises.specs.RunExample.{ServingExamples, PlanExamples, AnsweringExamples, TellingExamples, StoringExamples, FetchingExamples, OwnExamples, ReportExamples, BatchExamples};
 
@@ -39,6 +40,11 @@ pub fn worked_runs()
     ensures own { OwnExamples }
     ensures reports { ReportExamples }
     ensures batches { BatchExamples }
+{}
+
+/// Promises that small runs keep.
+pub fn kept_promises()
+    ensures { KeptPromises }
 {}
 
 /// Each promise is broken by some run on which its premises hold.
