@@ -12,7 +12,7 @@ use Rattle.pp_traffic.specs.Asking.{is_heard}
 use Rattle.pp_traffic.specs.Plain.{is_handshake, IsPlainNow}
 use Rattle.pp_traffic.specs.Turns.{in_turns, AtEndsBut}
 use Rattle.pp_promises.specs.LastTurn.{first_turn}
-use Rattle.pp_promises.specs.OwnSide.{is_choked_by_peer, names_in, is_offered, is_named, has_old_request}
+use Rattle.pp_promises.specs.OwnSide.{is_choked_by_peer, names_in, is_offered, is_named, has_old_request, most_outstanding}
 
 -- ---- dialling
 
@@ -37,10 +37,6 @@ DialsBut r d addresses past = (few : List Address) × (length few ≤ r)
 abbrev pub named_count : ℕ → List Line → ℕ
 named_count chunks story = count_by (λ i. is_named i story) (range_with_len 0 chunks)
 
--- how many are asked of a channel at once
-abbrev pub most_requests : ℕ
-most_requests = 32
-
 -- a REQUEST of the chunk was sent, on whatever channel
 abbrev pub asks_for : Descriptor → ℕ → Record → Bool
 asks_for d i (Received at sender bytes) = false
@@ -53,7 +49,7 @@ pub record MayBeAsked (d : Descriptor) (life : Life) (past : List Record) : Type
   pub heard : is_heard d life past ≡ true
   pub unchoked : is_choked_by_peer (story d life past) ≡ false
   pub fresh : has_old_request (now past) (story d life past) ≡ false
-  pub room : named_count (chunks_of d) (story d life past) < most_requests
+  pub room : named_count (chunks_of d) (story d life past) < most_outstanding
 
 -- Each chunk below a number that it offers was asked for, or is held at the end.
 abbrev pub AsksOffered : Descriptor → ℕ → List ℕ → List Record → Type 0

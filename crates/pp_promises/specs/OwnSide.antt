@@ -88,7 +88,10 @@ after_heard _ a = a
 -- the chunks of a REQUEST are asked for at that moment; those of a CANCEL are no longer
 abbrev pub after_said : ℕ → Message → Asking → Asking
 after_said now (Request span) a =
-    record a { requests = map (λ i. record { chunk = i; asked_at = now }) (range_with_len span.first (span.last + 1 - span.first)) ++ a.requests }
+    record a {
+      requests = map (λ i. record { chunk = i; asked_at = now })
+          (range_with_len span.first (span.last + 1 - span.first)) ++ a.requests;
+    }
 after_said now (Cancel span) a = record a { requests = without_requests span a.requests }
 after_said now _ a = a
 
@@ -118,7 +121,8 @@ after_arrival here a = record a { is_stopped = not here && a.is_stopped }
 abbrev pub after_record : Descriptor → Life → Bool → Bool → ℕ → Record → Asking → Asking
 after_record d life is_opening is_read now (Received at sender bytes) a =
     let r = Received at sender bytes in
-    after_wait now (after_all_heard (if is_read then heard_in d life is_opening r else []) (after_arrival (comes_on d life r && is_read) a))
+    after_wait now
+    (after_all_heard (if is_read then heard_in d life is_opening r else []) (after_arrival (comes_on d life r && is_read) a))
 after_record d life is_opening is_read now (Quiet at) a = after_wait now a
 after_record d life is_opening is_read now (Sent moment receiver bytes) a = after_all_said now (said_in d life (Sent moment receiver bytes)) a
 
@@ -127,7 +131,8 @@ abbrev pub asking : Descriptor → Life → List Record → Asking
 asking d life [] = no_asking
 asking d life (r ∷ before) =
     if nat_le life.opening (length before)
-    then after_record d life (life.opening == length before) (is_read d life (r ∷ before)) (now (r ∷ before)) r (asking d life before)
+    then after_record d life (life.opening == length before) (is_read d life (r ∷ before)) (now (r ∷ before)) r
+    (asking d life before)
     else no_asking
 
 -- how many requests may be outstanding on a channel at once, and whether it may be asked for more

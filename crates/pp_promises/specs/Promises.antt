@@ -86,7 +86,8 @@ pub record Promises (d : Descriptor) (task : Task) (old new : Devices) (run : Co
   pub keeps : IsKnown old.disk → Keeps d new.disk.history run.added
   pub requests : AsksAsTold d task run.added
   pub stores : IsSound old.disk new.disk → IsStored d run.book new.disk run.added
-  pub announces : IsSound old.disk new.disk → IsCalm old.link.faults new.link.faults → IsAnnounced d run.book new.disk run.added
+  pub announces : IsSound old.disk new.disk → IsCalm old.link.faults new.link.faults
+      → IsAnnounced d run.book new.disk run.added
   pub prompt : IsSound old.disk new.disk → CountsTell new → IsPrompt (refusals old new) d new.disk run.added
   pub asks : IsSound old.disk new.disk → CountsTell new → Asks (refusals old new) d task new.disk run
 

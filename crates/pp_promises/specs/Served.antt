@@ -43,7 +43,8 @@ abbrev pub is_owed : Descriptor → Life → ℕ → List Record → Bool
 is_owed d life i [] = false
 is_owed d life i (r ∷ before) =
     if nat_le life.opening (length before)
-    then owed_after d life i (life.opening == length before) (choked (story d life before) || not (is_announced d i before)) r (is_owed d life i before)
+    then owed_after d life i (life.opening == length before)
+    (choked (story d life before) || not (is_announced d i before)) r (is_owed d life i before)
     else false
 
 -- On a plain channel: the other peer isn't choked, it has written to this peer's number, it sent few requests and
