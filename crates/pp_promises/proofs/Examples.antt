@@ -1,6 +1,5 @@
 -- The worked examples, by computation.
-use Rattle.std.proofs.Common.{◌≡◌, Some, None, List, ℕ, Option, [], ◌∷◌, refl}
-use Rattle.pp_terms.specs.format.Traffic.{Address}
+use Rattle.std.proofs.Common.{◌≡◌, Some, [], ◌∷◌, refl}
 use Rattle.pp_promises.specs.Example.{first_name, second_name, home, abroad, NameExamples, BookExamples}
 
 pub name_examples : NameExamples

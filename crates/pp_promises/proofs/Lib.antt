@@ -1,1 +1,8 @@
-pub mod Examples
+mod Examples
+mod RunExamples
+mod KeptRuns
+mod BrokenRuns
+pub mod ReadStories
+pub mod Growth
+mod Batches
+pub mod Meters
