@@ -1,9 +1,9 @@
 -- Promises that small runs break.
 use lib.Count.{count_trailing_zeros}
 use Rattle.std.proofs.Common.{◌≡◌, ◌⊎◌, inl, inr, leb, eqb, cond, not, ◌&&◌, ◌||◌, drop, map, replicate, sym, ◌∙◌, subst, ◌+◌, ◌<◌, ⊎_elim, ℕ, suc, ◌≤◌, Bool, true, false, Some, None, List, [], ◌∷◌, ◌++◌, length, take, refl, ap, arith}
-use Rattle.std.proofs.lemmas.Bool.{or_cases, eqb-true, cases_Bool, cond-true, cond-false}
+use Rattle.std.proofs.lemmas.Bool.{or_parts, and_parts, or_cases, eqb-true, cases_Bool, cond-true, cond-false}
 use Rattle.std.specs.Prelude.{codes, ◌==◌, count_by}
-use Rattle.std.specs.List.{AllByRecursion, list_any}
+use Rattle.std.specs.List.{list_any, list_all}
 use Rattle.sha2.specs.Sha256.{first_words, schedule, rounds, compress, hash_after, digest_bytes, sha256}
 use Rattle.pp_terms.specs.tree.Book.{LookUp, AreDigests}
 use Rattle.pp_terms.specs.disk.Disk.{DiskState, History}
@@ -262,17 +262,18 @@ brings : BringsChunk two (answered 0) (past run.opened_two) q 1 (codes "abc")
 unfolding spell bins.leaves_of span_in handshake_at data_at ack_at integrity_at span_at address_at message_at next_message messages_from datagram spelling_of fault_at read_from read_options mismatch_of height
 brings = record { plain = proved_plain; comes = refl; front = run.hashes_of_two; sent_at = 0; rest = []; messages = refl; open_still = refl }
 
-claims_are_digests : (claims : List Claim) → AllByRecursion (λ c. length c.digest ≡ 32) claims → AreDigests (latest claims)
+claims_are_digests : (claims : List Claim) → list_all (λ c. eqb (length c.digest) 32) claims ≡ true → AreDigests (latest claims)
 claims_are_digests [] all k j digest e = absurd cc
 claims_are_digests (c ∷ claims) all k j digest e = ⊎_elim
     (λ here. let same : Some c.digest ≡ Some digest = sym (cond-true (eqb c.node.layer k && eqb c.node.offset j) (Some c.digest) (latest claims k j) here) ∙ e in
-    let is : c.digest ≡ digest = cc in ap (λ (xs : List ℕ). length xs) (sym is) ∙ all.0)
-    (λ other. claims_are_digests claims all.1 k j digest (sym (cond-false (eqb c.node.layer k && eqb c.node.offset j) (Some c.digest) (latest claims k j) other) ∙ e))
+    let is : c.digest ≡ digest = cc in
+    ap (λ (xs : List ℕ). length xs) (sym is) ∙ eqb-true (length c.digest) 32 (and_parts (eqb (length c.digest) 32) (list_all (λ x. eqb (length x.digest) 32) claims) all).0)
+    (λ other. claims_are_digests claims (and_parts (eqb (length c.digest) 32) (list_all (λ x. eqb (length x.digest) 32) claims) all).1 k j digest (sym (cond-false (eqb c.node.layer k && eqb c.node.offset j) (Some c.digest) (latest claims k j) other) ∙ e))
     (cases_Bool (eqb c.node.layer k && eqb c.node.offset j))
 
 proves : Proves two (claimed_before two (answered 0) q (past run.opened_two) run.hashes_of_two) 1 (codes "abc")
 unfolding spell bins.leaves_of span_in handshake_at data_at ack_at integrity_at span_at address_at message_at next_message messages_from datagram spelling_of fault_at read_from read_options mismatch_of height empty_hash first_absent last_layer first_words schedule rounds compress hash_after digest_bytes sha256 count_trailing_zeros
-proves = record { whole = refl; digests = claims_are_digests (take 128 (claims_in 2 (hear 1100000 run.hashes_of_two (proven_story two (answered 0) (past run.opened_two))))) (refl, (refl, tt)); peaks_known = refl; top = 1; has_peak = refl; below_it = refl; to_peak = refl; to_root = refl }
+proves = record { whole = refl; digests = claims_are_digests (take 128 (claims_in 2 (hear 1100000 run.hashes_of_two (proven_story two (answered 0) (past run.opened_two))))) refl; peaks_known = refl; top = 1; has_peak = refl; below_it = refl; to_peak = refl; to_root = refl }
 
 -- a book without an entry contradicts nothing
 agrees : (meets : LookUp) → Contradicts no_book meets → ⊥
@@ -316,7 +317,7 @@ dial_brings = record { plain = dial_plain; comes = refl; front = reply_front; se
 
 dial_proves : Proves two (claimed_before two (dialled 1) reply dial reply_front) 1 (codes "abc")
 unfolding spell bins.leaves_of span_in handshake_at data_at ack_at integrity_at span_at address_at message_at next_message messages_from datagram spelling_of fault_at read_from read_options mismatch_of height empty_hash first_absent last_layer first_words schedule rounds compress hash_after digest_bytes sha256 count_trailing_zeros
-dial_proves = record { whole = refl; digests = claims_are_digests (take 128 (claims_in 2 (hear 1100000 reply_front (proven_story two (dialled 1) dial)))) (refl, (refl, tt)); peaks_known = refl; top = 1; has_peak = refl; below_it = refl; to_peak = refl; to_root = refl }
+dial_proves = record { whole = refl; digests = claims_are_digests (take 128 (claims_in 2 (hear 1100000 reply_front (proven_story two (dialled 1) dial)))) refl; peaks_known = refl; top = 1; has_peak = refl; below_it = refl; to_peak = refl; to_root = refl }
 
 pub stores_dialled : StoresAll two no_book no_bytes (past run.dialled_two) → ⊥
 unfolding dial_brings
@@ -518,13 +519,9 @@ none_told chunks n Choke told e e' = e'
 none_told chunks n Unchoke told e e' = e'
 none_told chunks n (Pex6 address port) told e e' = e'
 
-or_none : (y z : Bool) → (y || z) ≡ false → (y ≡ false) × (z ≡ false)
-or_none true z e = absurd cc
-or_none false z e = (refl, e)
-
 hear_none : (chunks at : ℕ) (n : Node) (ms : List Message) (s : List Line) → list_any tells_any ms ≡ false → is_told chunks s n ≡ false → is_told chunks (hear at ms s) n ≡ false
 hear_none chunks at n [] s e e' = e'
-hear_none chunks at n (m ∷ ms) s e e' = let parts = or_none (tells_any m) (list_any tells_any ms) e in
+hear_none chunks at n (m ∷ ms) s e e' = let parts = or_parts (tells_any m) (list_any tells_any ms) e in
     hear_none chunks at n ms (Heard at m ∷ s) parts.1 (none_told chunks n m (is_told chunks s n) parts.0 e')
 
 say_none : (chunks at : ℕ) (n : Node) (ms : List Message) (s : List Line) → is_told chunks s n ≡ false → is_told chunks (say at ms s) n ≡ false
@@ -533,7 +530,7 @@ say_none chunks at n (m ∷ ms) s e = say_none chunks at n ms (Said at m ∷ s) 
 
 drop_none : (ms : List Message) → list_any tells_any ms ≡ false → list_any tells_any (drop 1 ms) ≡ false
 drop_none [] e = refl
-drop_none (m ∷ ms) e = (or_none (tells_any m) (list_any tells_any ms) e).1
+drop_none (m ∷ ms) e = (or_parts (tells_any m) (list_any tells_any ms) e).1
 
 heard_none : (x y : Bool) (ms : List Message) → list_any tells_any ms ≡ false → list_any tells_any (cond x (drop 1 ms) (cond y ms [])) ≡ false
 heard_none true y ms e = drop_none ms e
@@ -558,7 +555,7 @@ nothing_told d life chunks n [] e = refl
 nothing_told d life chunks n (r ∷ b) e = pick (leb life.opening (length b)) (is_read d life (r ∷ b)) (nothing_told d life chunks n b parts.1)
   where
     parts : (tells_in d r ≡ false) × (list_any (tells_in d) b ≡ false)
-    parts = or_none (tells_in d r) (list_any (tells_in d) b) e
+    parts = or_parts (tells_in d r) (list_any (tells_in d) b) e
 
     pick : (x y : Bool) → is_told chunks (read_story d life b) n ≡ false
         → is_told chunks (cond x (cond y (told d life (eqb life.opening (length b)) (now (r ∷ b)) r (read_story d life b))

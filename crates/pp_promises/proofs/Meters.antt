@@ -1,6 +1,6 @@
 -- What is left unread moves no window.
 use Rattle.std.proofs.Common.{◌≡◌, ℕ, leb, eqb, Bool, true, false, cond, not, ◌&&◌, ◌||◌, List, [], ◌∷◌, length, refl, sym, ◌∙◌, ap, subst}
-use Rattle.std.proofs.lemmas.Bool.{and_parts}
+use Rattle.std.proofs.lemmas.Bool.{and_parts, or_parts, not-true}
 use Rattle.std.specs.List.{list_any}
 use Rattle.pp_terms.specs.format.Traffic.{Record, Received, Quiet, Sent}
 use Rattle.pp_terms.specs.format.Descriptor.{Descriptor}
@@ -61,14 +61,6 @@ unread_meters d life chunk o at (Quiet a) s s' still e = ap (ended at) e
 unread_meters d life chunk o at (Sent moment receiver bytes) s s' still e = say_meters chunk at (said_in d life (Sent moment receiver bytes)) s s' e
 
 -- nothing flies before the reply
-or_none : (y z : Bool) → (y || z) ≡ false → (y ≡ false) × (z ≡ false)
-or_none true z e = absurd cc
-or_none false z e = (refl, e)
-
-not_true : (x : Bool) → not x ≡ true → x ≡ false
-not_true true e = absurd cc
-not_true false e = refl
-
 or_second : (x y : Bool) → x ≡ false → (x || y) ≡ true → y ≡ true
 or_second true y e' e = absurd cc
 or_second false y e' e = e
@@ -97,7 +89,7 @@ said_none at (Pex6 address port) m none = refl
 say_still : (chunk at : ℕ) (ms : List Message) (s : List Line) → list_any is_any_data ms ≡ false → meter chunk (say at ms s) ≡ meter chunk s
 say_still chunk at [] s none = refl
 say_still chunk at (x ∷ ms) s none =
-    let parts = or_none (is_any_data x) (list_any is_any_data ms) none in
+    let parts = or_parts (is_any_data x) (list_any is_any_data ms) none in
     say_still chunk at ms (Said at x ∷ s) parts.1 ∙ said_none at x (meter chunk s) parts.0
 
 unread_still : (d : Descriptor) (life : Life) (chunk : ℕ) (o : Bool) (at : ℕ) (r : Record) (s : List Line) → list_any is_any_data (said_in d life r) ≡ false
@@ -122,7 +114,7 @@ still_unread d life chunk (r ∷ b) e bare = pick (leb life.opening (length b)) 
     parts = and_parts (is_read d life (r ∷ b) || not (list_any is_any_data (said_in d life r))) (is_bare d life b) bare
 
     none : list_any is_any_data (said_in d life r) ≡ false
-    none = not_true (list_any is_any_data (said_in d life r)) (or_second (is_read d life (r ∷ b)) (not (list_any is_any_data (said_in d life r))) e parts.0)
+    none = not-true (list_any is_any_data (said_in d life r)) (or_second (is_read d life (r ∷ b)) (not (list_any is_any_data (said_in d life r))) e parts.0)
 
     pick : (x y : Bool) → y ≡ false → IsStill (meter chunk (read_story d life b))
         → IsStill (meter chunk (cond x (cond y (told d life (eqb life.opening (length b)) (now (r ∷ b)) r (read_story d life b)) (with_unread d life (eqb life.opening (length b)) (now (r ∷ b)) r (read_story d life b))) []))

@@ -1,6 +1,6 @@
 -- How what is read of a channel stands to its whole story.
 use Rattle.std.proofs.Common.{◌≡◌, ⊎_elim, ℕ, ◌<◌, leb, ltb, eqb, Bool, true, false, cond, not, ◌&&◌, ◌||◌, List, [], ◌∷◌, length, drop, refl, sym, ◌∙◌, ap, subst, MatchBool, arith}
-use Rattle.std.proofs.lemmas.Bool.{and_parts, and_from, or_cases, or_left, or_right, leb-false, le-leb, lt-ltb}
+use Rattle.std.proofs.lemmas.Bool.{and_parts, and_from, and_right, or_parts, or_cases, or_left, or_right, leb-false, le-leb, lt-ltb}
 use Rattle.pp_terms.specs.format.Traffic.{Record, Received, Quiet, Sent}
 use Rattle.pp_terms.specs.tree.Tree.{Node}
 use Rattle.pp_terms.specs.format.Descriptor.{Descriptor}
@@ -63,14 +63,13 @@ chokes_are_read d life (r ∷ b) = pick (leb life.opening (length b)) (is_read d
 
 -- ---- what is told
 
-or_both : (x a b : Bool) → (a ≡ true → b ≡ true) → (x || a) ≡ true → (x || b) ≡ true
-or_both x a b f e = ⊎_elim (λ l. or_left x b l) (λ r. or_right x b (f r)) (or_cases x a e)
-
 hear_tells : (chunks at : ℕ) (ms : List Message) (s s' : List Line) (n : Node) → (is_told chunks s n ≡ true → is_told chunks s' n ≡ true)
     → is_told chunks (hear at ms s) n ≡ true → is_told chunks (hear at ms s') n ≡ true
 hear_tells chunks at [] s s' n f e = f e
 hear_tells chunks at (m ∷ ms) s s' n f e =
-    hear_tells chunks at ms (Heard at m ∷ s) (Heard at m ∷ s') n (or_both (told_by chunks n m) (is_told chunks s n) (is_told chunks s' n) f) e
+    hear_tells chunks at ms (Heard at m ∷ s) (Heard at m ∷ s') n
+    (λ either. ⊎_elim (λ here. or_left (told_by chunks n m) (is_told chunks s' n) here) (λ before. or_right (told_by chunks n m) (is_told chunks s' n) (f before))
+    (or_cases (told_by chunks n m) (is_told chunks s n) either)) e
 
 hear_stays : (chunks at : ℕ) (ms : List Message) (s : List Line) (n : Node) → is_told chunks s n ≡ true → is_told chunks (hear at ms s) n ≡ true
 hear_stays chunks at [] s n e = e
@@ -165,11 +164,7 @@ say_none i at [] s e = e
 say_none i at (m ∷ ms) s e = say_none i at ms (Said at m ∷ s) (none_after m (asked i s) e)
   where
     none_after : (m : Message) (a : Bool) → a ≡ false → asked_after i m a ≡ false
-    none_after (Data chunk sent_at bytes) a e = let w : asked_after i (Data chunk sent_at bytes) a ≡ (not (eqb chunk i) && a) = refl in and_false (not (eqb chunk i)) a e
-      where
-        and_false : (x a : Bool) → a ≡ false → (x && a) ≡ false
-        and_false true a e = e
-        and_false false a e = refl
+    none_after (Data chunk sent_at bytes) a e = let w : asked_after i (Data chunk sent_at bytes) a ≡ (not (eqb chunk i) && a) = refl in and_right (not (eqb chunk i)) a e
     none_after Choke a e = refl
     none_after (Handshake source options) a e = e
     none_after (Ack span delay) a e = e
@@ -289,16 +284,12 @@ elsewhere d life o at (Sent moment receiver bytes) s dialled away = refl
 abbrev came : Life → List Record → Bool
 came life past = some_since (comes_from life.address) 0 past
 
-or_none : (y z : Bool) → (y || z) ≡ false → (y ≡ false) × (z ≡ false)
-or_none true z e = absurd cc
-or_none false z e = (refl, e)
-
 none_came : (d : Descriptor) (life : Life) (past : List Record) → life.is_dialled ≡ true → came life past ≡ false → read_story d life past ≡ story d life past
 none_came d life [] dialled none = refl
 none_came d life (r ∷ b) dialled none = pick (leb life.opening (length b)) (is_read d life (r ∷ b)) (none_came d life b dialled parts.1)
   where
     parts : (comes_from life.address r ≡ false) × (came life b ≡ false)
-    parts = or_none (comes_from life.address r) (came life b) (subst (λ (x : Bool). ((x && comes_from life.address r) || came life b) ≡ false) (from_start (length b)) none)
+    parts = or_parts (comes_from life.address r) (came life b) (subst (λ (x : Bool). ((x && comes_from life.address r) || came life b) ≡ false) (from_start (length b)) none)
 
     away : comes_from life.address r ≡ false
     away = parts.0
@@ -326,10 +317,10 @@ whole d life [] dialled first fresh = absurd cc
 whole d life (r ∷ b) dialled first fresh = by_case (came life b) refl (whole d life b dialled)
   where
     later : some_until (concerns life.address) life.opening b ≡ false
-    later = (or_none (ltb (length b) life.opening && concerns life.address r) (some_until (concerns life.address) life.opening b) fresh).1
+    later = (or_parts (ltb (length b) life.opening && concerns life.address r) (some_until (concerns life.address) life.opening b) fresh).1
 
     here : (ltb (length b) life.opening && concerns life.address r) ≡ false
-    here = (or_none (ltb (length b) life.opening && concerns life.address r) (some_until (concerns life.address) life.opening b) fresh).0
+    here = (or_parts (ltb (length b) life.opening && concerns life.address r) (some_until (concerns life.address) life.opening b) fresh).0
 
     read_it : (x y : Bool) → y ≡ true → read_story d life b ≡ story d life b
         → cond x (cond y (told d life (eqb life.opening (length b)) (now (r ∷ b)) r (read_story d life b)) (with_unread d life (eqb life.opening (length b)) (now (r ∷ b)) r (read_story d life b))) [] ≡ cond x (told d life (eqb life.opening (length b)) (now (r ∷ b)) r (story d life b)) []
