@@ -38,7 +38,7 @@ use Rattle.pp_promises.specs.Served.{MayBeServed, IsOwed, LeavesFew, ServesBut}
 use Rattle.pp_promises.specs.Announced.{is_acknowledged, is_told_of, new_count, IsKnownOf, IsFirst, AcknowledgesFirst, AcknowledgesAll, TellsOfHeld, TellsAll}
 use Rattle.pp_promises.specs.Answered.{is_let_in, openings, chokes, wrote_lately, LetsIn, LetsInBut, ChokesNone, KeepsUp, KeepsUpBut}
 use Rattle.pp_promises.specs.Asked.{asks_for, IsMissed, MayBeAsked, AsksOffered, DialsBut, AsksBut}
-use Rattle.pp_promises.specs.Datagrams.{is_read_told, IsWhole, PlansAll}
+use Rattle.pp_promises.specs.Datagrams.{is_read_told, IsReadToEnd, IsWhole, PlansAll}
 use Rattle.pp_traffic.specs.Committed.{requests, AreCommitted, RequestsNone}
 use Rattle.pp_traffic.specs.Tallied.{TookTurns, IsTallied}
 use Rattle.pp_promises.specs.Batches.{CommitsInTime, after_commit}
@@ -469,6 +469,9 @@ torn_fault = refl
 
 pub whole : IsWhole seven torn → ⊥
 whole s = let e = s.to_end in let e' = torn_fault in absurd cc
+
+pub long : (r : Record) (bytes : List ℕ) → length bytes ≡ 16385 → IsReadToEnd seven r bytes → ⊥
+long r bytes e s = let short = s.short in omega (arith, e, short)
 
 closed : list_any (is_closing seven) (in_turns seven (past run.closed_early)) ≡ true
 unfolding spell bins.leaves_of span_in handshake_at data_at ack_at integrity_at span_at address_at message_at next_message messages_from datagram spelling_of fault_at read_from read_options mismatch_of height

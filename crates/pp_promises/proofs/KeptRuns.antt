@@ -1,5 +1,5 @@
 -- Promises that small runs keep.
-use Rattle.std.proofs.Common.{◌≡◌, inl, inr, ⊎_elim, ℕ, ◌<◌, leb, true, false, ◌&&◌, Some, List, [], ◌∷◌, refl, subst, arith}
+use Rattle.std.proofs.Common.{◌≡◌, inl, inr, ⊎_elim, ℕ, ◌<◌, leb, true, false, ◌&&◌, Some, List, [], ◌∷◌, ◌++◌, refl, subst, arith}
 use Rattle.std.proofs.lemmas.Bool.{or_cases, and_parts, eqb-true, false≢true}
 use Rattle.std.specs.List.{AllByRecursion}
 use Rattle.pp_terms.specs.disk.Disk.{History}
@@ -13,17 +13,20 @@ use Rattle.pp_traffic.specs.Asking.{is_heard}
 use Rattle.pp_traffic.specs.Committed.{RequestsNone}
 use Rattle.pp_traffic.specs.Life.{Life, comes_on}
 use Rattle.pp_traffic.specs.Meter.{lets_send}
+use Rattle.pp_traffic.specs.Story.{story}
 use Rattle.pp_traffic.specs.Past.{read, is_number}
 use Rattle.pp_traffic.specs.Turns.{AtEndsBut, ClosesLast}
 use Rattle.pp_promises.specs.Stored.{StoresAll}
 use Rattle.pp_promises.specs.Served.{LeavesFew}
 use Rattle.pp_promises.specs.Announced.{AcknowledgesFirst, TellsOfHeld}
 use Rattle.pp_promises.specs.Answered.{LetsInBut, ChokesNone, openings}
-use Rattle.pp_promises.specs.Asked.{AsksOffered}
+use Rattle.pp_promises.specs.Asked.{named_count, IsMissed, MayBeAsked, AsksOffered}
 use Rattle.pp_promises.specs.Datagrams.{IsWhole}
+use Rattle.pp_promises.specs.LastTurn.{first_turn}
+use Rattle.pp_promises.specs.RunExample.{to_bob}
 use Rattle.pp_promises.specs.KeptRuns.{KeptPromises}
 use Rattle.pp_promises.specs.Runs as run
-use Rattle.pp_promises.specs.Runs.{past, alice, seven}
+use Rattle.pp_promises.specs.Runs.{past, alice, bob, both, seven, hundred}
 
 -- the peer's handshake, and the reply
 abbrev knock : Record
@@ -103,6 +106,19 @@ closed_last : ClosesLast seven (past run.closed_up)
 unfolding spell leaves_of span_in handshake_at data_at ack_at integrity_at span_at address_at message_at next_message messages_from datagram spelling_of fault_at read_from read_options mismatch_of height
 closed_last = refl
 
+thirty_two : named_count 100 (story hundred to_bob (past (run.dials_both ++ run.bob_replies ++ run.asks_bob 0 31))) ≡ 32
+unfolding spell leaves_of span_in handshake_at data_at ack_at integrity_at span_at address_at message_at next_message messages_from datagram spelling_of fault_at read_from read_options mismatch_of height
+thirty_two = refl
+
+not_below : (n : ℕ) → n ≡ 32 → n < 32 → ⊥
+not_below n e lt = omega (arith, e, lt)
+
+asked_enough : MayBeAsked hundred to_bob (past (run.dials_both ++ run.bob_replies ++ run.asks_bob 0 31)) → ⊥
+asked_enough may = not_below (named_count 100 (story hundred to_bob (past (run.dials_both ++ run.bob_replies ++ run.asks_bob 0 31)))) thirty_two may.room
+
+wrote_first : IsMissed hundred both (first_turn (past run.dials_other)) bob → ⊥
+wrote_first missed = let never : true ≡ false = missed.silent in cc
+
 pub kept : KeptPromises
 kept = record {
   lets_in = let_in;
@@ -112,6 +128,8 @@ kept = record {
   stores = stores_none;
   asks = λ reads. ends_of_opened (AsksOffered seven _ reads) (λ life may i below offered. absurd (unheard life may.plain.local_some may.heard)) (λ life may i below offered. absurd (false≢true may.heard));
   excused = λ h. ends_of_served (LeavesFew 1 seven (lets_send 1024) h) (few_of_one h (past run.opened) (few_at_opened h)) (few_of_one h [] (few_at_first h));
+  asked_enough = asked_enough;
+  wrote_first = wrote_first;
   chokes_none = unchoked;
   chokes_ninth = λ few. absurd (omega (arith, nine, few));
   requests_none = asks_none;

@@ -116,6 +116,7 @@ own = record {
   choked = refl;
   offered = refl;
   asked_next = (refl, refl, refl, refl);
+  full = (refl, refl);
   whole = (refl, refl, refl);
   read = (refl, refl, refl);
   proven = refl;

@@ -1,5 +1,5 @@
 -- Small runs that break a promise. On each of them the promise's premises hold, so none is empty.
-use Rattle.std.specs.Prelude.{◌≡◌, ℕ, true, false, None, List, [], ◌∷◌, ◌++◌, drop, replicate}
+use Rattle.std.specs.Prelude.{◌≡◌, ℕ, true, false, None, List, [], ◌∷◌, ◌++◌, length, drop, replicate}
 use Rattle.pp_terms.specs.disk.Disk.{DiskState, History}
 use Rattle.pp_terms.specs.format.Traffic.{LinkState, Record, Sent}
 use Rattle.pp_terms.specs.tree.Book.{LookUp}
@@ -13,7 +13,7 @@ use Rattle.pp_promises.specs.Served.{LeavesFew, ServesBut}
 use Rattle.pp_promises.specs.Announced.{AcknowledgesAll, TellsAll}
 use Rattle.pp_promises.specs.Answered.{LetsInBut, ChokesNone, KeepsUpBut}
 use Rattle.pp_promises.specs.Asked.{DialsBut, AsksBut}
-use Rattle.pp_promises.specs.Datagrams.{IsWhole, PlansAll}
+use Rattle.pp_promises.specs.Datagrams.{IsReadToEnd, IsWhole, PlansAll}
 use Rattle.pp_promises.specs.Batches.{after_commit, CommitsInTime}
 use Rattle.pp_promises.specs.RunExample.{quiet_tally, quiet_turns, empty, stored}
 use Rattle.pp_promises.specs.Runs as run
@@ -54,9 +54,10 @@ pub record BrokenPromises : Type 0 where
   -- a peer isn't dialled in the first turn; what a peer offers isn't asked for
   pub dials : DialsBut 0 hundred both (past run.dials_one) → ⊥
   pub asks : AsksBut 0 hundred no_bytes (past run.asks_too_few) → ⊥
-  -- a seeder asks; a datagram isn't read to its end; a channel is closed before the last turn; a chunk comes on no channel
+  -- a seeder asks; a datagram isn't read to its end, or is too long; a channel is closed before the last turn; a chunk comes on no channel
   pub requests_none : RequestsNone hundred (past run.fetching) → ⊥
   pub whole : IsWhole seven torn → ⊥
+  pub long : (r : Record) (bytes : List ℕ) → length bytes ≡ 16385 → IsReadToEnd seven r bytes → ⊥
   pub closes_last : ClosesLast seven (past run.closed_early) → ⊥
   pub plans : PlansAll seven (lets_send 1024) (past run.first_sent) → ⊥
   -- a chunk comes with a hash too many, or with one too few

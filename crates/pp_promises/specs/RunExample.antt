@@ -196,6 +196,9 @@ pub record OwnExamples : Type 0 where
   pub offered : is_offered 99 (story hundred (dialled 1) (past run.own_asking)) ≡ true
   pub asked_next : (may_ask (asking hundred (dialled 1) (past run.own_asking)) ≡ true) × (may_ask (asking hundred (dialled 1) (past run.own_expired)) ≡ false)
       × (may_ask (asking hundred (dialled 1) (past run.own_again)) ≡ true) × (may_ask (asking hundred (dialled 1) (past run.own_choked)) ≡ false)
+  -- 31 may be outstanding and one more asked, but not 32
+  pub full : (may_ask (asking hundred to_bob (past run.asks_too_few)) ≡ true)
+      × (may_ask (asking hundred to_bob (past (run.dials_both ++ run.bob_replies ++ run.asks_bob 0 31))) ≡ false)
   -- the whole story has what came before the reply; what was read hasn't
   pub whole : (is_offered 5 (story seven (dialled 1) (past run.before_reply)) ≡ true) × (is_choked_by_peer (story seven (dialled 1) (past run.before_reply)) ≡ true)
       × (length (claims_in 7 (story seven (dialled 1) (past run.before_reply))) ≡ 2)

@@ -20,6 +20,7 @@ returns c = record {
   asks = broken.asks;
   requests_none = broken.requests_none;
   whole = broken.whole;
+  long = broken.long;
   closes_last = broken.closes_last;
   plans = broken.plans;
   plans_more = broken.plans_more;
