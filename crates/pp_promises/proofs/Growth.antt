@@ -95,7 +95,8 @@ acknowledged_stays d book larger past extends all = ends_follow (AcknowledgesFir
 
 -- ---- what is read
 
-begun : (d : Descriptor) (life : Life) (r : Record) (past : List Record) → life.opening < length past
+-- a record more of a life that has begun
+pub begun : (d : Descriptor) (life : Life) (r : Record) (past : List Record) → life.opening < length past
     → read_story d life (r ∷ past) ≡ cond (is_read d life (r ∷ past)) (told d life false (now (r ∷ past)) r (read_story d life past)) (with_unread d life false (now (r ∷ past)) r (read_story d life past))
 begun d life r past lt = pick (leb life.opening (length past)) (eqb life.opening (length past)) (le-leb life.opening (length past) (omega (arith, lt)))
     (ne_eqb life.opening (length past) (λ e. omega (arith, e, lt)))
