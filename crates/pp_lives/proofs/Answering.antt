@@ -5,7 +5,7 @@ use Rattle.pp_terms.specs.format.Options.{Options}
 use Rattle.pp_terms.specs.format.Messages.{Message, Handshake}
 use Rattle.pp_traffic.specs.Life.{fits}
 use Rattle.pp_outside.specs.declared.link.Address.{Address}
-use Rattle.pp_channels.specs.Seats.{Seats, channel_at}
+use Rattle.pp_channels.specs.Seats.{Seats}
 use Rattle.pp_lives.specs.Arriving.{contents, Answers, Awaited}
 use Rattle.pp_lives.specs.declared.arriving.Arrival.{Arrival}
 use Rattle.pp_lives.specs.declared.arriving.Arrival.TheVariants as arrivals

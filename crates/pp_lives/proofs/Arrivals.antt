@@ -37,7 +37,6 @@ use Rattle.pp_lives.proofs.Edits.{steady_seated, steady_tells, steady_again, sti
 use Rattle.pp_lives.proofs.Plainly.{plains_missed, plains_heard, plains_replied, plains_closed, plains_shut, plains_refused, plains_dropped, IsDone, plains_steady}
 use Rattle.pp_lives.proofs.PlainSends.{plains_opened}
 use Rattle.pp_channels.specs.Timing.{is_greeted}
-use Rattle.std.proofs.lemmas.Bool.{or_left}
 use Rattle.pp_channels.specs.Seats.{is_dialled}
 use Rattle.pp_lives.proofs.Begun.{begun_changed, begun_dropped}
 use Rattle.pp_lives.proofs.Edits.{steady_waits}

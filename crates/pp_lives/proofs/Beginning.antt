@@ -5,7 +5,7 @@ use Rattle.pp_terms.specs.format.Descriptor.{Method, Descriptor}
 use Rattle.pp_terms.specs.format.Options.{IsBytes}
 use Rattle.pp_terms.specs.format.Messages.{Message, WireKind, Step, Read, End, Cut, next_message, moved, Messages, messages_at, with_first}
 use Rattle.pp_terms.proofs.Spellings.{IsBytes-drop}
-use Rattle.pp_terms.proofs.MovedSteps.{Size, size_of, moved_end}
+use Rattle.pp_terms.proofs.MovedSteps.{size_of, moved_end}
 use Rattle.pp_terms.proofs.MessageLaws.{read_is_spelt, spelt_some}
 use Rattle.pp_terms.proofs.DatagramLaws.{one_by_one}
 use Rattle.pp_traffic.specs.Life.{begins}

@@ -1,5 +1,5 @@
 -- Where this peer dialled, its first handshake was sent: what keeps it so.
-use Rattle.std.proofs.Common.{◌≡◌, ⊎_elim, ℕ, eqb, Bool, true, Some, sym, ◌∙◌, ap}
+use Rattle.std.proofs.Common.{◌≡◌, ⊎_elim, ℕ, eqb, true, Some, sym, ◌∙◌, ap}
 use Rattle.std.proofs.lemmas.Bool.{cases_Bool, eqb-true, eqb-false}
 use Rattle.std.proofs.lemmas.Option.{same_Some}
 use Rattle.pp_channels.specs.declared.channel.Channel.{Channel}

@@ -8,7 +8,7 @@ use Rattle.pp_terms.specs.format.Descriptor.{Descriptor}
 use Rattle.pp_traffic.specs.Life.{Life}
 use Rattle.pp_outside.specs.Outside.{address_of, is_same}
 use Rattle.pp_outside.specs.declared.link.Address.{Address}
-use Rattle.pp_channels.specs.Seats.{AreSeats, is_begun, is_source, has_remote, is_dialled, dialled, due_again, is_sent, unreplied, with_handshake}
+use Rattle.pp_channels.specs.Seats.{AreSeats, is_begun, is_source, has_remote, is_dialled, dialled, unreplied, with_handshake}
 use Rattle.pp_channels.specs.Timing.{is_greeted}
 use Rattle.pp_channels.specs.declared.channel.State.{State}
 use Rattle.pp_channels.specs.declared.channel.Reply.TheVariants.{Due, Sent, DueAgain}
@@ -18,9 +18,9 @@ use Rattle.pp_channels.specs.declared.channel.Channel.{Channel}
 use Rattle.pp_promises.specs.ReadStory.{read_story}
 use Rattle.pp_lives.specs.Reading.{is_proven, is_waiting}
 use Rattle.pp_channels.specs.Seats.{Seats, channel_at}
-use Rattle.pp_lives.specs.Standing.{Stands, IsUnbegun, StandsAt, once_known, read_of, read_at, WaitsBlank, Seated}
+use Rattle.pp_lives.specs.Standing.{Stands, IsUnbegun, StandsAt, once_known, read_of, read_at, Seated}
 use Rattle.pp_lives.specs.Calls.{Changes, Steady, with_life}
-use Rattle.pp_lives.proofs.Own.{Alike, was_alike, still_apart}
+use Rattle.pp_lives.proofs.Own.{Alike, still_apart}
 
 -- ---- what stays
 

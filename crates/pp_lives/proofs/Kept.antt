@@ -1,25 +1,23 @@
 -- The seats as the calls leave them stand for the traffic.
-use Rattle.std.proofs.Common.{◌≡◌, ◌≢◌, ⊎_elim, ℕ, ◌<◌, cond, eqb, leb, Bool, true, false, ◌||◌, ◌&&◌, Option, Some, None, List, [], ◌∷◌, length, refl, sym, ◌∙◌, ap, subst, arith}
+use Rattle.std.proofs.Common.{◌≡◌, ⊎_elim, ℕ, cond, eqb, leb, Bool, true, false, ◌||◌, ◌&&◌, Some, None, List, [], ◌∷◌, length, refl, sym, ◌∙◌, ap, subst, arith}
 use Rattle.std.specs.List.{list_any}
 use Rattle.std.proofs.lemmas.List.Folds.{list_any_at}
 use Rattle.std.proofs.lemmas.Option.{same_Some}
-use Rattle.std.proofs.lemmas.Bool.{cases_Bool, both_ways, and_from, and_parts, and_left, and_right, or_left, or_right, eqb-true, eqb-false, eq-eqb, ne_eqb, le-leb}
+use Rattle.std.proofs.lemmas.Bool.{cases_Bool, both_ways, and_from, or_left, or_right, eqb-true, eqb-false, eq-eqb, le-leb}
 use Rattle.pp_terms.specs.format.Traffic as traffic
 use Rattle.pp_terms.specs.format.Traffic.{Record, Sent, same_address}
 use Rattle.pp_terms.specs.format.Descriptor.{Descriptor}
 use Rattle.pp_traffic.specs.Past.{read, goes_to, is_number, some_since, is_at}
 use Rattle.pp_traffic.specs.Life.{Life, greets, answers, begins_as}
-use Rattle.pp_traffic.specs.Plain.{IsPlainNow}
-use Rattle.pp_traffic.specs.Awaiting.{Awaits}
 use Rattle.pp_outside.specs.Outside.{address_of}
 use Rattle.pp_outside.specs.declared.link.Address.{Address}
-use Rattle.pp_channels.specs.Seats.{Seats, AreSeats, channel_at, changed, closed, dialled, free_seat, has_address, is_begun, with_channel, with_handshake}
+use Rattle.pp_channels.specs.Seats.{Seats, AreSeats, channel_at, changed, closed, dialled, has_address, is_begun, with_channel, with_handshake}
 use Rattle.pp_channels.specs.declared.channel.Channel.{Channel}
 use Rattle.pp_lives.specs.Reading.{is_waiting}
-use Rattle.pp_lives.specs.Standing.{Stands, AllBegun}
+use Rattle.pp_lives.specs.Standing.{Stands}
 use Rattle.pp_lives.specs.Calls.{Changes, Steady, IsDialOf}
 use Rattle.pp_lives.specs.Sending.{with_datagram}
-use Rattle.pp_lives.specs.Laws.{DialKeeps, SentKeeps, FirstKeeps, AgainKeeps, RefusedKeeps, BegunBut, BegunKept}
+use Rattle.pp_lives.specs.Laws.{DialKeeps, SentKeeps, FirstKeeps, AgainKeeps, RefusedKeeps, BegunKept}
 use Rattle.pp_lives.proofs.Staying.{waits_dialled}
 use Rattle.pp_lives.proofs.Own.{stands_of}
 use Rattle.pp_lives.proofs.Closing.{before_drop, dropped_seated, dropped_tells}

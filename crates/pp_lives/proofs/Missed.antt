@@ -1,5 +1,5 @@
 -- A datagram for no seat, and a wait in which none came.
-use Rattle.std.proofs.Common.{◌≡◌, inl, inr, ⊎_elim, ℕ, max, Bool, false, Option, Some, None, List, ◌∷◌, refl, ◌∙◌, ap, arith}
+use Rattle.std.proofs.Common.{◌≡◌, inl, inr, ⊎_elim, ℕ, max, false, Option, Some, None, List, ◌∷◌, refl, ◌∙◌, ap, arith}
 use Rattle.pp_terms.specs.format.Traffic as traffic
 use Rattle.pp_terms.specs.format.Traffic.{Record, Received}
 use Rattle.pp_terms.specs.format.Descriptor.{Descriptor}

@@ -1,5 +1,5 @@
 -- No more seats are in use than records open a channel.
-use Rattle.std.proofs.Common.{◌≡◌, ◌≢◌, inl, inr, ⊎_elim, ℕ, zero, suc, ◌+◌, ◌<◌, ◌≤◌, cond, eqb, ltb, Bool, true, false, ◌||◌, ◌&&◌, Option, Some, None, List, [], ◌∷◌, length, refl, sym, ◌∙◌, ap, subst, arith}
+use Rattle.std.proofs.Common.{◌≡◌, ◌≢◌, inl, inr, ⊎_elim, ℕ, suc, ◌+◌, ◌<◌, ◌≤◌, cond, eqb, ltb, Bool, true, false, ◌&&◌, Option, Some, None, List, [], ◌∷◌, length, refl, sym, ◌∙◌, ap, subst, arith}
 use Rattle.std.specs.Prelude.{is_some}
 use Rattle.std.specs.List.{count_by}
 use Rattle.std.proofs.lemmas.List.Sums.{sum_by-cons}
@@ -12,7 +12,6 @@ use Rattle.pp_traffic.specs.Past.{read, comes_from, goes_to, is_number, is_at}
 use Rattle.pp_traffic.specs.Life.{Life, greets, answers, begins, begins_as, begins_fitting}
 use Rattle.pp_traffic.specs.Prompt.{first_source}
 use Rattle.pp_traffic.proofs.OneMore.{at_within}
-use Rattle.pp_outside.specs.Outside.{address_of}
 use Rattle.pp_channels.specs.Seats.{Seats, at_seat, channel_at, is_dialled}
 use Rattle.pp_channels.specs.Timing.{is_greeted}
 use Rattle.pp_channels.specs.declared.channel.Channel.{Channel}

@@ -1,11 +1,10 @@
 -- The reply to a dialled channel.
-use Rattle.std.proofs.Common.{◌≡◌, inl, inr, ⊎_elim, ℕ, ◌<◌, max, eqb, leb, Bool, true, false, ◌&&◌, Option, Some, None, List, [], ◌∷◌, length, refl, sym, ◌∙◌, ap, subst, arith}
+use Rattle.std.proofs.Common.{◌≡◌, inl, inr, ⊎_elim, ℕ, ◌<◌, max, eqb, leb, Bool, true, false, ◌&&◌, Option, Some, None, List, ◌∷◌, length, refl, sym, ◌∙◌, ap, subst, arith}
 use Rattle.std.proofs.lemmas.Bool.{cases_Bool, or_left, or_right, and_from, and_right, both_ways, cond-true, cond-false, eqb-true, eqb-false, eq-eqb, ne_eqb, le-leb}
 use Rattle.std.proofs.lemmas.Option.{same_Some}
 use Rattle.pp_terms.specs.format.Traffic as traffic
 use Rattle.pp_terms.specs.format.Traffic.{Record, Received, Sent, same_address}
 use Rattle.pp_terms.specs.format.Descriptor.{Descriptor}
-use Rattle.pp_terms.specs.format.Messages.{Message, Handshake}
 use Rattle.pp_traffic.specs.Past.{now, read, comes_from, is_number, some_since, is_at}
 use Rattle.pp_traffic.specs.Life.{Life, greets, answers, begins, begins_fitting, comes_on, shakes_on, closes, is_closed}
 use Rattle.pp_traffic.specs.Story.{Line}

@@ -1,5 +1,5 @@
 -- Where messages are read, the seat is in use.
-use Rattle.std.proofs.Common.{◌≡◌, ◌≢◌, ⊎_elim, ℕ, ◌<◌, ◌≤◌, eqb, Bool, true, false, Option, Some, None, List, length, take, drop, refl, sym, ◌∙◌, ap, subst, arith}
+use Rattle.std.proofs.Common.{◌≡◌, ⊎_elim, ℕ, ◌<◌, ◌≤◌, eqb, Option, Some, None, List, length, take, drop, refl, sym, ap, subst, arith}
 use Rattle.std.specs.Prelude.{IsSome, is_none, position}
 use Rattle.std.specs.Int.{w32, from_be_bytes}
 use Rattle.std.proofs.lemmas.List.Quantifiers.{position-Some}

@@ -13,7 +13,6 @@ use Rattle.pp_channels.specs.declared.channel.Channel.{Channel}
 use Rattle.pp_lives.specs.Reading.{opens, shows}
 use Rattle.pp_promises.specs.ReadStory.{read_story}
 use Rattle.pp_lives.specs.Reading.{is_proven, is_waiting}
-use Rattle.pp_channels.specs.Seats.{Seats, channel_at}
 use Rattle.pp_lives.specs.Standing.{Stands, StandsAt}
 use Rattle.pp_lives.proofs.Telling.{since_same, now_later, heard_same, shows_none, read_apart, read_unread, dialled_unread}
 

@@ -1,6 +1,6 @@
 -- What one record more does to tests on the past, and to what is read of a life.
-use Rattle.std.proofs.Common.{◌≡◌, ◌⊎◌, ⊎_elim, ℕ, ◌<◌, ◌≤◌, max, ltb, leb, eqb, Bool, true, false, cond, not, ◌&&◌, ◌||◌, Some, List, [], ◌∷◌, length, refl, ◌∙◌, ap, subst, arith}
-use Rattle.std.proofs.lemmas.Bool.{cases_Bool, and_from, and_left, and_parts, and_right, or_from, or_right, cond-true, cond-false, false_from_ne_true, both_ways, le-leb, lt-ltb, ne_eqb}
+use Rattle.std.proofs.Common.{◌≡◌, ℕ, ◌<◌, ◌≤◌, max, ltb, leb, eqb, Bool, true, false, cond, not, ◌&&◌, ◌||◌, Some, List, [], ◌∷◌, length, refl, ◌∙◌, ap, subst, arith}
+use Rattle.std.proofs.lemmas.Bool.{and_from, and_left, and_parts, and_right, or_from, or_right, cond-true, cond-false, false_from_ne_true, both_ways, le-leb, lt-ltb, ne_eqb}
 use Rattle.pp_terms.specs.format.Traffic.{Address, Record, Received, Sent}
 use Rattle.pp_terms.specs.format.Traffic as traffic
 use Rattle.pp_terms.specs.format.Descriptor.{Descriptor}
@@ -9,7 +9,7 @@ use Rattle.pp_traffic.specs.Past.{now, now_at, read, is_number, comes_from, some
 use Rattle.pp_traffic.specs.Life.{Life, greets, begins, begins_fitting, comes_on, shakes_on}
 use Rattle.pp_traffic.specs.Story.{Line, Taken, hear, say, said_in, told}
 use Rattle.pp_traffic.specs.Plain.{heard_at}
-use Rattle.pp_promises.specs.ReadStory.{with_unread, is_replied, is_read, read_story}
+use Rattle.pp_promises.specs.ReadStory.{is_replied, is_read, read_story}
 use Rattle.pp_promises.proofs.Growth.{begun}
 use Rattle.pp_lives.specs.Reading.{shows}
 

@@ -1,10 +1,9 @@
 -- The laws of the calls.
-use Rattle.std.proofs.Common.{◌≡◌, ⊎_elim, ℕ, zero, suc, eqb, Bool, true, false, cond, ◌||◌, ◌&&◌, Option, Some, None, List, [], ◌∷◌, length, replicate, refl, sym, ◌∙◌, subst, arith}
+use Rattle.std.proofs.Common.{◌≡◌, ℕ, zero, suc, eqb, Bool, true, false, cond, ◌||◌, Option, Some, None, List, [], ◌∷◌, length, replicate, refl, sym, ◌∙◌, subst, arith}
 use Rattle.std.specs.Prelude.{MatchBool}
-use Rattle.std.proofs.lemmas.Bool.{or_left, or_right, or_cases, and_parts, and_from, cond-false, ne_eqb}
-use Rattle.pp_terms.specs.format.Traffic.{Record, Received, Sent}
+use Rattle.std.proofs.lemmas.Bool.{or_left, or_right, cond-false, ne_eqb}
+use Rattle.pp_terms.specs.format.Traffic.{Received, Sent}
 use Rattle.pp_terms.specs.format.Descriptor.{Descriptor}
-use Rattle.pp_traffic.specs.Past.{now, is_at}
 use Rattle.pp_traffic.specs.Life.{Life, greets, answers}
 use Rattle.pp_traffic.specs.Awaiting.{Awaits, AwaitsDial, AwaitsAnswer}
 use Rattle.pp_traffic.proofs.Awaited.{plain_began}

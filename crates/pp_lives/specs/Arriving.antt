@@ -2,7 +2,7 @@
 use Rattle.std.specs.Prelude.{◌≡◌, ◌≢◌, ℕ, ◌<◌, ◌≤◌, ◌==◌, Bool, true, false, not, ◌||◌, Option, Some, None, is_some, List, [], ◌∷◌, length, take, drop, position}
 use Rattle.pp_terms.specs.format.Descriptor.{Descriptor}
 use Rattle.pp_terms.specs.format.Options as plain
-use Rattle.pp_terms.specs.format.Messages.{Message, Handshake, WireKind, UnknownType, Short, Range, Wide, InOptions, Messages, messages_at, with_first, datagram}
+use Rattle.pp_terms.specs.format.Messages.{Message, Handshake, WireKind, UnknownType, Short, Range, Wide, InOptions, Messages, messages_at, with_first}
 use Rattle.pp_traffic.specs.Life.{fits, begins, begins_as, begins_fitting}
 use Rattle.std.specs.Int.{w32, from_be_bytes}
 use Rattle.pp_options.specs.Views.{options_of}
@@ -17,13 +17,6 @@ use Rattle.pp_lives.specs.declared.arriving.First.TheVariants as firsts
 use Rattle.pp_lives.specs.declared.arriving.Arrival.{Arrival}
 use Rattle.pp_lives.specs.declared.arriving.Arrival.TheVariants as arrivals
 
--- the messages of a datagram
-abbrev pub messages_of : Descriptor → List ℕ → Messages
-messages_of d bytes = (datagram d.method d.chunk bytes).messages
-
-abbrev pub number_of : Descriptor → List ℕ → Option ℕ
-number_of d bytes = (datagram d.method d.chunk bytes).channel
-
 -- the fault is one of a handshake's options
 abbrev pub is_in_options : WireKind → Bool
 is_in_options (UnknownType type) = false
@@ -32,7 +25,7 @@ is_in_options Range = false
 is_in_options Wide = false
 is_in_options (InOptions fault) = true
 
--- it is that of the first message
+-- the first message has such a fault
 abbrev pub begins_faulty : Option (ℕ × WireKind) → List Message → Bool
 begins_faulty None ms = false
 begins_faulty (Some (place, kind)) [] = is_in_options kind
@@ -59,14 +52,14 @@ abbrev pub is_greeted_at : Option Channel → Bool
 is_greeted_at None = false
 is_greeted_at (Some c) = is_greeted c.state
 
--- Its channel is there.
+-- The handshake of a channel that is there came again.
 abbrev pub Meets : Seats → ℕ → Arrival → Seats → Type 0
 Meets t seat (arrivals.Again k) new =
     (k ≡ seat) × (is_greeted_at (channel_at t seat) ≡ true) × (new ≡ changed t seat (λ c. record c { opening = unreplied c.opening }))
 Meets t seat (arrivals.Late k) new = (k ≡ seat) × (is_greeted_at (channel_at t seat) ≡ false) × (new ≡ t)
 Meets t seat _ new = ⊥
 
--- It fits: a channel is opened with it, or is there.
+-- A handshake that fits opens a channel, or its channel is there.
 abbrev pub Welcomes : Seats → Address → ℕ → ℕ → ℕ → Arrival → Seats → Type 0
 Welcomes t sender source next now arrivals.Unseated new =
     (position (is_source sender source) t.channels ≡ None) × (free_seat t ≡ None) × (new ≡ t)
@@ -84,7 +77,7 @@ pub record IsWelcome (d : Descriptor) (t : Seats) (sender : Address) (now : ℕ)
   pub behind : messages_at d.method d.chunk next (drop next bytes) ≡ record { read = drop 1 (contents d bytes).read; fault = (contents d bytes).fault }
   pub does : Welcomes t sender source next now result new
 
--- it doesn't fit, or closes
+-- a handshake that doesn't fit, and one that closes
 abbrev pub differs : Descriptor → Bool → List Message → Bool
 differs d is_reply (Handshake source options ∷ ms) = not (fits d is_reply options)
 differs d is_reply _ = false
@@ -179,7 +172,7 @@ Proves (arrivals.Replied seat) new = is_proven_at (channel_at new seat) ≡ true
 Proves (arrivals.Heard seat) new = is_proven_at (channel_at new seat) ≡ true
 Proves result new = Unit {0}
 
--- its messages are those from a byte on
+-- the messages that are read are those from a byte on
 abbrev pub IsBehind : Descriptor → List ℕ → Arrival → Type 0
 IsBehind d bytes (arrivals.Opened seat next) = (next ≤ length bytes) × ((messages_at d.method d.chunk next (drop next bytes)).read ≡ drop 1 (contents d bytes).read)
 IsBehind d bytes (arrivals.Replied seat) = 4 ≤ length bytes

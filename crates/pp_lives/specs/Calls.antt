@@ -14,7 +14,7 @@ use Rattle.pp_channels.specs.declared.channel.State.TheVariants.{Proven}
 use Rattle.pp_channels.specs.declared.channel.Channel.{Channel}
 use Rattle.pp_lives.specs.Reading.{is_blank}
 
--- One seat is changed at most.
+-- At most one seat is changed.
 pub record Changes (t new : Seats) (seat : ℕ) (channel : Option Channel) : Type 0 where
   pub there : channel_at new seat ≡ channel
   pub others : (other : ℕ) → other ≢ seat → channel_at new other ≡ channel_at t other
@@ -50,13 +50,13 @@ pub record TellsOne (now seat : ℕ) (ms : List Message) (old new : Told) : Type
   pub own : new seat ≡ heard_more now ms (old seat)
   pub others : (other : ℕ) → other ≢ seat → new other ≡ looked now (old other)
 
--- They are the first that were heard or said.
+-- These messages are the first that were heard or said.
 pub record Begins (now : ℕ) (ms : List Message) (told : Option (List Line)) : Type 0 where
   pub before : List Line
   pub nothing : is_blank before ≡ true
   pub is : told ≡ Some (Taken now ∷ hear now ms before)
 
--- They are the first that are read on one, of whose channel nothing was known before.
+-- Messages are read on a seat for the first time, and nothing was known of its channel before.
 pub record TellsFirst (now seat : ℕ) (ms : List Message) (old new : Told) : Type 0 where
   pub none : old seat ≡ None
   pub own : Begins now ms (new seat)

@@ -61,7 +61,7 @@ DialsStay = (d : Descriptor) (t new : Seats) (lives : ℕ → Option Life) (seat
     → ((other : ℕ) (e : Channel) → channel_at t other ≡ Some e → address_of e.address ≡ address_of receiver → ⊥)
     → Standing d new (with_life seat None lives) past
 
--- its first handshake was sent, and nothing behind it: its life begins
+-- the first handshake of a dial was sent, and nothing behind it: a life begins
 abbrev pub DialledStays : Type 0
 DialledStays = (d : Descriptor) (t new : Seats) (lives : ℕ → Option Life) (seat : ℕ) (c c' : Channel) (moment : ℕ) (bytes : List ℕ) (past : List Record)
     → Standing d t lives past → channel_at t seat ≡ Some c → lives seat ≡ None → is_waiting c ≡ true → c.made ≡ now past
@@ -70,7 +70,7 @@ DialledStays = (d : Descriptor) (t new : Seats) (lives : ℕ → Option Life) (s
     → Standing d new (with_life seat (Some (life_of c past)) lives) (sent_on c moment bytes ∷ past)
     × ((other : ℕ) → read_at d new (with_life seat (Some (life_of c past)) lives) (sent_on c moment bytes ∷ past) other ≡ read_at d t lives past other)
 
--- it was sent again
+-- a dial's handshake was sent again
 abbrev pub RedialledStays : Type 0
 RedialledStays = (d : Descriptor) (t new : Seats) (lives : ℕ → Option Life) (seat : ℕ) (c c' : Channel) (life : Life) (moment : ℕ) (bytes : List ℕ) (past : List Record)
     → Standing d t lives past → channel_at t seat ≡ Some c → lives seat ≡ Some life → is_waiting c ≡ true
@@ -112,7 +112,7 @@ FirstKeeps = (d : Descriptor) (t : Seats) (lives : ℕ → Option Life) (seat : 
     → Standing d (with_datagram t seat true at) (with_life seat (Some (life_of c past)) lives) (sent_on c moment bytes ∷ past)
     × ((other : ℕ) → read_at d (with_datagram t seat true at) (with_life seat (Some (life_of c past)) lives) (sent_on c moment bytes ∷ past) other ≡ read_at d t lives past other)
 
--- and a later one
+-- a later handshake of a dial was sent
 abbrev pub AgainKeeps : Type 0
 AgainKeeps = (d : Descriptor) (t : Seats) (lives : ℕ → Option Life) (seat : ℕ) (c : Channel) (life : Life) (at moment : ℕ) (bytes : List ℕ) (past : List Record)
     → Standing d t lives past → channel_at t seat ≡ Some c → lives seat ≡ Some life → is_waiting c ≡ true

@@ -81,7 +81,7 @@ pub record HasSeat (t : Seats) (lives : ℕ → Option Life) (life : Life) : Typ
   pub lives_there : lives seat ≡ Some life
   pub known : is_waiting channel ≡ false
 
--- It has, but for the number of its peer, whose reply is awaited.
+-- The life of a dial has its seat, but for the number of its peer, whose reply is awaited.
 pub record HasDial (t : Seats) (lives : ℕ → Option Life) (life : Life) : Type 0 where
   pub seat : ℕ
   pub channel : Channel

@@ -1,6 +1,6 @@
 //! The seats of channels, and what each datagram does to them.
 
-ghost use Rattle.std.specs.Prelude.{◌≡◌, ◌+◌, ◌<◌, ◌≤◌, length, IfOk, IfSome, IsNone, position, replicate, take, None, Some, option_map};
+ghost use Rattle.std.specs.Prelude.{◌≡◌, ◌+◌, ◌<◌, ◌≤◌, length, IfOk, IfSome, IsSome, position, replicate, take, None, Some, option_map};
 ghost use Rattle.std.specs.Int.{w32, from_be_bytes};
 ghost use Rattle.std.specs.List.{list_any};
 ghost use Rattle.rand_chacha.specs.ChaCha.{of_seed};
@@ -81,7 +81,7 @@ impl Lives {
         }
     }
 
-    // One whose channel is there.
+    // A handshake for channel 0 that fits came again, of a channel that is there.
     fn meet(&mut self, seat: u8) -> Arrival
         requires { IsUsed self.old seat }
         ensures { Meets self.old seat result self.new }
@@ -126,7 +126,7 @@ impl Lives {
             || self.channels.is_shadowed(seat)
     }
 
-    // The reply came.
+    // The reply to a dial came.
     fn complete(&mut self, seat: u8, source: u32, now: u64)
         requires { IsUsed self.old seat }
         ensures { self.new ≡ changed (changed self.old seat (λ c. record c { remote = Some source; state = Proven })) seat (λ c. record c { heard = now }) }
@@ -187,7 +187,7 @@ impl Lives {
         self.channels.is_dialled(seat) && self.channels.state(seat) == Some(State::Greeted)
     }
 
-    // Whether something came on its number.
+    // Whether a datagram came to the channel's number.
     fn is_proven(&self, seat: u8) -> bool
         requires { IsUsed self.now seat }
         ensures { result ≡ is_proven_at (channel_at self.now seat) }
@@ -279,10 +279,13 @@ impl Lives {
     /// Where the datagrams of a channel go: None where the seat is free, or a reply is awaited, so that the peer's number isn't
     /// known yet.
     pub fn far(&self, seat: u8) -> Option<Far>
-        ensures { result ≡ far_of (channel_at self.now seat) }
+        ensures exact { result ≡ far_of (channel_at self.now seat) }
+        ensures used { IsSome result → IsUsedSeat self.now seat }
     {
-        self.channels.state(seat)?;
-        self.far_of(seat)
+        match self.channels.state(seat) {
+            Some(_) => self.far_of(seat),
+            None => None,
+        }
     }
 
     fn far_of(&self, seat: u8) -> Option<Far>

@@ -92,17 +92,19 @@ fn one_that_differs_opens_none(rt: HostRuntime) -> Result<(), Fail> {
             "{at}"
         );
     }
+    assert_eq!(rt; lives.used(), 0);
+    Ok(())
+}
+
+#[test]
+fn one_that_closes_or_is_none_opens_none(rt: HostRuntime) -> Result<(), Fail> {
+    let swarm = swarm()?;
+    let mut lives = Lives::new(rt.alloc(), [0; 32])?;
     let closing = handshake(0, 0, &OPTIONS);
     assert_eq!(rt;
         lives.arrive(&swarm, &PEER, &closing, 5),
         Arrival::Unwelcome
     );
-    let cut = handshake(0, THEIRS, &OPTIONS);
-    assert_eq!(rt;
-        lives.arrive(&swarm, &PEER, &cut[..30], 5),
-        Arrival::Unwelcome
-    );
-    assert_eq!(rt; lives.arrive(&swarm, &PEER, &cut[..3], 5), Arrival::Short);
     assert_eq!(rt;
         lives.arrive(&swarm, &PEER, &[0, 0, 0, 0, 10], 5),
         Arrival::NoGreeting
@@ -111,6 +113,19 @@ fn one_that_differs_opens_none(rt: HostRuntime) -> Result<(), Fail> {
         lives.arrive(&swarm, &PEER, &[0, 0, 0, 0], 5),
         Arrival::NoGreeting
     );
+    assert_eq!(rt; lives.used(), 0);
+    Ok(())
+}
+
+#[test]
+fn one_that_is_cut_opens_none(rt: HostRuntime) -> Result<(), Fail> {
+    let whole = handshake(0, THEIRS, &OPTIONS);
+    let (cut, _) = whole.split_at(30);
+    let (short, _) = whole.split_at(3);
+    let swarm = swarm()?;
+    let mut lives = Lives::new(rt.alloc(), [0; 32])?;
+    assert_eq!(rt; lives.arrive(&swarm, &PEER, cut, 5), Arrival::Unwelcome);
+    assert_eq!(rt; lives.arrive(&swarm, &PEER, short, 5), Arrival::Short);
     assert_eq!(rt; lives.used(), 0);
     Ok(())
 }
@@ -127,6 +142,8 @@ fn the_same_again_opens_no_second_seat(rt: HostRuntime) -> Result<(), Fail> {
     if lives.far(0).is_some() {
         assert!(rt; lives.handshake_due(0, 5));
         lives.sent(0, true, 6);
+    }
+    if lives.far(0).is_some() {
         assert!(rt; !lives.handshake_due(0, 6));
     }
     assert_eq!(rt;
@@ -241,7 +258,7 @@ fn a_reply_that_differs_or_closes_drops_the_dial(rt: HostRuntime) -> Result<(), 
         let reply = handshake(OURS, source, &options);
         assert_eq!(rt; lives.arrive(&swarm, &PEER, &reply, 6), want);
         assert_eq!(rt; lives.used(), 0);
-        // Its number isn't any channel's now.
+        // No channel has the number now.
         assert_eq!(rt; lives.arrive(&swarm, &PEER, &reply, 7), Arrival::NoChannel);
     }
     Ok(())

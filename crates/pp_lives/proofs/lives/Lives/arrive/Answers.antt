@@ -1,5 +1,3 @@
-use Rattle.std.proofs.Common.{subst}
-use Rattle.pp_channels.specs.Seats.{Seats, AreSeats}
 use Rattle.pp_lives.proofs.Wholes.{keeps_standing}
 use Rattle.pp_lives.proofs.Seated.{meant, behind}
 use Rattle.pp_lives.proofs.lives.Lives.arrive.Goals as goal
