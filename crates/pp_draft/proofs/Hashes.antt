@@ -1,0 +1,114 @@
+-- Hashes of nodes, and a chunk behind them.
+use Rattle.std.proofs.Common.{◌≡◌, inl, inr, ℕ, zero, suc, ◌*◌, ◌+◌, ◌-◌, ◌^◌, ◌<◌, ◌≤◌, true, Option, Some, None, List, [], ◌∷◌, ◌++◌, map, get_or, length, take, refl, sym, ◌∙◌, ap, subst, arith, append_assoc, append-nil}
+use Rattle.std.specs.Prelude.{is_some, unwrap_or}
+use Rattle.std.specs.List.{AllByRecursion}
+use Rattle.std.specs.Int.{w32, w64, to_be_bytes}
+use Rattle.std.proofs.lemmas.Bool.{cases_lt}
+use Rattle.std.proofs.lemmas.List.{length-append, length-take, take_all}
+use Rattle.std.proofs.lemmas.Nat.{pow_pos}
+use Rattle.pp_terms.specs.tree.Tree as terms
+use Rattle.pp_terms.specs.tree.Book.{LookUp}
+use Rattle.pp_terms.specs.tree.Range.{Span, leaves_of}
+use Rattle.pp_terms.specs.format.Descriptor.{Descriptor, Method, chunks_of}
+use Rattle.pp_terms.specs.format.Options.{IsBytes}
+use Rattle.pp_terms.specs.format.Messages.{Message, Data, Integrity, only, spell, spell_span, MayPrecede}
+use Rattle.pp_terms.proofs.MessageLaws.{wide64, IsBytes-take}
+use Rattle.pp_traffic.specs.Laws.{IsInBook}
+use Rattle.pp_traffic.proofs.PlansInBooks.{full_bound}
+use Rattle.pp_tree.specs.declared.node.Node.{Node}
+use Rattle.pp_tree.specs.Node.{node_of}
+use Rattle.pp_draft.specs.Datagrams.{spelled, IsDatagram, hash_of, delivery}
+use Rattle.pp_draft.specs.Puts.{AddsOne, PutsOne, Adds, IsFront, IsLow}
+use Rattle.pp_draft.proofs.Reading.{in_order, datagram_of_text, spelled_more}
+use Rattle.pp_draft.proofs.Names.{HasName, node_name}
+use Rattle.pp_draft.proofs.Filling.{front_more}
+use Rattle.pp_draft.proofs.Putting.{map_more, adds_more, length_span}
+
+-- with room a message is put
+pub room_some : (d : Descriptor) (m : Message) (old new : List ℕ) (at : ℕ) (r : Option ℕ) → at + length (spell d.method m) ≤ length old → PutsOne d m old at r new
+    → (end : ℕ) × (r ≡ Some end) × AddsOne d m old at end new
+room_some d m old new at None room puts = absurd (let long = puts.long in omega arith)
+room_some d m old new at (Some end) room puts = (end, refl, puts)
+
+-- ---- one hash after the other
+
+given_at : (d : Descriptor) (book : LookUp) (nodes : List Node) (k : ℕ) (x : Node) → AllByRecursion (IsInBook d book) (map node_of nodes) → k < length nodes → IsInBook d book (node_of (get_or nodes k x))
+given_at d book [] k x all lt = absurd (omega arith)
+given_at d book (n ∷ nodes) zero x all lt = all.0
+given_at d book (n ∷ nodes) (suc k) x all lt = given_at d book nodes k x all.1 (omega arith)
+
+pub there_at : (d : Descriptor) (book : LookUp) (nodes : List Node) (k : ℕ) (x : Node) (r : Option (List ℕ)) → AllByRecursion (IsInBook d book) (map node_of nodes) → k < length nodes
+    → r ≡ book (get_or nodes k x).layer (get_or nodes k x).offset → is_some r ≡ true
+there_at d book nodes k x r all lt is = ap is_some is ∙ (given_at d book nodes k x all lt).1
+
+pub given_low : (d : Descriptor) (book : LookUp) (nodes : List Node) (k : ℕ) (x : Node) (chunks : ℕ) → chunks ≡ chunks_of d → chunks ≤ 2 ^ 20 → AllByRecursion (IsInBook d book) (map node_of nodes)
+    → k < length nodes → IsLow (get_or nodes k x)
+given_low d book nodes k x chunks is most all lt =
+    let n : Node = get_or nodes k x in
+    let bound = full_bound (chunks_of d) (node_of n) (given_at d book nodes k x all lt).0 in
+    let power = pow_pos n.layer in
+    let more : (n.offset + 1) * 2 ^ n.layer ≡ n.offset * 2 ^ n.layer + 2 ^ n.layer = omega arith in
+    omega (arith, is)
+
+pub hash_short : (method : Method) (s : Span) (digest : List ℕ) → length digest ≡ 32 → length (spell method (Integrity s digest)) ≤ 49
+unfolding spell
+hash_short method s digest len = omega (arith, length_span method s, length-append (spell_span method s) digest)
+
+hash_is : (book : LookUp) (n : terms.Node) (s : Span) (digest : List ℕ) → s ≡ leaves_of n → book n.layer n.offset ≡ Some digest → Integrity s digest ≡ hash_of book n
+hash_is book n s digest span entry =
+    ap (λ (x : Span). Integrity x digest) span ∙ ap (λ (o : Option (List ℕ)). Integrity (leaves_of n) (unwrap_or o [])) (sym entry)
+
+map_twice : (book : LookUp) (nodes : List Node) → map (λ (n : Node). hash_of book (node_of n)) nodes ≡ map (hash_of book) (map node_of nodes)
+map_twice book [] = refl
+map_twice book (n ∷ nodes) = ap (λ (ms : List Message). hash_of book (node_of n) ∷ ms) (map_twice book nodes)
+
+pub hashes_more : (d : Descriptor) (book : LookUp) (nodes : List Node) (k : ℕ) (x : Node) (s : Span) (digest : List ℕ) (old new newer : List ℕ) (at end next : ℕ) → k < length nodes
+    → s ≡ leaves_of (node_of (get_or nodes k x)) → book (get_or nodes k x).layer (get_or nodes k x).offset ≡ Some digest
+    → Adds d (map (hash_of book) (map node_of (take k nodes))) old at end new → AddsOne d (Integrity s digest) new end next newer
+    → Adds d (map (hash_of book) (map node_of (take (k + 1) nodes))) old at next newer
+hashes_more d book nodes k x s digest old new newer at end next lt span entry adds one =
+    let f : Node → Message = λ (n : Node). hash_of book (node_of n) in
+    let up : suc k ≡ k + 1 = omega arith in
+    let list : map (hash_of book) (map node_of (take k nodes)) ++ f (get_or nodes k x) ∷ [] ≡ map (hash_of book) (map node_of (take (k + 1) nodes)) =
+    ap (λ (ms : List Message). ms ++ f (get_or nodes k x) ∷ []) (sym (map_twice book (take k nodes))) ∙ sym (map_more f nodes k x lt)
+    ∙ ap (λ (n : ℕ). map f (take n nodes)) up ∙ map_twice book (take (k + 1) nodes) in
+    subst (λ (ms : List Message). Adds d ms old at next newer) list
+    (adds_more d (map (hash_of book) (map node_of (take k nodes))) (f (get_or nodes k x)) old new newer at end next adds (λ rest. tt)
+    (subst (λ (y : Message). AddsOne d y new end next newer) (hash_is book (node_of (get_or nodes k x)) s digest span entry) one))
+
+pub hashes_done : (d : Descriptor) (book : LookUp) (nodes : List Node) (k : ℕ) (old new : List ℕ) (at end : ℕ) → length nodes ≤ k
+    → Adds d (map (hash_of book) (map node_of (take k nodes))) old at end new → Adds d (map (hash_of book) (map node_of nodes)) old at end new
+hashes_done d book nodes k old new at end all adds =
+    subst (λ (xs : List Node). Adds d (map (hash_of book) (map node_of xs)) old at end new) (take_all k nodes all) adds
+
+-- ---- a chunk behind them
+
+pub chunk_short : (method : Method) (i sent_at : ℕ) (bytes : List ℕ) → length (spell method (Data i sent_at bytes)) ≤ 25 + length bytes
+unfolding spell
+chunk_short method i sent_at bytes =
+    omega (arith, length_span method (only i), length-append (spell_span method (only i)) (to_be_bytes w64 sent_at ++ bytes), length-append (to_be_bytes w64 sent_at) bytes, wide64.len sent_at)
+
+-- a chunk is its own leaf
+pub chunk_name : (method : Method) (i : ℕ) → i < 2 ^ 20 → HasName method (only i)
+chunk_name method i low =
+    let leaf : terms.Node = record { layer = 0; offset = i } in
+    let first : i * 2 ^ 0 ≡ i = omega arith in
+    let last : (i + 1) * 2 ^ 0 - 1 ≡ i = omega arith in
+    let is : leaves_of leaf ≡ only i = ap (λ (n : ℕ). record { first = n; last = (i + 1) * 2 ^ 0 - 1 }) first ∙ ap (λ (n : ℕ). record { first = i; last = n }) last in
+    subst (λ (s : Span). HasName method s) is (node_name method leaf (omega arith))
+
+last_may : (chunk i sent_at : ℕ) (bytes : List ℕ) → length bytes ≤ chunk → MayPrecede chunk (Data i sent_at bytes) []
+last_may chunk i sent_at bytes le = elim (cases_lt (length bytes) chunk) [ inl lt ↦ inr (lt, refl) | inr ge ↦ inl (omega arith) ]
+
+pub chunk_written : (d : Descriptor) (book : LookUp) (nodes : List terms.Node) (channel i sent_at : ℕ) (bytes one two three : List ℕ) (start end next : ℕ) → 0 < d.chunk → channel < 2 ^ 32
+    → length bytes ≤ d.chunk → IsFront d channel [] start one → Adds d (map (hash_of book) nodes) one start end two → AddsOne d (Data i sent_at bytes) two end next three
+    → IsBytes three → length three ≡ 16384 → IsDatagram d channel (delivery book nodes i sent_at bytes) (take next three)
+chunk_written d book nodes channel i sent_at bytes one two three start end next some low most begun hashes last fits size =
+    let hash : List Message = map (hash_of book) nodes in
+    let front = front_more d channel [] hash start end one two begun hashes in
+    let m : Message = Data i sent_at bytes in
+    datagram_of_text d channel (hash ++ m ∷ []) (take next three) some low (IsBytes-take next three fits) (omega (arith, length-take next three, size))
+    (last.text ∙ ap (λ (t : List ℕ). t ++ spell d.method m) front.text ∙ append_assoc (to_be_bytes w32 channel) (spelled d.method hash) (spell d.method m)
+    ∙ ap (λ (t : List ℕ). to_be_bytes w32 channel ++ (spelled d.method hash ++ t)) (sym (append-nil (spell d.method m)))
+    ∙ ap (λ (t : List ℕ). to_be_bytes w32 channel ++ t) (sym (spelled_more d.method hash (m ∷ []))))
+    (in_order d hash (m ∷ []) front.stand (last.spelt, last_may d.chunk i sent_at bytes most, tt))

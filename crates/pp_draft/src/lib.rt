@@ -1,0 +1,16 @@
+//! The messages of one channel, put into datagrams in their order (RFC 7574, section 3). Nothing here takes memory.
+#![tactic(auto)]
+
+mod chunk;
+mod message;
+mod note;
+mod packing;
+mod posting;
+mod ranges;
+
+pub use chunk::{Delivery, post_chunk};
+pub use note::Note;
+pub use posting::{Posted, Receiver, post};
+
+#[cfg(test)]
+mod tests;
