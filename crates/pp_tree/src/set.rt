@@ -86,8 +86,7 @@ impl ChunkSet {
         self.count
     }
 
-    /// Whether no chunk is in the set.
-    pub fn is_empty(&self) -> bool
+    fn is_empty(&self) -> bool
         ensures { IsTrue result → (k : ℕ) → slice_index_or self.now k false ≡ false }
     {
         self.count == 0
