@@ -10,8 +10,7 @@ use Rattle.pp_traffic.specs.Flight.{in_flight}
 use Rattle.pp_ranges.specs.Edits.{inserted, removed}
 use Rattle.pp_ranges.proofs.Lengths.{inserted_length, removed_few}
 use Rattle.pp_requests.specs.Lists.{are_too_many}
-use Rattle.pp_core.specs.Counting.{rise}
-use Rattle.pp_core.specs.Hearing.{is_closing, inside, asks_for, lets_go, overflows, after_message, is_full, counted, hear_all}
+use Rattle.pp_core.specs.Hearing.{is_closing, asks_for, lets_go, after_message, counted, hear_all}
 use Rattle.pp_core.specs.Standing.{Follows}
 use Rattle.pp_core.specs.declared.counts.Counts.{Counts}
 use Rattle.pp_core.specs.declared.channel.Channel.{Channel}

@@ -1,20 +1,20 @@
 -- The hashes of a chunk's path are in the book, and complete it.
-use Rattle.std.proofs.Common.{◌≡◌, ⊎_elim, ℕ, zero, suc, ◌+◌, ◌-◌, ◌*◌, ◌/◌, ◌%◌, ◌^◌, ◌<◌, ◌≤◌, eqb, Bool, true, false, cond, ◌&&◌, ◌||◌, Option, Some, None, List, [], ◌∷◌, ◌++◌, map, length, take, get_or, refl, sym, ◌∙◌, ap, subst, arith, pow-suc}
+use Rattle.std.proofs.Common.{◌≡◌, ⊎_elim, ℕ, zero, suc, ◌+◌, ◌-◌, ◌*◌, ◌^◌, ◌<◌, ◌≤◌, eqb, Bool, true, false, ◌&&◌, ◌||◌, Option, Some, List, [], ◌∷◌, ◌++◌, map, length, take, get_or, refl, sym, ◌∙◌, ap, arith}
 use Rattle.std.specs.Prelude.{is_some, unwrap_or, slice_index_or}
-use Rattle.std.specs.List.{AllByRecursion, list_any, list_all}
-use Rattle.std.proofs.lemmas.Bool.{and_parts, and_from, or_cases, or_left, or_right, cases_Bool, cases_lt, both_ways, eq-eqb, eqb-true, eqb-false, cond-true, cond-false, le-leb, leb-true, false≢true}
-use Rattle.pp_terms.specs.tree.Bins.{first_leaf, last_leaf, parent_of, sibling_of}
-use Rattle.pp_terms.specs.tree.Book.{LookUp, IsJoined, IsRooted, has_peaks_below}
-use Rattle.pp_terms.specs.format.Descriptor.{Descriptor, IsDescriptor, chunks_of, height_of}
+use Rattle.std.specs.List.{AllByRecursion, list_any}
+use Rattle.std.proofs.lemmas.Bool.{and_parts, and_from, or_cases, or_left, or_right, eq-eqb, eqb-true, false≢true}
+use Rattle.pp_terms.specs.tree.Bins.{first_leaf, last_leaf, parent_of}
+use Rattle.pp_terms.specs.tree.Book.{LookUp}
+use Rattle.pp_terms.specs.format.Descriptor.{Descriptor, IsDescriptor, chunks_of}
 use Rattle.pp_terms.specs.format.Messages.{Message, Integrity}
 use Rattle.pp_terms.specs.tree.Range.{Span}
-use Rattle.pp_terms.specs.tree.Tree.{Node, height, peaks, peaks_below, above, is_full, same_node, is_peak, leaf_at}
+use Rattle.pp_terms.specs.tree.Tree.{Node, same_node, is_peak}
 use Rattle.pp_terms.proofs.Facts.{value_of}
 use Rattle.pp_tree.specs.declared.node.Node as declared
 use Rattle.pp_tree.specs.Node.{node_of}
 use Rattle.pp_tree.proofs.Sizes.{chunk_size_range, chunk_count_range}
 use Rattle.pp_traffic.specs.Hashes.{is_told, completes, is_span_of, brings, Carries}
-use Rattle.pp_traffic.specs.Laws.{uncles_from, plan, IsInBook}
+use Rattle.pp_traffic.specs.Laws.{plan, IsInBook}
 use Rattle.pp_traffic.specs.Story.{Line}
 use Rattle.pp_traffic.proofs.Paths.{plans_complete, paths_grow}
 use Rattle.pp_traffic.proofs.PlansInBooks.{plans_in_books, full_bound, full_low}

@@ -12,7 +12,6 @@ use Rattle.pp_terms.proofs.Knowing.{known_on}
 use Rattle.pp_traffic.specs.Past.{goes_to, is_number, is_event}
 use Rattle.pp_traffic.specs.Life.{begins_as}
 use Rattle.pp_outside.specs.Outside.{address_of}
-use Rattle.pp_terms.specs.tree.Range.{has}
 use Rattle.pp_requests.specs.Lists.{chunk_count, IsLeast}
 use Rattle.pp_scan.specs.Holding.{is_there}
 use Rattle.pp_core.specs.Serving.{ReadsAlone, Served, lacks, unread, damaged, delivers}

@@ -12,8 +12,7 @@ use Rattle.pp_terms.specs.disk.Disk.{DiskState, History, IsKnown}
 use Rattle.pp_terms.specs.disk.Image.{is_found}
 use Rattle.pp_terms.proofs.Facts.{member_below}
 use Rattle.pp_scan.specs.Holding.{is_there}
-use Rattle.pp_scan.proofs.Holds.{held_there, empty_none}
-use Rattle.pp_scan.proofs.Finding.{some_bytes}
+use Rattle.pp_scan.proofs.Holds.{found_there, empty_none}
 use Rattle.pp_store.specs.Store.{IsOpened}
 use Rattle.pp_scan.specs.Scan.{IsScanned}
 use Rattle.pp_core.specs.Opening.{new_state}
@@ -233,10 +232,10 @@ there_found d disk disk' book set i valid known found opened e = by disk.history
     lt = let within = member_below set i e in omega (arith, found.count, within)
 
     by : (reads : List ℕ) → disk.history.reads ≡ reads → is_there d disk'.history.reads book i ≡ true
-    by [] empty = absurd (false≢true (sym (ap (λ (r : List ℕ). is_found d r i) empty ∙ empty_none d i (some_bytes d i valid lt)) ∙ sym (found.held known i lt) ∙ e))
+    by [] empty = absurd (false≢true (sym (ap (λ (r : List ℕ). is_found d r i) empty ∙ empty_none d i) ∙ sym (found.held known i lt) ∙ e))
     by (x ∷ rest) some =
         let again : disk'.history.reads ≡ disk.history.reads = ap (λ (h : History). h.reads) (opened.scanned (omega (arith, ap length some))) in
-        ap (λ (r : List ℕ). is_there d r book i) again ∙ held_there d disk.history.reads book i (found.known known) (found.peaks i e) ∙ sym (found.held known i lt) ∙ e
+        ap (λ (r : List ℕ). is_there d r book i) again ∙ found_there d disk.history.reads book i (found.known known) (found.peaks i e) (sym (found.held known i lt) ∙ e)
 
 none_plain : (d : Descriptor) → NonePlain d []
 none_plain d other plain = by other.is_dialled plain.begins

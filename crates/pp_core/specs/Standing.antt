@@ -1,5 +1,5 @@
 -- What a peer knows stands for what its link carried.
-use Rattle.std.specs.Prelude.{◌≡◌, ℕ, ◌+◌, ◌-◌, ◌^◌, ◌<◌, ◌≤◌, nat_lt, min, Bool, true, false, cond, Option, MatchOption, List, [], ◌∷◌, length, slice_index_or}
+use Rattle.std.specs.Prelude.{◌≡◌, ℕ, ◌<◌, ◌≤◌, Bool, true, false, Option, MatchOption, List, length, slice_index_or}
 use Rattle.rand_chacha.specs.ChaCha.{ChaCha}
 use Rattle.pp_terms.specs.format.Descriptor.{Descriptor, IsDescriptor, chunks_of}
 use Rattle.pp_terms.specs.tree.Book.{LookUp}

@@ -1,5 +1,5 @@
 -- Datagrams that are sent: their bytes, and what is read of them.
-use Rattle.std.specs.Prelude.{◌≡◌, ℕ, ◌≤◌, true, false, Some, None, is_some, unwrap_or, List, [], ◌∷◌, ◌++◌, map, length, take}
+use Rattle.std.specs.Prelude.{◌≡◌, ℕ, ◌≤◌, false, Some, None, unwrap_or, List, [], ◌∷◌, ◌++◌, map, length, take}
 use Rattle.std.specs.List.{AllByRecursion}
 use Rattle.pp_terms.specs.tree.Bins.{first_leaf, last_leaf}
 use Rattle.pp_terms.specs.tree.Book.{LookUp}
@@ -7,7 +7,7 @@ use Rattle.pp_terms.specs.format.Descriptor.{Descriptor, chunks_of, method_numbe
 use Rattle.pp_terms.specs.format.Options.{Options, IsBytes}
 use Rattle.pp_terms.specs.format.Messages.{Message, Handshake, Data, Have, Integrity, IsFull, datagram}
 use Rattle.pp_terms.specs.tree.Range.{Span}
-use Rattle.pp_terms.specs.tree.Tree.{Node, is_full}
+use Rattle.pp_terms.specs.tree.Tree.{Node}
 use Rattle.pp_traffic.specs.Laws.{plan}
 
 -- The bytes are read, to their end, as a channel number and these messages.

@@ -19,13 +19,22 @@ const ROOT: [u8; 32] = [
     0xb0, 0x03, 0x61, 0xa3, 0x96, 0x17, 0x7a, 0x9c, 0xb4, 0x10, 0xff, 0x61, 0xf2, 0x00, 0x15, 0xad,
 ];
 
-const STORE: [u8; 67] = [
-    0x50, 0x50, 0x53, 0x54, 0x4f, 0x52, 0x45, 0x31, 0x00, 0x00, 0x04, 0x00, 0x00, 0x00, 0x00, 0x00,
+// What stands in front of the zeros behind the chunk.
+const FRONT: [u8; 67] = [
+    0x50, 0x50, 0x53, 0x54, 0x4f, 0x52, 0x45, 0x32, 0x00, 0x00, 0x04, 0x00, 0x00, 0x00, 0x00, 0x00,
     0x00, 0x00, 0x00, 0x03, 0xba, 0x78, 0x16, 0xbf, 0x8f, 0x01, 0xcf, 0xea, 0x41, 0x41, 0x40, 0xde,
     0x5d, 0xae, 0x22, 0x23, 0xb0, 0x03, 0x61, 0xa3, 0x96, 0x17, 0x7a, 0x9c, 0xb4, 0x10, 0xff, 0x61,
     0xf2, 0x00, 0x15, 0xad, 0x00, 0x00, 0x00, 0x00, 0x00, 0x00, 0x00, 0x00, 0x00, 0x00, 0x00, 0x00,
     0x61, 0x62, 0x63,
 ];
+
+// The store of `abc`: zeros stand behind the chunk, and then an open gate.
+fn store_of_abc() -> [u8; 1153] {
+    let mut image = [0u8; 1153];
+    image[..67].copy_from_slice(&FRONT);
+    image[1152] = 0x4f;
+    image
+}
 
 // Version 1, least version 1, the root, integrity method 1, hash function 2, addressing method 2, the supported messages,
 // chunk size 1024, and the end.
@@ -119,7 +128,7 @@ impl Scene {
     fn greeted(alloc: Global) -> Result<Scene, Fail>
         ensures { IfOk result (λ s. HasPaths s.peer.descriptor s.peer.committed (entry s.book)) }
     {
-        let mut scene = Scene::over(alloc, &STORE)?;
+        let mut scene = Scene::over(alloc, &store_of_abc())?;
         scene.hear(PEER, &[&GREETING, &OPTIONS])?;
         Ok(scene)
     }
@@ -232,7 +241,7 @@ fn takes_options_in_any_order_once_each(rt: HostRuntime) -> Result<(), Fail> {
             &OPTIONS[54..],
         ],
     )?;
-    let mut scene = Scene::over(rt.alloc(), &STORE)?;
+    let mut scene = Scene::over(rt.alloc(), &store_of_abc())?;
     scene.hear(PEER, &[&GREETING, &turned])?;
     assert!(rt; scene.has_sent(0, &[&ANSWER, &OPTIONS, &HAVE])?);
 
@@ -243,7 +252,7 @@ fn takes_options_in_any_order_once_each(rt: HostRuntime) -> Result<(), Fail> {
         (&OPTIONS[..41], [4, 0].as_slice(), &OPTIONS[43..]),
         (&OPTIONS[..39], &[], &OPTIONS[4..]),
     ] {
-        let mut scene = Scene::over(rt.alloc(), &STORE)?;
+        let mut scene = Scene::over(rt.alloc(), &store_of_abc())?;
         scene.hear(PEER, &[&GREETING, front, middle, rest])?;
         assert_eq!(rt; scene.counts(), refused, "{middle:?} {rest:?}");
         assert_eq!(rt; scene.link.sent(), 0, "{middle:?} {rest:?}");
@@ -341,19 +350,19 @@ fn counts_what_it_cannot_send(rt: HostRuntime) -> Result<(), Fail> {
 #[test]
 fn says_why_it_is_not_opened(rt: HostRuntime) -> Result<(), Fail> {
     let alloc = rt.alloc();
-    let mut image = STORE;
-    image[7] = 50;
+    let mut image = store_of_abc();
+    image[7] = 49;
     let mut disk = MemoryDisk::new(alloc, &image)?;
     let fault = OpenFault::NotAStore {
         at: 7,
-        found: 50,
-        want: 49,
+        found: 49,
+        want: 50,
     };
     assert_eq!(rt;
         open(alloc, &mut disk, &mut Book::empty(alloc)).err(),
         Some(fault)
     );
-    let mut disk = MemoryDisk::new(alloc, &STORE)?;
+    let mut disk = MemoryDisk::new(alloc, &store_of_abc())?;
     disk.fail_next(Call::Sync);
     let fault = OpenFault::Disk;
     assert_eq!(rt;

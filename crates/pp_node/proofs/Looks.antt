@@ -1,5 +1,5 @@
 -- What is found in a store that was attached.
-use Rattle.std.proofs.Common.{◌≡◌, inl, inr, ⊎_elim, ℕ, ◌<◌, ◌≤◌, Bool, true, false, List, length, get_or, Result, Ok, Err, sym, ◌∙◌, ap, subst, arith}
+use Rattle.std.proofs.Common.{◌≡◌, inl, inr, ⊎_elim, ℕ, ◌<◌, ◌≤◌, Bool, List, length, get_or, Result, Ok, Err, sym, ◌∙◌, ap, subst, arith}
 use Rattle.std.specs.Prelude.{Option}
 use Rattle.pp_terms.specs.Count.{HasRisen}
 use Rattle.pp_terms.specs.tree.Book.{LookUp}
@@ -16,7 +16,7 @@ use Rattle.pp_scan.specs.Header.{IsDifference}
 use Rattle.pp_scan.specs.Look.{KeepsAll, OnlySyncs}
 use Rattle.pp_scan.specs.Holding.{is_there}
 use Rattle.pp_scan.specs.Scan as scan
-use Rattle.pp_scan.proofs.Holds.{held_there}
+use Rattle.pp_scan.proofs.Holds.{found_there}
 use Rattle.pp_terms.specs.disk.Untouched.{IsFreshlyAttached, IsSyncedAtMost}
 use Rattle.pp_store.specs.Probe.{HasProbed}
 use Rattle.pp_store.specs.declared.findings.Probe.{Probe}
@@ -59,7 +59,7 @@ module _ (d : Descriptor) (old new : DiskState) (book : LookUp) (fresh : IsKnown
     held = λ known i lt. is.held known i lt ∙ ap (λ (r : List ℕ). is_found d r i) (sym (same_found known));
     there = λ known i at.
         let within : i < chunks_of d = omega (arith, member_below set i at, is.count) in
-        ap (λ (r : List ℕ). is_there d r book i) (same_reads known) ∙ held_there d old.history.reads book i (is.known known) (is.peaks i at) ∙ sym (is.held known i within) ∙ at;
+        ap (λ (r : List ℕ). is_there d r book i) (same_reads known) ∙ found_there d old.history.reads book i (is.known known) (is.peaks i at) (sym (is.held known i within) ∙ at);
     begins = λ known. subst (IsOf d) (sym (same_found known)) (is.begins known);
   }
 

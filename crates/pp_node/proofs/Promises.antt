@@ -1,5 +1,5 @@
 -- What a run of `seed` promises, from what it does.
-use Rattle.std.proofs.Common.{◌≡◌, ◌⊎◌, inl, inr, ⊎_elim, ℕ, ◌+◌, ◌<◌, ◌≤◌, Bool, true, false, if◌then◌else◌, Option, List, [], ◌∷◌, ◌++◌, map, length, refl, sym, ◌∙◌, ap, subst, arith, Result, Ok, Err}
+use Rattle.std.proofs.Common.{◌≡◌, ◌⊎◌, inl, inr, ⊎_elim, ℕ, ◌+◌, ◌<◌, ◌≤◌, Bool, true, false, if◌then◌else◌, Option, List, [], ◌∷◌, ◌++◌, map, length, refl, sym, ◌∙◌, ap, subst, arith, Err}
 use Rattle.std.proofs.lemmas.Bool.{or_from, or_parts}
 use Rattle.std.specs.Prelude.{slice_index_or}
 use Rattle.std.specs.List.{AllByRecursion, list_any}
@@ -11,8 +11,8 @@ use Rattle.pp_terms.specs.tree.Tree.{Node}
 use Rattle.pp_terms.specs.disk.Disk.{DiskState, History, IsKnown, GainsName, moment_of}
 use Rattle.pp_terms.specs.disk.Image.{is_found}
 use Rattle.pp_terms.specs.disk.Untouched.{IsSyncedAtMost}
-use Rattle.pp_terms.specs.format.Descriptor.{Descriptor, chunks_of}
-use Rattle.pp_terms.specs.format.Messages.{Message, Handshake, Data, Have, Datagram, datagram}
+use Rattle.pp_terms.specs.format.Descriptor.{Descriptor}
+use Rattle.pp_terms.specs.format.Messages.{Message, Data, Have, Datagram, datagram}
 use Rattle.pp_terms.specs.format.Traffic.{LinkState, Record, Received, Quiet, Sent, GainsRecords, GainsAddress}
 use Rattle.pp_terms.proofs.Knowing.{known_on}
 use Rattle.pp_traffic.specs.Committed.{is_in, has_request, requests, AreCommitted, RequestsNone}
@@ -21,16 +21,15 @@ use Rattle.pp_traffic.specs.Past.{EachRecord}
 use Rattle.pp_traffic.specs.Prompt.{LetsInFirst}
 use Rattle.pp_traffic.specs.Serving.{window_of, ServesAll}
 use Rattle.pp_traffic.specs.Tallied.{TookTurns, IsTallied}
-use Rattle.pp_traffic.specs.Turns.{events, is_closing, in_turns, ClosesLast, AtEndsOfTurnsBut, AtEndsBut}
+use Rattle.pp_traffic.specs.Turns.{is_closing, in_turns, ClosesLast, AtEndsOfTurnsBut, AtEndsBut}
 use Rattle.pp_tree.specs.Book.{BookState, entry, empty_book, IsBookOf}
 use Rattle.pp_scan.specs.Holding.{is_there}
 use Rattle.pp_store.specs.Store.{AllStand}
 use Rattle.pp_core.specs.Counting.{tally_of}
 use Rattle.pp_core.specs.Sends.{IsOurs, HasShape, WasDamaged}
 use Rattle.pp_core.specs.Standing.{State, IsWhole, DialsNone, StandsFor}
-use Rattle.pp_core.specs.Writing.{reply, delivery, hash_of, path_nodes}
+use Rattle.pp_core.specs.Writing.{hash_of, path_nodes}
 use Rattle.pp_core.proofs.Relations.{gains_nothing}
-use Rattle.pp_node.specs.Faults.{Faults}
 use Rattle.pp_node.specs.Looking.{IsOf}
 use Rattle.pp_node.specs.Outside.{Outside}
 use Rattle.pp_node.specs.Preparing.{Lasts, IsUnsent, IsReady, HasPrepared, LeavesDisk, LeavesLink}

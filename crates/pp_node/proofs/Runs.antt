@@ -1,13 +1,14 @@
 -- A run of an import, from what the import does.
-use Rattle.std.proofs.Common.{◌≡◌, ◌⊎◌, inl, inr, ℕ, ◌+◌, ◌<◌, List, [], length, Some, Err, sym, ◌∙◌, ap, subst, arith}
+use Rattle.std.proofs.Common.{◌≡◌, ◌⊎◌, inl, inr, ℕ, ◌+◌, ◌<◌, List, [], length, Some, Err, refl, sym, ◌∙◌, ap, subst, arith}
 use Rattle.pp_terms.specs.format.Descriptor.{Descriptor}
 use Rattle.pp_terms.specs.disk.Store.{IsNoStore}
-use Rattle.pp_terms.specs.disk.Disk.{DiskState, IsKnown, moment_of}
+use Rattle.pp_terms.specs.disk.Disk.{DiskState, IsKnown, DoesAttach, moment_of}
 use Rattle.pp_terms.specs.command.Stream.{SourceState, SinkState}
 use Rattle.pp_store.specs.declared.importing.ImportFault.{ImportFault}
 use Rattle.pp_store.specs.declared.importing.ImportFault.TheVariants as fault
 use Rattle.pp_store.specs.Keep.{KeepsDisk}
 use Rattle.pp_store.specs.Import.{most_bytes, HasAnswer, IsUntouched, LeavesWholeStores, TakesAtMost, IsImported}
+use Rattle.pp_store.proofs.Sealing.{empty_no_store}
 use Rattle.pp_node.specs.declared.status.Status.{Status}
 use Rattle.pp_node.specs.declared.status.Status.TheVariants.{NotEmpty, DiskFault}
 use Rattle.pp_terms.specs.disk.Untouched.{IsFreshlyAttached}
@@ -49,3 +50,15 @@ refused_fault (fault.NotEmpty len) status chunk source source' sink sink' old ne
 refused_fault (fault.ContentSize count) status chunk source source' sink sink' old new answer report known some = absurd (none_there old.history.reads (answer.empty known) some)
 refused_fault fault.Source status chunk source source' sink sink' old new answer report known some = absurd (none_there old.history.reads (answer.empty known) some)
 refused_fault fault.Disk status chunk source source' sink sink' old new answer report known some = inr report.0
+
+-- a run whose attachment was refused
+pub attach_run : {E : Type 0} (status : Status) (chunk : ℕ) (source : SourceState) (old new : DiskState) (name : List ℕ) (fault : E) → DoesAttach old name (Err fault) new
+    → status ≡ DiskFault → IsImportRun status chunk source source old new
+attach_run status chunk source old new name fault does is = record {
+  whole = λ known content told moment after le. absurd (let s = (does.attached known).started in omega (arith, s, after, le));
+  no_store = λ known empty same. empty_no_store new.history.reads (sym (does.attached known).showed ∙ empty);
+  refused = λ known some. inr is;
+  unwritten = λ known some. record { started = (does.attached known).started; began = (does.attached known).began; showed = (does.attached known).showed };
+  unread = λ known some. refl;
+  takes = λ content told. (0, omega arith, told);
+}

@@ -1,13 +1,11 @@
 -- The commands that words may ask for, and how each of them ends.
-use Rattle.std.specs.Prelude.{◌≡◌, ◌⊎◌, ℕ, List}
+use Rattle.std.specs.Prelude.{ℕ}
 use Rattle.pp_terms.specs.command.Commands.{Command, Import, Seed, Check, Export}
-use Rattle.pp_node.specs.declared.status.Status.{Status}
 use Rattle.pp_node.specs.Checking.{CheckEnds}
 use Rattle.pp_node.specs.Exporting.{ExportEnds}
 use Rattle.pp_node.specs.Outside.{Outside}
 use Rattle.pp_node.specs.Promising.{SeedEnds}
 use Rattle.pp_node.specs.Run.{ImportEnds}
-use Rattle.pp_node.specs.Status.{number_of}
 
 -- the commands that fill the book, and those that use the link
 abbrev pub FillsBook : Command → Type 0

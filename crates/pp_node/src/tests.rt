@@ -51,14 +51,22 @@ fn import_of(alloc: Global, content: &[u8], disk: MemoryDisk) -> Result<Ran, All
     )
 }
 
-// The store of `abc`.
-pub(crate) const STORE_OF_ABC: [u8; 67] = [
-    0x50, 0x50, 0x53, 0x54, 0x4f, 0x52, 0x45, 0x31, 0x00, 0x00, 0x04, 0x00, 0x00, 0x00, 0x00, 0x00,
+// What stands in the store of `abc` in front of the zeros behind the chunk.
+const FRONT: [u8; 67] = [
+    0x50, 0x50, 0x53, 0x54, 0x4f, 0x52, 0x45, 0x32, 0x00, 0x00, 0x04, 0x00, 0x00, 0x00, 0x00, 0x00,
     0x00, 0x00, 0x00, 0x03, 0xba, 0x78, 0x16, 0xbf, 0x8f, 0x01, 0xcf, 0xea, 0x41, 0x41, 0x40, 0xde,
     0x5d, 0xae, 0x22, 0x23, 0xb0, 0x03, 0x61, 0xa3, 0x96, 0x17, 0x7a, 0x9c, 0xb4, 0x10, 0xff, 0x61,
     0xf2, 0x00, 0x15, 0xad, 0x00, 0x00, 0x00, 0x00, 0x00, 0x00, 0x00, 0x00, 0x00, 0x00, 0x00, 0x00,
     0x61, 0x62, 0x63,
 ];
+
+// The store of `abc`: zeros stand behind the chunk, and then an open gate.
+pub(crate) fn store_of_abc() -> [u8; 1153] {
+    let mut image = [0u8; 1153];
+    image[..67].copy_from_slice(&FRONT);
+    image[1152] = 0x4f;
+    image
+}
 
 #[test]
 fn imports_one_chunk(rt: HostRuntime) -> Result<(), Fail> {
@@ -68,7 +76,7 @@ fn imports_one_chunk(rt: HostRuntime) -> Result<(), Fail> {
     let line =
         b"ppspp1:ba7816bf8f01cfea414140de5dae2223b00361a396177a9cb410ff61f20015ad:1024:3:2\n";
     assert_eq!(rt; ran.sink.bytes(), line.as_slice());
-    assert_eq!(rt; ran.disk.bytes(), STORE_OF_ABC.as_slice());
+    assert_eq!(rt; ran.disk.bytes(), store_of_abc().as_slice());
     Ok(())
 }
 
@@ -78,7 +86,7 @@ fn says_why_a_content_is_none(rt: HostRuntime) -> Result<(), Fail> {
     let ran = import_of(alloc, &[], MemoryDisk::new(alloc, &[])?)?;
     assert_eq!(rt; ran.status, 9);
     assert_eq!(rt; ran.sink.bytes(), b"content size: 0 bytes\n".as_slice());
-    assert_eq!(rt; ran.disk.bytes().len(), 0);
+    assert_eq!(rt; ran.disk.bytes(), [0; 8].as_slice());
     Ok(())
 }
 
@@ -122,10 +130,10 @@ fn check_of(alloc: Global, descriptor: &str, image: &[u8]) -> Result<Ran, AllocE
 #[test]
 fn says_what_a_store_holds(rt: HostRuntime) -> Result<(), Fail> {
     let alloc = rt.alloc();
-    let ran = check_of(alloc, DESCRIPTOR_OF_ABC, &STORE_OF_ABC)?;
+    let ran = check_of(alloc, DESCRIPTOR_OF_ABC, &store_of_abc())?;
     assert_eq!(rt; ran.status, 0);
     assert_eq!(rt; ran.sink.bytes(), b"held 1 of 1 0-0\n".as_slice());
-    assert_eq!(rt; ran.disk.bytes(), STORE_OF_ABC.as_slice());
+    assert_eq!(rt; ran.disk.bytes(), store_of_abc().as_slice());
     let ran = check_of(alloc, DESCRIPTOR_OF_ABC, &[])?;
     assert_eq!(rt; ran.status, 0);
     assert_eq!(rt; ran.sink.bytes(), b"held 0 of 1 none\n".as_slice());
@@ -138,12 +146,12 @@ fn says_what_a_store_holds(rt: HostRuntime) -> Result<(), Fail> {
 fn says_the_ranges_that_are_held(rt: HostRuntime) -> Result<(), Fail> {
     let alloc = rt.alloc();
     let stored = import_of(alloc, &[7; 7000], MemoryDisk::new(alloc, &[])?)?;
-    let mut image = [0; 7680];
+    let mut image = [0; 8776];
     for (byte, was) in image.iter_mut().zip(stored.disk.bytes()) {
         *byte = *was;
     }
-    image[2240] = 8;
-    image[5504] = 8;
+    image[2242] = 8;
+    image[5509] = 8;
     let descriptor =
         "ppspp1:ef7be05f2b9aa01d2c5cd485d52043ff5ff814525fb3f33dbf8da4b03d81befe:1024:7000:2";
     let ran = check_of(alloc, descriptor, &image)?;
@@ -171,7 +179,7 @@ fn gives_a_content_back(rt: HostRuntime) -> Result<(), Fail> {
     let content = generated();
     let stored = import_of(alloc, &content, MemoryDisk::new(alloc, &[])?)?;
     assert_eq!(rt; stored.status, 0);
-    assert_eq!(rt; stored.disk.bytes().len(), 7680);
+    assert_eq!(rt; stored.disk.bytes().len(), 8776);
     let checked = check_of(alloc, DESCRIPTOR_OF_SEVEN, stored.disk.bytes())?;
     assert_eq!(rt; checked.status, 0);
     assert_eq!(rt; checked.sink.bytes(), b"held 7 of 7 0-6\n".as_slice());
@@ -215,7 +223,7 @@ fn says_that_nothing_is_held_of_a_million_chunks(rt: HostRuntime) -> Result<(), 
 #[test]
 fn names_the_first_byte_of_another_file(rt: HostRuntime) -> Result<(), Fail> {
     let alloc = rt.alloc();
-    let mut image = STORE_OF_ABC;
+    let mut image = store_of_abc();
     image[11] = 1;
     let ran = check_of(alloc, DESCRIPTOR_OF_ABC, &image)?;
     assert_eq!(rt; ran.status, 2);
@@ -274,7 +282,7 @@ fn says_which_device_failed(rt: HostRuntime) -> Result<(), Fail> {
     let disk = MemoryDisk::new(alloc, &[])?;
     let ran = import_over(alloc, &["import", "s", "1024"], disk, sink, &mut source)?;
     assert_eq!(rt; ran.status, 7);
-    assert_eq!(rt; ran.disk.bytes(), STORE_OF_ABC.as_slice());
+    assert_eq!(rt; ran.disk.bytes(), store_of_abc().as_slice());
     Ok(())
 }
 

@@ -6,7 +6,7 @@ use Rattle.std.proofs.lemmas.List.{length-replicate}
 use Rattle.pp_terms.specs.tree.Content.{chunk_length}
 use Rattle.pp_terms.specs.tree.Book.{LookUp, has_peaks}
 use Rattle.pp_terms.specs.format.Descriptor.{Descriptor, chunks_of, IsDescriptor}
-use Rattle.pp_terms.specs.disk.Image.{holds}
+use Rattle.pp_terms.specs.disk.Image.{is_found}
 use Rattle.pp_terms.specs.disk.Disk.{DiskState, History, IsKnown, DoesSync}
 use Rattle.pp_terms.proofs.Knowing.{known_on}
 use Rattle.pp_terms.proofs.Facts.{none_in}
@@ -17,10 +17,10 @@ use Rattle.pp_scan.specs.declared.scanning.ScanFault.TheVariants.{NotAStore, Dis
 use Rattle.pp_scan.specs.Look.{KeepsAll, OnlySyncs, synced}
 use Rattle.pp_scan.specs.Header.{HasHeader}
 use Rattle.pp_scan.specs.Layers.{HasKnown, HasOnlyKnown}
-use Rattle.pp_scan.specs.Holding.{is_there}
+use Rattle.pp_scan.specs.Holding.{is_shown}
 use Rattle.pp_scan.specs.Scan.{IsScanned, HasFound}
 use Rattle.pp_scan.proofs.Reading.{known_after}
-use Rattle.pp_scan.proofs.Holds.{held_there, none_held, empty_none, empty_known}
+use Rattle.pp_scan.proofs.Holds.{found_shown, none_found, empty_none, empty_known}
 
 -- a chunk has a byte
 pub some_bytes : (d : Descriptor) (i : ℕ) → IsDescriptor d → i < chunks_of d → 0 < chunk_length d.size d.chunk i
@@ -38,7 +38,7 @@ module _ (d : Descriptor) (old mid new : DiskState) (book : LookUp) (known_mid :
     leaf = is.leaf;
     peaks = is.peaks;
     begins = λ known. subst (λ (r : List ℕ). (r ≡ []) ⊎ HasHeader d r) (same known) (is.begins (known_mid known));
-    held = λ known i lt. is.held (known_mid known) i lt ∙ ap (λ (r : List ℕ). holds d r i) (same known);
+    held = λ known i lt. is.held (known_mid known) i lt ∙ ap (λ (r : List ℕ). is_found d r i) (same known);
     known = λ known. subst (λ (r : List ℕ). HasKnown d r book) (same known) (is.known (known_mid known));
   }
 
@@ -116,7 +116,7 @@ found_empty d disk book set valid alone none empty =
       leaf = λ i is. absurd (false≢true (sym (out i) ∙ is));
       peaks = λ i is. absurd (false≢true (sym (out i) ∙ is));
       begins = λ known. inl (empty known);
-      held = λ known i lt. out i ∙ sym (ap (λ (r : List ℕ). holds d r i) (empty known) ∙ empty_none d i (some_bytes d i valid lt));
+      held = λ known i lt. out i ∙ sym (ap (λ (r : List ℕ). is_found d r i) (empty known) ∙ empty_none d i);
       known = λ known. subst (λ (r : List ℕ). HasKnown d r book) (sym (empty known)) (empty_known d book alone);
     }
 
@@ -131,7 +131,7 @@ found_none d disk book set none lacks begins known_is =
       leaf = λ i is. absurd (false≢true (sym (out i) ∙ is));
       peaks = λ i is. absurd (false≢true (sym (out i) ∙ is));
       begins = λ known. inr (begins known);
-      held = λ known i lt. out i ∙ sym (none_held d disk.history.reads book i (known_is known) lacks);
+      held = λ known i lt. out i ∙ sym (none_found d disk.history.reads book i (known_is known) lacks);
       known = known_is;
     }
 
@@ -139,14 +139,14 @@ found_none d disk book set none lacks begins known_is =
 pub found_held : (d : Descriptor) (disk : DiskState) (book : LookUp) (set set' : List Bool) → set ≡ replicate (chunks_of d) false → length set' ≡ length set
     → has_peaks book (chunks_of d) ≡ true → (IsKnown disk → HasHeader d disk.history.reads) → (IsKnown disk → HasKnown d disk.history.reads book)
     → ((i : ℕ) → get_or set' i false ≡ true → is_some (book 0 i) ≡ true)
-    → (IsKnown disk → (i : ℕ) → i < chunks_of d → get_or set' i false ≡ is_there d disk.history.reads book i)
+    → (IsKnown disk → (i : ℕ) → i < chunks_of d → get_or set' i false ≡ is_shown d disk.history.reads book i)
     → IsScanned d disk book set'
 found_held d disk book set set' none count all begins known_is leaf held = record {
   count = count ∙ ap (λ (s : List Bool). length s) none ∙ length-replicate (chunks_of d) false;
   leaf = leaf;
   peaks = λ i is. all;
   begins = λ known. inr (begins known);
-  held = λ known i lt. held known i lt ∙ held_there d disk.history.reads book i (known_is known) all;
+  held = λ known i lt. held known i lt ∙ found_shown d disk.history.reads book i (known_is known) all;
   known = known_is;
 }
 

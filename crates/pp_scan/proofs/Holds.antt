@@ -1,19 +1,18 @@
 -- The chunks that a file holds, by its book.
-use Rattle.std.proofs.Common.{◌≡◌, ⊎_elim, ℕ, suc, ◌-◌, ◌/◌, ◌<◌, ◌==◌, nat_eq, nat_le, Bool, true, false, cond, Option, Some, None, List, [], length, drop, refl, sym, ◌∙◌, ap, arith}
+use Rattle.std.proofs.Common.{◌≡◌, ⊎_elim, ℕ, suc, ◌-◌, ◌/◌, ◌==◌, nat_eq, nat_le, Bool, true, false, cond, Option, Some, None, List, [], length, refl, sym, ◌∙◌, ap, arith}
 use Rattle.std.specs.Prelude.{◌&&◌}
 use Rattle.std.specs.Cmp.Lexicographic.{pointwise}
-use Rattle.std.proofs.lemmas.Bool.{cases_lt}
+use Rattle.std.proofs.lemmas.Bool.{cases_lt, and_parts}
 use Rattle.std.proofs.lemmas.Bool.Decides.{nat_tests}
-use Rattle.std.proofs.lemmas.List.{length-take, length-drop}
 use Rattle.sha2.specs.Sha256.{sha256}
 use Rattle.pp_terms.specs.tree.Content.{chunk_length}
 use Rattle.pp_terms.specs.tree.Book.{LookUp, has_peaks}
 use Rattle.pp_terms.specs.format.Descriptor.{Descriptor, chunks_of, height_of}
-use Rattle.pp_terms.specs.disk.Image.{slice, known, known_below, matches, holds}
+use Rattle.pp_terms.specs.disk.Image.{slice, known, known_below, matches, holds, is_open, is_found}
 use Rattle.pp_terms.specs.disk.Store.{chunk_place, pair_place}
 use Rattle.pp_tree.specs.Book.{HasRootAlone}
 use Rattle.pp_scan.specs.Layers.{HasKnown, HasOnlyKnown}
-use Rattle.pp_scan.specs.Holding.{is_there}
+use Rattle.pp_scan.specs.Holding.{is_there, is_shown}
 use Rattle.pp_scan.proofs.Children.{child_short}
 
 -- the bytes that were read have the digest that the book has
@@ -30,7 +29,7 @@ there_read d reads book i place size bytes digest b place_is size_is bytes_is lo
     test ∙ sym same ∙ sym (ap (λ (t : Bool). t && matches (book 0 i) (sha256 (slice reads (chunk_place d.chunk i) want))) whole)
 
 -- where all nodes are known, a chunk that is there is held if all peaks are known
-pub held_there : (d : Descriptor) (reads : List ℕ) (book : LookUp) (i : ℕ) → HasKnown d reads book → has_peaks book (chunks_of d) ≡ true
+held_there : (d : Descriptor) (reads : List ℕ) (book : LookUp) (i : ℕ) → HasKnown d reads book → has_peaks book (chunks_of d) ≡ true
     → is_there d reads book i ≡ holds d reads i
 held_there d reads book i known_is peaks =
     let same : book ≡ known d reads = λ t k j. known_is k j t in
@@ -39,7 +38,30 @@ held_there d reads book i known_is peaks =
     ap (λ (b : LookUp). is_there d reads b i) same
     ∙ sym (ap (λ (t : Bool). t && (length bytes == chunk_length d.size d.chunk i) && matches (known d reads 0 i) (sha256 bytes)) peaks')
 
-pub none_held : (d : Descriptor) (reads : List ℕ) (book : LookUp) (i : ℕ) → HasKnown d reads book → has_peaks book (chunks_of d) ≡ false
+-- and one that is shown is found
+pub found_shown : (d : Descriptor) (reads : List ℕ) (book : LookUp) (i : ℕ) → HasKnown d reads book → has_peaks book (chunks_of d) ≡ true
+    → is_shown d reads book i ≡ is_found d reads i
+found_shown d reads book i known_is peaks = ap (λ (b : Bool). is_open d reads i && b) (held_there d reads book i known_is peaks)
+
+and_false : (b : Bool) → (b && false) ≡ false
+and_false true = refl
+and_false false = refl
+
+-- a chunk that was found is there
+pub found_there : (d : Descriptor) (reads : List ℕ) (book : LookUp) (i : ℕ) → HasKnown d reads book → has_peaks book (chunks_of d) ≡ true
+    → is_found d reads i ≡ true → is_there d reads book i ≡ true
+found_there d reads book i known_is peaks found =
+    held_there d reads book i known_is peaks ∙ (and_parts (is_open d reads i) (holds d reads i) found).1
+
+-- a chunk whose leaf isn't known isn't there, and isn't shown
+pub none_shown : (d : Descriptor) (reads : List ℕ) (book : LookUp) (i : ℕ) → book 0 i ≡ None → is_shown d reads book i ≡ false
+none_shown d reads book i none =
+    let bytes = slice reads (chunk_place d.chunk i) (chunk_length d.size d.chunk i) in
+    ap (λ (o : Option (List ℕ)). is_open d reads i && ((length bytes == chunk_length d.size d.chunk i) && matches o (sha256 bytes))) none
+    ∙ ap (λ (b : Bool). is_open d reads i && b) (and_false (length bytes == chunk_length d.size d.chunk i))
+    ∙ and_false (is_open d reads i)
+
+none_held : (d : Descriptor) (reads : List ℕ) (book : LookUp) (i : ℕ) → HasKnown d reads book → has_peaks book (chunks_of d) ≡ false
     → holds d reads i ≡ false
 none_held d reads book i known_is peaks =
     let same : book ≡ known d reads = λ t k j. known_is k j t in
@@ -47,14 +69,13 @@ none_held d reads book i known_is peaks =
     let bytes = slice reads (chunk_place d.chunk i) (chunk_length d.size d.chunk i) in
     ap (λ (t : Bool). t && (length bytes == chunk_length d.size d.chunk i) && matches (known d reads 0 i) (sha256 bytes)) peaks'
 
+pub none_found : (d : Descriptor) (reads : List ℕ) (book : LookUp) (i : ℕ) → HasKnown d reads book → has_peaks book (chunks_of d) ≡ false
+    → is_found d reads i ≡ false
+none_found d reads book i known_is peaks = ap (λ (b : Bool). is_open d reads i && b) (none_held d reads book i known_is peaks) ∙ and_false (is_open d reads i)
+
 -- an empty file
-pub empty_none : (d : Descriptor) (i : ℕ) → 0 < chunk_length d.size d.chunk i → holds d [] i ≡ false
-empty_none d i some =
-    let bytes = slice [] (chunk_place d.chunk i) (chunk_length d.size d.chunk i) in
-    let none : length bytes ≡ 0 = omega (arith, length-take {A = ℕ} (chunk_length d.size d.chunk i) (drop (chunk_place d.chunk i) []), length-drop {A = ℕ} (chunk_place d.chunk i) []) in
-    let test : (length bytes == chunk_length d.size d.chunk i) ≡ false = grind (arith, nat_tests) in
-    ap (λ (t : Bool). has_peaks (known d []) (chunks_of d) && t && matches (known d [] 0 i) (sha256 bytes)) test
-    ∙ (elim (has_peaks (known d []) (chunks_of d)) as (λ p. (p && false && matches (known d [] 0 i) (sha256 bytes)) ≡ false) [ true ↦ refl | false ↦ refl ])
+pub empty_none : (d : Descriptor) (i : ℕ) → is_found d [] i ≡ false
+empty_none d i = refl
 
 empty_below : (d : Descriptor) (m j : ℕ) → known_below d [] (suc m) j ≡ None
 empty_below d m j = child_short [] (pair_place d.chunk (height_of d - suc m) (j / 2)) j (known_below d [] m (j / 2)) (omega arith)

@@ -7,5 +7,7 @@ mod layers;
 mod layout;
 mod scanning;
 
-pub use layout::{Difference, header_difference, header_of, slot_place};
+pub use layout::{
+    Difference, OPEN_GATE, file_size, gate_place, header_difference, header_of, slot_place,
+};
 pub use scanning::{ScanFault, scan, scan_into};

@@ -1,24 +1,22 @@
 -- A store that was opened agrees with its file.
-use Rattle.std.proofs.Common.{◌≡◌, inl, ⊎_elim, ℕ, ◌+◌, ◌*◌, ◌<◌, Bool, true, false, List, [], length, get_or, replicate, sym, ◌∙◌, ap, subst, arith}
+use Rattle.std.proofs.Common.{◌≡◌, inl, ⊎_elim, ℕ, ◌*◌, ◌<◌, Bool, true, false, List, [], length, get_or, replicate, sym, ◌∙◌, ap, subst, arith}
 use Rattle.std.proofs.lemmas.Bool.{cases_lt, false≢true}
+use Rattle.std.specs.Prelude.{◌&&◌}
 use Rattle.std.proofs.lemmas.List.{length-append, length-replicate}
 use Rattle.pp_terms.specs.tree.Book.{LookUp, IsRooted}
 use Rattle.pp_terms.specs.format.Descriptor.{Descriptor, chunks_of, IsDescriptor}
-use Rattle.pp_terms.specs.disk.Store.{header}
-use Rattle.pp_terms.specs.disk.Image.{holds, StandsIn}
-use Rattle.pp_terms.specs.disk.Disk.{DiskState, History, IsImage, IsKnown, MayLeave, Throughout, moment_of, written}
-use Rattle.pp_terms.proofs.Headers.{length-header}
-use Rattle.pp_terms.proofs.Images.{sole_image, written_inside}
+use Rattle.pp_terms.specs.disk.Image.{is_found, StandsIn}
+use Rattle.pp_terms.specs.disk.Disk.{DiskState, History, IsImage, IsKnown, MayLeave, Throughout, moment_of}
+use Rattle.pp_terms.proofs.Images.{sole_image}
 use Rattle.pp_terms.proofs.Facts.{member_below, none_in}
 use Rattle.pp_scan.specs.Look.{synced}
 use Rattle.pp_scan.specs.Scan.{IsScanned}
 use Rattle.pp_scan.proofs.Reading.{no_bytes}
-use Rattle.pp_scan.proofs.Finding.{some_bytes}
-use Rattle.pp_scan.proofs.Holds.{held_there, empty_none}
-use Rattle.pp_store.specs.Keep.{kept}
+use Rattle.pp_scan.proofs.Holds.{found_there, empty_none}
 use Rattle.pp_store.specs.Pairs.{PairStands}
-use Rattle.pp_store.specs.Store.{IsOpened, IsSized, AgreesWith, KnowsHeld, in_either}
+use Rattle.pp_store.specs.Store.{made, IsOpened, IsSized, AgreesWith, KnowsHeld, in_either}
 use Rattle.pp_store.proofs.Puttings.{either_case}
+use Rattle.pp_store.proofs.Opening.{made_reads, made_image, made_begins}
 use Rattle.pp_store.proofs.Marking.{IsMarked, marked_pairs, marked_stand}
 
 -- where none is pending
@@ -42,6 +40,7 @@ module _ (d : Descriptor) (disk : DiskState) (book : LookUp) (committed pending 
     supported = λ i held.
         let at = only_committed committed pending (chunks_of d) i none held in
         marked_pairs d book pairs i valid rooted marked (within i at) (scanned.leaf i at) (scanned.peaks i at);
+    apart = λ i two. absurd (false≢true (sym (ap (λ (ps : List Bool). get_or ps i false) none ∙ none_in (chunks_of d) i) ∙ two));
   }
 
   pub opened_knows : (live : Bool) → KnowsHeld (record { descriptor = d; committed = committed; pending = pending; pairs = pairs; live = live }) book
@@ -53,7 +52,7 @@ module _ (d : Descriptor) (disk : DiskState) (book : LookUp) (committed pending 
   module _ (new : History) (live : Bool) (known_disk : IsKnown disk) (opened : IsOpened d disk.history new) where
     in_empty : disk.history.reads ≡ [] → (i : ℕ) → get_or committed i false ≡ true → ⊥
     in_empty empty i at =
-        false≢true (sym (ap (λ (r : List ℕ). holds d r i) empty ∙ empty_none d i (some_bytes d i valid (within i at))) ∙ sym (scanned.held known_disk i (within i at)) ∙ at)
+        false≢true (sym (ap (λ (r : List ℕ). is_found d r i) empty ∙ empty_none d i) ∙ sym (scanned.held known_disk i (within i at)) ∙ at)
 
     no_pair : (reads : List ℕ) (k j : ℕ) → reads ≡ [] → PairStands d book reads k j → ⊥
     no_pair reads k j empty stands =
@@ -73,17 +72,14 @@ module _ (d : Descriptor) (disk : DiskState) (book : LookUp) (committed pending 
               (scanned.begins known_disk);
           chunks = λ i held.
               let at = only_committed committed pending (chunks_of d) i none held in
-              held_there d disk.history.reads book i (scanned.known known_disk) (scanned.peaks i at) ∙ sym (scanned.held known_disk i (within i at)) ∙ at;
+              found_there d disk.history.reads book i (scanned.known known_disk) (scanned.peaks i at) (sym (scanned.held known_disk i (within i at)) ∙ at);
           pairs_stand = marked_stand d book pairs disk.history.reads marked size (scanned.known known_disk);
         }))
         (λ nothing.
         let empty : disk.history.reads ≡ [] = no_bytes disk.history.reads (omega arith) in
-        let same : new.reads ≡ written disk.history.reads 0 (header d) = ap (λ (h : History). h.reads) (opened.fresh empty) in
+        let same : new.reads ≡ made_reads d disk.history = ap (λ (h : History). h.reads) (opened.fresh empty) in
         record {
-          begins = λ k lt.
-              let at : 0 + k ≡ k = omega arith in
-              let lt' : k < length (header d) = omega (arith, length-header d valid.root_length) in
-              ap (λ (r : List ℕ). get_or r k 0) same ∙ ap (λ (n : ℕ). get_or (written disk.history.reads 0 (header d)) n 0) (sym at) ∙ written_inside disk.history.reads 0 (header d) k lt';
+          begins = λ k lt. ap (λ (r : List ℕ). get_or r k 0) same ∙ made_begins d disk.history valid k lt;
           chunks = λ i held. absurd (in_empty empty i (only_committed committed pending (chunks_of d) i none held));
           pairs_stand = λ k j inner stored. absurd (no_pair disk.history.reads k j empty
               (marked_stand d book pairs disk.history.reads marked size (scanned.known known_disk) k j inner stored));
@@ -95,7 +91,7 @@ module _ (d : Descriptor) (disk : DiskState) (book : LookUp) (committed pending 
       → Throughout disk.history (moment_of disk.history) (λ image. StandsIn d image i) → get_or committed i false ≡ true
   opened_taken known_disk whole i all =
       let stood = all disk.history.reads (inl whole) in
-      scanned.held known_disk i stood.within ∙ sym (sym stood.held)
+      scanned.held known_disk i stood.within ∙ (λ t. stood.opened t && stood.held t)
 
 -- afterwards there is one image
 pub opened_one : (d : Descriptor) (old new : History) → IsOpened d old new → (image : List ℕ) → MayLeave new image → image ≡ new.reads
@@ -107,5 +103,5 @@ opened_one d old new opened image may = ⊎_elim
     one : new ≡ synced old → image ≡ new.reads
     one is = sole_image old.reads image (subst (λ (h : History). MayLeave h image) is may) ∙ sym (ap (λ (h : History). h.reads) is)
 
-    fresh : new ≡ kept old 0 (header d) → image ≡ new.reads
-    fresh is = sole_image (written old.reads 0 (header d)) image (subst (λ (h : History). MayLeave h image) is may) ∙ sym (ap (λ (h : History). h.reads) is)
+    fresh : new ≡ made d old → image ≡ new.reads
+    fresh is = made_image d old new image is may ∙ sym (ap (λ (h : History). h.reads) is)

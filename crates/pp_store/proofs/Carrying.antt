@@ -6,14 +6,14 @@ use Rattle.std.proofs.Math.Pow.{pow-lt}
 use Rattle.sha2.specs.Sha256.{sha256}
 use Rattle.pp_terms.specs.tree.Content.{chunk_of}
 use Rattle.pp_terms.specs.tree.Tree.{pair, leaf_of, above}
-use Rattle.pp_terms.specs.disk.Store.{chunk_place, pair_slot, pair_place, a_chunk, a_pair}
-use Rattle.pp_terms.specs.disk.Disk.{DiskState, written}
+use Rattle.pp_terms.specs.disk.Store.{chunk_place, pair_slot, pair_place, gate_place, open_gate, a_chunk, a_pair, a_gate}
+use Rattle.pp_terms.specs.disk.Disk.{DiskState, IsKnown, written}
 use Rattle.pp_terms.proofs.Peaks.{doubled}
 use Rattle.pp_tree.proofs.Clashes.{node_is, leaf_is}
-use Rattle.pp_store.specs.Behind.{DoesPut}
-use Rattle.pp_store.specs.Growing.{IsContent, IsStoredTo, IsPartial, IsCarry, IsStoredCarry, IsCarrying, chunks_in, digest_of, HasChunk, HasPair}
-use Rattle.pp_store.proofs.Writings.{put_reads}
-use Rattle.pp_store.proofs.Pieces.{has_written, piece_kept, staged_more, pair_low, slot_is}
+use Rattle.pp_store.specs.Behind.{KeepsBehind, DoesPut}
+use Rattle.pp_store.specs.Growing.{with_chunk, IsContent, IsStoredTo, IsPartial, IsCarry, IsStoredCarry, IsCarrying, chunks_in, digest_of, HasChunk, HasPair}
+use Rattle.pp_store.proofs.Writings.{known_back, put_reads}
+use Rattle.pp_store.proofs.Pieces.{has_written, piece_kept, chunk_kept, staged_more, pair_low, slot_is}
 
 -- the layers of a tree of at most 2 ^ 20 chunks
 pub layer_low : (k step : ℕ) → step ≡ 2 ^ k → step ≤ 2 ^ 20 → k ≤ 20
@@ -66,20 +66,28 @@ above_later k (suc m) count le same = ⊎_elim
 -- The reads alone, first.
 module _ (chunk : ℕ) (content : List ℕ) (count : ℕ) (fits : IsContent chunk content) where
   stored_start : (reads : List ℕ) → count < chunks_in chunk content → IsStoredTo chunk content count reads
-      → IsStoredCarry chunk content count 0 (written reads (chunk_place chunk count) (chunk_of content chunk count))
+      → IsStoredCarry chunk content count 0 (with_chunk chunk count (chunk_of content chunk count) reads)
   stored_start reads within part =
       let here = a_chunk count within in
+      let gate = a_gate count within in
+      let mid = written reads (chunk_place chunk count) (chunk_of content chunk count) in
       record {
-        staged = staged_more chunk content fits reads _ _ here part.staged;
+        staged = staged_more chunk content fits mid _ _ gate (staged_more chunk content fits reads _ _ here part.staged);
         chunks = λ i lt. ⊎_elim
-            (λ low. piece_kept chunk content fits reads _ _ _ _ (a_chunk i (omega (arith, within))) here (part.chunks i low))
+            (λ low.
+            let inside : i < chunks_in chunk content = omega (arith, within) in
+            chunk_kept chunk content fits mid i _ _ inside gate (chunk_kept chunk content fits reads i _ _ inside here (part.chunks i low)))
             (λ high. let e : i ≡ count = omega arith in
-            subst (λ (c : ℕ). HasChunk chunk content (written reads (chunk_place chunk count) (chunk_of content chunk count)) c) (sym e) (has_written reads (chunk_place chunk count) (chunk_of content chunk count)))
+            subst (λ (c : ℕ). HasChunk chunk content (with_chunk chunk count (chunk_of content chunk count) reads) c) (sym e) (record {
+              there = piece_kept chunk content fits mid _ _ _ _ here gate (has_written reads (chunk_place chunk count) (chunk_of content chunk count));
+              gate = has_written mid (gate_place chunk count) open_gate;
+            }))
             (cases_lt i count);
         low = λ l j lt less. absurd (omega arith);
         high = λ l j from less.
             let is = pair_low chunk content fits l j count (omega (arith, within)) less in
-            piece_kept chunk content fits reads _ _ _ _ (a_pair l j is.0 is.1) here (part.pairs l j less);
+            let pair = a_pair l j is.0 is.1 in
+            piece_kept chunk content fits mid _ _ _ _ pair gate (piece_kept chunk content fits reads _ _ _ _ pair here (part.pairs l j less));
       }
 
   stored_step : (k offset step : ℕ) (reads : List ℕ) → count < chunks_in chunk content → IsCarry count k offset step → offset % 2 ≡ 1
@@ -94,7 +102,7 @@ module _ (chunk : ℕ) (content : List ℕ) (count : ℕ) (fits : IsContent chun
       let here = a_pair k (offset / 2) piece.0 piece.1 in
       record {
         staged = staged_more chunk content fits reads _ _ here before.staged;
-        chunks = λ i lt. piece_kept chunk content fits reads _ _ _ _ (a_chunk i (omega (arith, inside))) here (before.chunks i lt);
+        chunks = λ i lt. chunk_kept chunk content fits reads i _ _ (omega (arith, inside)) here (before.chunks i lt);
         low = λ l j lt less.
             let is = pair_low chunk content fits l j (count + 1) within less in
             ⊎_elim
@@ -132,21 +140,21 @@ module _ (chunk : ℕ) (content : List ℕ) (count : ℕ) (fits : IsContent chun
   }
 
 module _ (chunk : ℕ) (content : List ℕ) (count : ℕ) where
-  -- the chunk was written
-  pub carry_start : {T E : Type 0} (old new : DiskState) (x : T) (place : ℕ) (peaks : List (List ℕ)) (bytes digest : List ℕ)
-      → DoesPut {E = E} old place bytes (Ok x) new → place ≡ chunk_place chunk count
+  -- the chunk was written and its gate opened
+  pub carry_start : (old new : DiskState) (peaks : List (List ℕ)) (bytes digest : List ℕ) → KeepsBehind old new
+      → (IsKnown old → new.history.reads ≡ with_chunk chunk count bytes old.history.reads)
       → bytes ≡ chunk_of content chunk count → digest ≡ sha256 bytes
       → count < chunks_in chunk content → IsPartial chunk content count peaks old
       → IsCarrying chunk content count 0 count peaks digest new
-  carry_start old new x place peaks bytes digest puts place_is bytes_is digest_is within part = record {
+  carry_start old new peaks bytes digest keeps put bytes_is digest_is within part = record {
     fits = part.fits;
     within = within;
     peak = λ l from odd. part.peak l odd;
     is = digest_is ∙ ap sha256 bytes_is ∙ sym (leaf_is (leaf_of content chunk) (chunks_in chunk content) count within);
     stored = λ known.
-        let reads = put_reads old new place bytes x puts known in
-        subst (IsStoredCarry chunk content count 0) (sym (reads.1 ∙ (λ i. written old.history.reads (place_is i) (bytes_is i))))
-        (stored_start chunk content count part.fits old.history.reads within (part.stored reads.0));
+        let before = known_back old new keeps known in
+        subst (IsStoredCarry chunk content count 0) (sym (put before ∙ ap (λ (b : List ℕ). with_chunk chunk count b old.history.reads) bytes_is))
+        (stored_start chunk content count part.fits old.history.reads within (part.stored before));
   }
 
   -- a right child: the pair with the peak on its left was written

@@ -1,23 +1,30 @@
 -- The pending chunks are committed, one after the other.
-use Rattle.std.proofs.Common.{◌≡◌, inl, ⊎_elim, ℕ, zero, suc, ◌+◌, ◌<◌, ◌≤◌, Bool, true, false, cond, List, [], ◌∷◌, length, get_or, replicate, refl, sym, ◌∙◌, ap, subst, arith, get_or-set_other, get_or-set_same}
+use Rattle.std.proofs.Common.{◌≡◌, inl, inr, ⊎_elim, ℕ, zero, suc, ◌+◌, ◌*◌, ◌<◌, ◌≤◌, Bool, true, false, cond, List, [], ◌∷◌, ◌++◌, length, get_or, replicate, refl, sym, ◌∙◌, ap, subst, arith, get_or-set_other, get_or-set_same}
 use Rattle.std.specs.Prelude.{◌||◌, count_by}
 use Rattle.std.proofs.Math.ListN.{set, length-set}
 use Rattle.std.proofs.lemmas.List.Sums.{sum_by-cons}
 use Rattle.std.proofs.lemmas.Bool.{cases_lt, cases_eq}
-use Rattle.std.proofs.lemmas.List.{get_or_past, get_or-replicate, length-replicate}
+use Rattle.std.proofs.lemmas.List.{length-append}
 use Rattle.std.proofs.Math.Bool.{or-false, or-true}
-use Rattle.pp_terms.specs.tree.Book.{LookUp, has_peaks}
-use Rattle.pp_terms.specs.format.Descriptor.{Descriptor, chunks_of}
+use Rattle.pp_terms.specs.tree.Book.{LookUp, IsRooted, has_peaks}
+use Rattle.pp_terms.specs.format.Descriptor.{Descriptor, chunks_of, IsDescriptor}
+use Rattle.pp_terms.specs.disk.Store.{gate_place, pair_place, AreApart}
 use Rattle.pp_terms.specs.disk.Image.{StandsIn}
-use Rattle.pp_terms.specs.disk.Disk.{History, IsImage, Throughout}
-use Rattle.pp_terms.proofs.Images.{throughout_settled}
+use Rattle.pp_terms.specs.disk.Disk.{History, IsImage, IsTorn, IsOver}
+use Rattle.pp_terms.proofs.Images.{has_over}
 use Rattle.pp_terms.proofs.Facts.{none_in}
 use Rattle.pp_scan.specs.Look.{synced}
 use Rattle.pp_scan.specs.Header.{HasHeader}
 use Rattle.pp_scan.specs.Holding.{is_there}
-use Rattle.pp_store.specs.Pairs.{PairsStand, GoesOnSince}
+use Rattle.pp_scan.proofs.Finding.{some_bytes}
+use Rattle.pp_store.specs.Pairs.{PairStands, PairsStand}
+use Rattle.pp_store.specs.Gates.{gates_opened, made_durable}
 use Rattle.pp_store.specs.Store.{StoreState, IsSized, in_either, is_held, AllStand, AgreesWith, HoldsAll, KnowsHeld, HasCommitted}
 use Rattle.pp_store.proofs.Opening.{only_image}
+use Rattle.pp_store.proofs.Puttings.{either_case}
+use Rattle.pp_store.proofs.Surviving.{there_over}
+use Rattle.pp_store.proofs.PairWrites.{gate_clear, gate_pair_clear}
+use Rattle.pp_store.proofs.GateWrites.{over_torn, stands_opened}
 
 -- Below this chunk none is pending any more; what was in either set still is.
 pub record IsCommitting (old_committed old_pending committed pending : List Bool) (from : ℕ) : Type 0 where
@@ -121,17 +128,43 @@ module _ (s s' : StoreState) (done : HasCommitted s s') where
     peaks = λ i held. subst (λ (t : StoreState). has_peaks book (chunks_of t.descriptor) ≡ true) (sym done.others) (knows.peaks i (sym (held_after i) ∙ held));
   }
 
-  pub stands_committed : (old new : History) → new ≡ synced old → HoldsAll s old.reads → AllStand s.descriptor s'.committed new
-  stands_committed old new is holds i at image since =
-      subst (λ (x : List ℕ). StandsIn s.descriptor x i) (sym (only_image new old image is since)) (holds i (sym (done.each i) ∙ at))
+  -- each chunk that was held stands in the one image
+  pub stands_committed : (old new : History) → IsDescriptor s.descriptor → new ≡ made_durable s.descriptor s.pending old → IsImage old.epoch old.reads → HoldsAll s old.reads
+      → AllStand s.descriptor s.committed old → AllStand s.descriptor s'.committed new
+  stands_committed old new valid is whole holds all i at image since =
+      let held : is_held s i ≡ true = sym (done.each i) ∙ at in
+      let image_is : image ≡ (gates_opened s.descriptor s.pending (synced old)).reads = only_image new (gates_opened s.descriptor s.pending (synced old)) image is since in
+      subst (λ (x : List ℕ). StandsIn s.descriptor x i) (sym image_is)
+      (stands_opened s.descriptor s.pending (synced old) i valid (holds i held) (⊎_elim
+      (λ one. inr (all i one old.reads (inl whole)).opened)
+      (λ two. inl two)
+      (either_case (get_or s.committed i false) (get_or s.pending i false) held)))
 
-pub commit_goes_on : (d : Descriptor) (l : ℕ) (old new : History) → IsImage old.epoch old.reads → new ≡ synced old → GoesOnSince d l old new
-commit_goes_on d l old new whole is moment within all =
-    subst (λ (h : History). Throughout h moment (λ image. StandsIn d image l)) (sym is)
-    (throughout_settled old moment old.reads (λ image. StandsIn d image l) within all (all old.reads (inl whole)))
+-- what agrees goes on agreeing while gates are opened
+pub agrees_gates : (s : StoreState) (book : LookUp) → IsDescriptor s.descriptor → IsRooted s.descriptor book
+    → ((l : ℕ) → is_held s l ≡ true → l < chunks_of s.descriptor) → (i : ℕ) (before after : List ℕ) → IsTorn (gate_place s.descriptor.chunk i) 1 before after
+    → AgreesWith s book before → AgreesWith s book after
+agrees_gates s book valid rooted sized i before after torn agrees = record {
+  begins = λ k lt. torn.outside k (λ w. omega (arith, w.0)) ∙ agrees.begins k lt;
+  chunks = λ l held. there_over s.descriptor book l (gate_place s.descriptor.chunk i) 1 before after (some_bytes s.descriptor l valid (sized l held)) (gate_clear s.descriptor l i).chunk over (agrees.chunks l held);
+  pairs_stand = λ k j inner stored. pair k j (agrees.pairs_stand k j inner stored);
+}
+  where
+    over : IsOver (gate_place s.descriptor.chunk i) 1 before after
+    over = over_torn (gate_place s.descriptor.chunk i) 1 before after torn
 
-pub goes_on_unsynced : (d : Descriptor) (l : ℕ) (old new : History) → new ≡ old → GoesOnSince d l old new
-goes_on_unsynced d l old new same moment within all = subst (λ (h : History). Throughout h moment (λ image. StandsIn d image l)) (sym same) all
+    pair : (k j : ℕ) → PairStands s.descriptor book before k j → PairStands s.descriptor book after k j
+    pair k j stands =
+        let long : length (stands.left ++ stands.right) ≡ 64 = length-append stands.left stands.right
+        ∙ omega (arith, rooted.digests k (2 * j) stands.left stands.joined.left_is, rooted.digests k (2 * j + 1) stands.right stands.joined.right_is) in
+        let apart : AreApart (pair_place s.descriptor.chunk k j) 64 (gate_place s.descriptor.chunk i) 1 = ⊎_elim (λ l. inr l) (λ r. inl r) (gate_pair_clear s.descriptor.chunk i k j) in
+        record {
+          left = stands.left;
+          right = stands.right;
+          joined = stands.joined;
+          there = has_over (gate_place s.descriptor.chunk i) 1 (pair_place s.descriptor.chunk k j) (stands.left ++ stands.right) before after
+              (subst (λ (n : ℕ). AreApart (pair_place s.descriptor.chunk k j) n (gate_place s.descriptor.chunk i) 1) (sym long) apart) over stands.there;
+        }
 
 -- the fields, seen as a store
 pub committed_is : (d : Descriptor) (committed pending pairs committed' pending' : List Bool) (live : Bool) → IsSized d committed pending pairs
@@ -145,11 +178,10 @@ committed_is d committed pending pairs committed' pending' live sized size none 
   each = each;
 }
 
-pub agrees_dead : (s : StoreState) (d : Descriptor) (committed pending pairs : List Bool) (live live' : Bool) (book : LookUp) (reads reads' : List ℕ)
-    → record { descriptor = d; committed = committed; pending = pending; pairs = pairs; live = live } ≡ s → reads' ≡ reads → AgreesWith s book reads
-    → AgreesWith (record { descriptor = d; committed = committed; pending = pending; pairs = pairs; live = live' }) book reads'
-agrees_dead s d committed pending pairs live live' book reads reads' view same agrees =
-    subst (λ (r : List ℕ). AgreesWith (record { descriptor = d; committed = committed; pending = pending; pairs = pairs; live = live' }) book r) (sym same)
+pub agrees_dead : (s : StoreState) (d : Descriptor) (committed pending pairs : List Bool) (live live' : Bool) (book : LookUp) (reads : List ℕ)
+    → record { descriptor = d; committed = committed; pending = pending; pairs = pairs; live = live } ≡ s → AgreesWith s book reads
+    → AgreesWith (record { descriptor = d; committed = committed; pending = pending; pairs = pairs; live = live' }) book reads
+agrees_dead s d committed pending pairs live live' book reads view agrees =
     (let it = subst (λ (t : StoreState). AgreesWith t book reads) (sym view) agrees in record { begins = it.begins; chunks = it.chunks; pairs_stand = it.pairs_stand })
 
 pub knows_live : (s : StoreState) (d : Descriptor) (committed pending pairs : List Bool) (live live' : Bool) (book : LookUp)

@@ -6,7 +6,7 @@ use Rattle.pp_terms.specs.command.Stream.{SourceState}
 use Rattle.pp_terms.proofs.Knowing.{known_on}
 use Rattle.pp_store.specs.declared.importing.ImportFault.{ImportFault}
 use Rattle.pp_store.specs.declared.importing.ImportFault.TheVariants.{NotEmpty, ContentSize, Source, Disk}
-use Rattle.pp_store.specs.Import.{IsUnsynced, HasAnswer, LeavesWholeStores}
+use Rattle.pp_store.specs.Import.{IsUnbegun, HasAnswer, LeavesWholeStores}
 
 module _ {E : Type 0} (chunk n : ℕ) (source source' : SourceState) (old mid new : DiskState) (counts : DoesLen {E = E} old (Ok n) mid) where
   known_mid : IsKnown old → IsKnown mid
@@ -15,10 +15,10 @@ module _ {E : Type 0} (chunk n : ℕ) (source source' : SourceState) (old mid ne
   same_reads : mid.history.reads ≡ old.history.reads
   same_reads = ap (λ (h : History). h.reads) counts.same
 
-  counted_left : IsUnsynced mid new → IsUnsynced old new
+  counted_left : IsUnbegun mid new → IsUnbegun old new
   counted_left left = record {
-    moment = λ known. left.moment (known_mid known) ∙ ap (λ (h : History). moment_of h) counts.same;
     no_store = λ known. left.no_store (known_mid known);
+    images = λ known m after. left.images (known_mid known) m (subst (λ (h : History). moment_of h < m) (sym counts.same) after);
   }
 
   pub counted_answer : (result : Result Descriptor ImportFault) → HasAnswer chunk source source' mid new result → HasAnswer chunk source source' old new result

@@ -1,27 +1,27 @@
 -- How an import goes on and ends.
-use Rattle.std.proofs.Common.{◌≡◌, ◌⊎◌, ◌↔◌, inl, inr, ⊎_elim, ℕ, zero, suc, ◌+◌, ◌-◌, ◌*◌, ◌/◌, ◌%◌, ◌<◌, ◌≤◌, min, Bool, true, false, IsTrue, Some, List, [], length, get_or, take, drop, Result, Ok, Err, OnOk, IfOk, IfErr, refl, sym, ◌∙◌, ap, subst, arith}
+use Rattle.std.proofs.Common.{◌≡◌, ◌⊎◌, ◌↔◌, inl, inr, ⊎_elim, ℕ, zero, suc, ◌+◌, ◌-◌, ◌*◌, ◌/◌, ◌%◌, ◌<◌, ◌≤◌, min, Bool, true, false, IsTrue, Some, List, [], length, get_or, take, drop, replicate, Result, Ok, Err, OnOk, IfOk, IfErr, refl, sym, ◌∙◌, ap, subst, arith}
 use Rattle.std.proofs.lemmas.Bool.{cases_eq, cases_lt, false≢true}
 use Rattle.std.proofs.lemmas.List.{length-take, length-drop, drop-drop}
 use Rattle.pp_terms.specs.tree.Content.{chunk_count, IsChunkSize, IsContentSize}
 use Rattle.pp_terms.specs.tree.Tree.{above}
 use Rattle.pp_terms.specs.format.Descriptor.{Descriptor}
-use Rattle.pp_terms.specs.disk.Store.{header, IsStoreOf, IsNoStore}
-use Rattle.pp_terms.specs.disk.Disk.{DiskState, History, IsKnown, Throughout, moment_of}
+use Rattle.pp_terms.specs.disk.Store.{header, IsStoreOf}
+use Rattle.pp_terms.specs.disk.Disk.{DiskState, History, IsKnown, Throughout, moment_of, written}
 use Rattle.pp_terms.specs.command.Stream.{SourceState}
 use Rattle.pp_terms.proofs.Knowing.{known_on}
 use Rattle.pp_tree.proofs.Sizes.{chunk_size_range}
 use Rattle.pp_store.specs.declared.importing.ImportFault.{ImportFault}
 use Rattle.pp_store.specs.declared.importing.ImportFault.TheVariants.{NotEmpty, ContentSize, Source, Disk}
 use Rattle.pp_store.specs.Keep.{KeepsDisk, kept}
-use Rattle.pp_store.specs.Behind.{KeepsBehind}
+use Rattle.pp_store.specs.Behind.{IsBehind, KeepsBehind}
 use Rattle.pp_store.specs.Imported.{imported}
-use Rattle.pp_store.specs.Growing.{IsContent, IsPartial, IsNext, IsBuilt}
+use Rattle.pp_store.specs.Growing.{IsContent, IsPartial, IsNext, IsWhole}
 use Rattle.pp_scan.specs.Look.{synced}
-use Rattle.pp_store.specs.Seal.{DoesSeal, Leaves}
-use Rattle.pp_store.specs.Import.{most_bytes, TakesAtMost, IsUnsynced, IsDiskFault, HasAnswer, HasFault, LeavesWholeStores, DoesImport, IsLeft, unfinished, finished}
+use Rattle.pp_store.specs.Front.{DoesFront, Leaves}
+use Rattle.pp_store.specs.Import.{most_bytes, TakesAtMost, IsUnbegun, IsDiskFault, HasAnswer, HasFault, LeavesWholeStores, DoesImport, IsLeft, unfinished, finished}
 use Rattle.pp_store.proofs.Nexts.{counted_more, counted_all, counted_below, full_whole}
 use Rattle.pp_store.proofs.Writings.{behind_more, behind_keeps}
-use Rattle.pp_store.proofs.Sealing.{behind_no_store, no_store_yet, stored, sound, attachment_left}
+use Rattle.pp_store.proofs.Sealing.{cleared, cleared-moment-of, clearing_right, walking_right, sealing_right, walking_none, walking_reads, unsynced_none, leaves-moment, stored, attachment_left}
 
 -- what was read is the content's next chunks
 pub piece_next : (chunk : ℕ) (content : List ℕ) (count n : ℕ) (buffer : List ℕ) → IsChunkSize chunk → length buffer ≡ 65536 → count * chunk ≤ length content
@@ -44,16 +44,22 @@ above-zero : (k : ℕ) → above k 0 ≡ 0
 above-zero zero = refl
 above-zero (suc k) = ap (λ (x : ℕ). x / 2) (above-zero k)
 
+-- each byte of zeros
+zero_there : (n k : ℕ) → get_or (replicate {A = ℕ} n 0) k 0 ≡ 0
+zero_there zero k = refl
+zero_there (suc n) zero = refl
+zero_there (suc n) (suc k) = zero_there n k
+
 pub partial_none : (chunk : ℕ) (content : List ℕ) (peaks : List (List ℕ)) (disk : DiskState) → IsContent chunk content
-    → (IsKnown disk → disk.history.reads ≡ []) → IsPartial chunk content 0 peaks disk
-partial_none chunk content peaks disk fits empty = record {
+    → (IsKnown disk → disk.history.reads ≡ replicate 8 0) → IsPartial chunk content 0 peaks disk
+partial_none chunk content peaks disk fits begins = record {
   fits = fits;
   within = omega arith;
   peak = λ k odd. absurd (let none = above-zero k in omega arith);
   stored = λ known. record {
     staged = record {
-      zeros = λ k outside. ap (λ (bytes : List ℕ). get_or bytes k 0) (empty known);
-      ends = inl (empty known);
+      zeros = λ k outside. ap (λ (bytes : List ℕ). get_or bytes k 0) (begins known) ∙ zero_there 8 k;
+      size = let long : length disk.history.reads ≡ 8 = ap (λ (bytes : List ℕ). length bytes) (begins known) in omega (arith, long);
     };
     chunks = λ i lt. absurd (omega arith);
     pairs = λ k j lt. absurd (let none = above-zero (suc k) in omega arith);
@@ -162,38 +168,86 @@ fault_later Disk source mid source' disk between disk' le keeps fault = record {
 pub takes_at_most : (old new : SourceState) (few most : ℕ) → few ≤ most → TakesAtMost few old new → TakesAtMost most old new
 takes_at_most old new few most le takes content told = let (n, low, left) = takes content told in (n, omega arith, left)
 
--- Where nothing was synced.
-module _ (chunk : ℕ) (source source' : SourceState) (disk disk' : DiskState) (empty : IsKnown disk → disk.history.reads ≡ []) (keeps : KeepsBehind disk disk')
+-- a front that was kept, and what was done before and after it
+pub front_keeps : {E : Type 0} (bytes : List ℕ) (old new : DiskState) (result : Result (Unit {0}) E) → DoesFront bytes old result new → KeepsDisk old new
+front_keeps bytes old new result does = record {
+  tells = does.tells;
+  honest = does.honest;
+  later = does.later;
+  attachment = λ known. attachment_left bytes old.history old.history new.history (record { start = refl; first = refl; found = refl; names = refl }) (does.leaves known);
+  faults = does.cause.later;
+  hard = does.hard_cause.later;
+}
+
+pub disk_more : (old mid new : DiskState) → KeepsDisk old mid → KeepsDisk mid new → KeepsDisk old new
+disk_more old mid new one two = record {
+  tells = two.tells ∙ one.tells;
+  honest = two.honest ∙ one.honest;
+  later = omega (arith, one.later, two.later);
+  attachment = λ known. let a = one.attachment known in let b = two.attachment (known_on old mid one.tells one.honest known) in
+      record { start = b.start ∙ a.start; first = b.first ∙ a.first; found = b.found ∙ a.found; names = b.names ∙ a.names };
+  faults = omega (arith, one.faults, two.faults);
+  hard = omega (arith, one.hard, two.hard);
+}
+
+-- what a cleared file reads
+pub cleared_reads : {E : Type 0} (disk front : DiskState) (u : Unit {0}) → (IsKnown disk → disk.history.reads ≡ []) → DoesFront {E = E} (replicate 8 0) disk (Ok u) front
+    → IsKnown front → front.history.reads ≡ replicate 8 0
+cleared_reads disk front u empty does known_front =
+    let known = known_on front disk (sym does.tells) (sym does.honest) known_front in
+    ap (λ (h : History). h.reads) (does.done known) ∙ ap (λ (r : List ℕ). written r 0 (replicate 8 0)) (empty known)
+
+-- the file wasn't cleared
+pub clearing_fault : {E : Type 0} (chunk : ℕ) (source : SourceState) (disk new : DiskState) (fault : E) → (IsKnown disk → disk.history.reads ≡ [])
+    → DoesFront (replicate 8 0) disk (Err fault) new → DoesImport chunk source source disk new (Err Disk)
+clearing_fault chunk source disk new fault empty does = record {
+  answer = record { risen = does.cause.risen refl; hard = does.hard_cause.risen refl };
+  whole = λ known content told. clearing_right chunk content disk.history (empty known) new.history (does.leaves known);
+  no_store = λ known. unsynced_none disk.history new.history (empty known) (does.leaves known);
+  takes = λ content told. (0, omega arith, told);
+  later = omega arith;
+  keeps = front_keeps (replicate 8 0) disk new (Err fault) does;
+}
+
+-- The file was cleared, and pieces were written behind that.
+module _ {E : Type 0} (chunk : ℕ) (source source' : SourceState) (disk mid disk' : DiskState) (u : Unit {0}) (empty : IsKnown disk → disk.history.reads ≡ [])
+    (clears : DoesFront {E = E} (replicate 8 0) disk (Ok u) mid) (keeps : KeepsBehind mid disk')
     (takes : TakesAtMost (most_bytes chunk + 1) source source') (later : source.faults ≤ source'.faults) where
-  unsynced_left : IsUnsynced disk disk'
-  unsynced_left = record {
-    moment = λ known. ap (λ past. length past) (keeps.behind known).past;
-    no_store = λ known. behind_no_store disk.history disk'.history (empty known) (keeps.behind known);
+  behind : IsKnown disk → IsBehind (cleared disk.history) disk'.history
+  behind known = subst (λ (h : History). IsBehind h disk'.history) (clears.done known) (keeps.behind (known_on disk mid clears.tells clears.honest known))
+
+  unbegun_left : IsUnbegun disk disk'
+  unbegun_left = record {
+    no_store = λ known. walking_reads disk.history disk'.history (empty known) (behind known);
+    images = λ known m after le. walking_none disk.history disk'.history (empty known) (behind known) m after;
   }
 
-  unsynced_import : (f : ImportFault) → HasAnswer chunk source source' disk disk' (Err f) → DoesImport chunk source source' disk disk' (Err f)
-  unsynced_import f answer = record {
+  unbegun_import : (f : ImportFault) → HasAnswer chunk source source' disk disk' (Err f) → DoesImport chunk source source' disk disk' (Err f)
+  unbegun_import f answer = record {
     answer = answer;
-    whole = λ known content told m after le. absurd (let same = unsynced_left.moment known in omega arith);
-    no_store = λ known same. unsynced_left.no_store known;
+    whole = λ known content told m after le. walking_right chunk content disk.history (empty known) disk'.history (behind known) m after;
+    no_store = λ known same. walking_reads disk.history disk'.history (empty known) (behind known);
     takes = takes;
     later = later;
-    keeps = behind_keeps disk disk' keeps;
+    keeps = disk_more disk mid disk' (front_keeps (replicate 8 0) disk mid (Ok u) clears) (behind_keeps mid disk' keeps);
   }
 
-  pub import_fault : (f : ImportFault) → HasFault f source source' disk disk' → DoesImport chunk source source' disk disk' (Err f)
-  import_fault f fault = unsynced_import f (answer f fault)
+  pub import_fault : (f : ImportFault) → HasFault f source source' mid disk' → DoesImport chunk source source' disk disk' (Err f)
+  import_fault f fault = unbegun_import f (answer f fault)
     where
-      answer : (g : ImportFault) → HasFault g source source' disk disk' → HasAnswer chunk source source' disk disk' (Err g)
+      answer : (g : ImportFault) → HasFault g source source' mid disk' → HasAnswer chunk source source' disk disk' (Err g)
       answer (NotEmpty len) h = absurd h
       answer (ContentSize count) h = absurd h
-      answer Source h = record { empty = empty; risen = h; left = unsynced_left }
-      answer Disk h = h
+      answer Source h = record { empty = empty; risen = h; left = unbegun_left }
+      answer Disk h = record {
+        risen = λ below. let r : mid.faults < disk'.faults = h.risen below in omega (arith, clears.cause.later);
+        hard = λ below. let r : mid.hard < disk'.hard = h.hard below in omega (arith, clears.hard_cause.later);
+      }
 
   pub import_none : (count : ℕ) → (count ≡ 0) ⊎ (count ≡ most_bytes chunk + 1)
       → ((content : List ℕ) → source.left ≡ Some content → count ≡ min (length content) (most_bytes chunk + 1))
       → DoesImport chunk source source' disk disk' (Err (ContentSize count))
-  import_none count either counted = unsynced_import (ContentSize count) (record { empty = empty; either = either; counted = counted; left = unsynced_left })
+  import_none count either counted = unbegun_import (ContentSize count) (record { empty = empty; either = either; counted = counted; left = unbegun_left })
 
 -- a content of no byte, and one that goes on behind the greatest
 pub counted_none : (chunk : ℕ) (source mid : SourceState) (size : ℕ) → IsChunkSize chunk → size ≡ 0
@@ -226,13 +280,19 @@ read_whole chunk source mid size over is reads test content told =
     (cases_eq size (most_bytes chunk))
 
 -- The chunks are stored.
-module _ (chunk : ℕ) (source source' : SourceState) (disk mid new : DiskState) (size count : ℕ) (peaks : List (List ℕ)) (chunk_size : IsChunkSize chunk)
+module _ {E : Type 0} (chunk : ℕ) (source source' : SourceState) (disk front mid new : DiskState) (u : Unit {0}) (size count : ℕ) (peaks : List (List ℕ)) (chunk_size : IsChunkSize chunk)
     (some : size ≡ 0 → ⊥) (most : size ≤ most_bytes chunk)
-    (empty : IsKnown disk → disk.history.reads ≡ []) (keeps : KeepsBehind disk mid)
+    (empty : IsKnown disk → disk.history.reads ≡ []) (clears : DoesFront {E = E} (replicate 8 0) disk (Ok u) front) (keeps : KeepsBehind front mid)
     (all : (content : List ℕ) → source.left ≡ Some content → length content ≡ size)
     (put : (content : List ℕ) → source.left ≡ Some content → IsContent chunk content → IsPartial chunk content count peaks mid) where
+  known_front : IsKnown disk → IsKnown front
+  known_front = known_on disk front clears.tells clears.honest
+
   known_mid : IsKnown disk → IsKnown mid
-  known_mid known = known_on disk mid keeps.tells keeps.honest known
+  known_mid known = known_on front mid keeps.tells keeps.honest (known_front known)
+
+  behind_mid : IsKnown disk → IsBehind (cleared disk.history) mid.history
+  behind_mid known = subst (λ (h : History). IsBehind h mid.history) (clears.done known) (keeps.behind (known_front known))
 
   fits : (content : List ℕ) → source.left ≡ Some content → IsContentSize chunk (length content)
   fits content told = let e = all content told in record { some = omega arith; within = omega arith }
@@ -252,24 +312,26 @@ module _ (chunk : ℕ) (source source' : SourceState) (disk mid new : DiskState)
   }
   done_answer (Err f) described stored' fault =
       let risen : IsDiskFault disk new = record {
-        risen = λ below. let r : mid.faults < new.faults = fault.1.risen below in omega (arith, keeps.faults);
-        hard = λ below. let r : mid.hard < new.hard = fault.1.hard below in omega (arith, keeps.hard);
+        risen = λ below. let r : mid.faults < new.faults = fault.1.risen below in omega (arith, keeps.faults, clears.cause.later);
+        hard = λ below. let r : mid.hard < new.hard = fault.1.hard below in omega (arith, keeps.hard, clears.hard_cause.later);
       } in
       subst (λ (g : ImportFault). HasAnswer chunk source source' disk new (Err g)) (sym fault.0) risen
 
   left_whole : IsKnown disk → (h : History) → IsLeft chunk size count peaks mid h → (content : List ℕ) → source.left ≡ Some content → LeavesWholeStores chunk content disk.history h
   left_whole known _ (unfinished h behind) content told m after le =
-      let same : moment_of h ≡ moment_of disk.history = ap (λ past. length past) (behind.past ∙ (keeps.behind known).past) in absurd (omega arith)
-  left_whole known _ (finished d walked h behind built leaves) content told m after le =
-      let built' = built content (all content told) (partial content told) in
-      sound chunk content disk.history walked (behind_more disk.history mid.history walked (keeps.behind known) behind) built'.1 h
-      (subst (λ (x : Descriptor). Leaves x walked h) built'.0 leaves) m after le
+      walking_right chunk content disk.history (empty known) h (behind_more (cleared disk.history) mid.history h (behind_mid known) behind) m after
+  left_whole known _ (finished d walked h behind whole leaves) content told m after le =
+      let whole' = whole content (all content told) (partial content told) in
+      sealing_right chunk content disk.history (empty known) walked (behind_more (cleared disk.history) mid.history walked (behind_mid known) behind) whole'.1 h
+      (subst (λ (x : Descriptor). Leaves (header x) walked h) whole'.0 leaves) m after
 
-  left_no_store : IsKnown disk → (h : History) → IsLeft chunk size count peaks mid h → moment_of h ≡ moment_of disk.history → IsNoStore h.reads
-  left_no_store known _ (unfinished h behind) same =
-      behind_no_store disk.history h (empty known) (behind_more disk.history mid.history h (keeps.behind known) behind)
-  left_no_store known _ (finished d walked h behind built leaves) same =
-      no_store_yet chunk [] disk.history walked (behind_more disk.history mid.history walked (keeps.behind known) behind) (empty known) d h leaves same
+  left_later : IsKnown disk → (h : History) → IsLeft chunk size count peaks mid h → moment_of disk.history < moment_of h
+  left_later known _ (unfinished h behind) =
+      let same : moment_of h ≡ moment_of (cleared disk.history) = ap (λ past. length past) (behind.past ∙ (behind_mid known).past) in
+      omega (arith, same, cleared-moment-of disk.history)
+  left_later known _ (finished d walked h behind whole leaves) =
+      let same : moment_of walked ≡ moment_of (cleared disk.history) = ap (λ past. length past) (behind.past ∙ (behind_mid known).past) in
+      omega (arith, same, cleared-moment-of disk.history, leaves-moment (header d) walked h leaves)
 
   pub import_done : (result : Result Descriptor ImportFault)
       → ((content : List ℕ) → length content ≡ size → IsPartial chunk content count peaks mid → IfOk result (λ d. d ≡ imported content chunk))
@@ -282,51 +344,36 @@ module _ (chunk : ℕ) (source source' : SourceState) (disk mid new : DiskState)
   import_done result described stored' left fault kept takes later = record {
     answer = done_answer result described stored' fault;
     whole = λ known content told. left_whole known new.history (left (known_mid known)) content told;
-    no_store = λ known same. left_no_store known new.history (left (known_mid known)) same;
+    no_store = λ known same. let after = left_later known new.history (left (known_mid known)) in absurd (omega (arith, after, same));
     takes = takes;
     later = later;
-    keeps = record {
-      tells = kept.tells ∙ keeps.tells;
-      honest = kept.honest ∙ keeps.honest;
-      later = omega (arith, kept.later, keeps.later);
-      attachment = λ known. let a = (keeps.behind known).attachment in let b = kept.attachment (known_mid known) in
-          record { start = b.start ∙ a.start; first = b.first ∙ a.first; found = b.found ∙ a.found; names = b.names ∙ a.names };
-      faults = omega (arith, kept.faults, keeps.faults);
-      hard = omega (arith, kept.hard, keeps.hard);
-    };
+    keeps = disk_more disk mid new (disk_more disk front mid (front_keeps (replicate 8 0) disk front (Ok u) clears) (behind_keeps front mid keeps)) kept;
   }
 
--- The end, once the pairs are written.
-module _ {E : Type 0} (chunk size count : ℕ) (peaks : List (List ℕ)) (d : Descriptor) (root : List ℕ) (old mid new : DiskState) (result : Result (Unit {0}) E)
-    (walk : KeepsBehind old mid) (seals : DoesSeal d mid result new) where
+-- The end, once the pairs are written and the file has its length.
+module _ {E : Type 0} (chunk size count : ℕ) (peaks : List (List ℕ)) (d : Descriptor) (bytes : List ℕ) (old mid new : DiskState) (result : Result (Unit {0}) E)
+    (walk : KeepsBehind old mid) (is_header : bytes ≡ header d) (seals : DoesFront bytes mid result new) where
   known_walked : IsKnown old → IsKnown mid
   known_walked known = known_on old mid walk.tells walk.honest known
 
   pub sealed_left : ((content : List ℕ) → length content ≡ size → IsPartial chunk content count peaks old → d ≡ imported content chunk)
-      → ((content : List ℕ) → length content ≡ size → IsPartial chunk content count peaks old → IsKnown mid → IsBuilt chunk content mid.history.reads)
+      → ((content : List ℕ) → length content ≡ size → IsPartial chunk content count peaks old → IsKnown mid → IsWhole chunk content mid.history.reads)
       → IsKnown old → IsLeft chunk size count peaks old new.history
-  sealed_left described built known =
+  sealed_left described whole known =
       finished d mid.history new.history (walk.behind known)
-      (λ content whole part. (described content whole part, built content whole part (known_walked known)))
-      (seals.leaves (known_walked known))
+      (λ content long part. (described content long part, whole content long part (known_walked known)))
+      (subst (λ (b : List ℕ). Leaves b mid.history new.history) is_header (seals.leaves (known_walked known)))
 
   pub sealed_keeps : KeepsDisk old new
-  sealed_keeps = record {
-    tells = seals.tells ∙ walk.tells;
-    honest = seals.honest ∙ walk.honest;
-    later = omega (arith, seals.later, walk.later);
-    attachment = λ known. attachment_left d old.history mid.history new.history (walk.behind known).attachment (seals.leaves (known_walked known));
-    faults = omega (arith, seals.cause.later, walk.faults);
-    hard = omega (arith, seals.hard_cause.later, walk.hard);
-  }
+  sealed_keeps = disk_more old mid new (behind_keeps old mid walk) (front_keeps bytes mid new result seals)
 
-pub sealed_store : {E : Type 0} (chunk : ℕ) (content : List ℕ) (d : Descriptor) (old mid new : DiskState) (u : Unit {0}) → KeepsBehind old mid → DoesSeal {E = E} d mid (Ok u) new
-    → d ≡ imported content chunk → (IsKnown mid → IsBuilt chunk content mid.history.reads) → IsKnown old
+pub sealed_store : {E : Type 0} (chunk : ℕ) (content : List ℕ) (d : Descriptor) (bytes : List ℕ) (old mid new : DiskState) (u : Unit {0}) → KeepsBehind old mid
+    → bytes ≡ header d → DoesFront {E = E} bytes mid (Ok u) new → d ≡ imported content chunk → (IsKnown mid → IsWhole chunk content mid.history.reads) → IsKnown old
     → Throughout new.history (moment_of new.history) (IsStoreOf (imported content chunk) content)
-sealed_store chunk content d old mid new u walk seals is built known =
+sealed_store chunk content d bytes old mid new u walk is_header seals is whole known =
     let known' = known_on old mid walk.tells walk.honest known in
-    stored chunk content old.history mid.history (walk.behind known) (built known') new.history
-    (subst (λ (x : Descriptor). new.history ≡ kept (synced mid.history) 0 (header x)) is (seals.done known'))
+    stored chunk content mid.history new.history (whole known')
+    (subst (λ (b : List ℕ). new.history ≡ kept (synced mid.history) 0 b) (is_header ∙ ap header is) (seals.done known'))
 
 pub pair_fault : (old mid new : DiskState) → KeepsBehind old mid → IsDiskFault mid new → IsDiskFault old new
 pair_fault old mid new keeps fault = record {

@@ -12,7 +12,7 @@ use Rattle.pp_terms.specs.tree.Tree.{above}
 use Rattle.pp_terms.specs.tree.Book.{LookUp, IsJoined, IsRooted, has_peaks}
 use Rattle.pp_terms.specs.format.Descriptor.{Descriptor, chunks_of, height_of, IsDescriptor}
 use Rattle.pp_terms.specs.disk.Store.{chunk_place, pair_place}
-use Rattle.pp_terms.specs.disk.Image.{slice, child, known, known_below, matches, StandsIn}
+use Rattle.pp_terms.specs.disk.Image.{slice, child, known, known_below, matches}
 use Rattle.pp_terms.proofs.Nodes.{hung}
 use Rattle.pp_terms.proofs.Facts.{value_of}
 use Rattle.pp_terms.proofs.Peaks.{doubled, above_is}
@@ -22,6 +22,8 @@ use Rattle.pp_scan.specs.Holding.{is_there}
 use Rattle.pp_scan.proofs.Finding.{some_bytes}
 use Rattle.pp_scan.proofs.Children.{child_known}
 use Rattle.pp_store.specs.Pairs.{IsUnfilled, HasItsPairs, PairStands, PairsStand}
+use Rattle.pp_store.specs.Store.{HoldsIn}
+use Rattle.pp_store.proofs.Pieces.{offset_low}
 use Rattle.pp_store.proofs.Opening.{has_header}
 use Rattle.pp_store.proofs.Rereading.{has_slice, text_itself}
 use Rattle.pp_store.proofs.Surviving.{AllUp, up_way, up_peak, above_peak, known_at, peaks_in, peak_low, covers_all, slice_inside}
@@ -70,21 +72,6 @@ known_up d book reads (suc n) k j x rooted top low (here, up) at =
     ap (λ (l : ℕ). child (slice reads (pair_place d.chunk l (j / 2)) 64) j (known_below d reads n (j / 2))) layer
     ∙ pair_child d book reads k j x rooted here at (known_below d reads n (j / 2)) parent
 
-pub power_up : (k n h : ℕ) → k + n ≡ h → 2 ^ h ≡ 2 ^ n * 2 ^ k
-power_up zero n h top = let e : n ≡ h = omega arith in ap (λ (m : ℕ). 2 ^ m) (sym e) ∙ omega arith
-power_up (suc k) n h top =
-    power_up k (suc n) h (omega arith) ∙ (let e : 2 ^ suc n ≡ 2 ^ n * 2 = doubled n in
-    let f : 2 ^ suc k ≡ 2 ^ k * 2 = doubled k in
-    let g : 2 ^ suc n * 2 ^ k ≡ 2 ^ n * 2 * 2 ^ k = ap (λ (p : ℕ). p * 2 ^ k) e in
-    let h' : 2 ^ n * 2 ^ suc k ≡ 2 ^ n * (2 ^ k * 2) = ap (λ (p : ℕ). 2 ^ n * p) f in omega arith)
-
--- a node that covers a chunk lies below the root's layer's end
-pub offset_low : (k n h j m : ℕ) → k + n ≡ h → m ≤ 2 ^ h → j * 2 ^ k < m → j < 2 ^ n
-offset_low k n h j m top covers lt = ⊎_elim
-    (λ low. low)
-    (λ high. absurd (let e = power_up k n h top in let le : 2 ^ n * 2 ^ k ≤ j * 2 ^ k = grind arith in omega arith))
-    (cases_lt j (2 ^ n))
-
 -- a peak covers chunks
 peak_begins : (n k : ℕ) → above k n % 2 ≡ 1 → (above k n - 1) * 2 ^ k < n
 peak_begins n k odd =
@@ -93,10 +80,10 @@ peak_begins n k odd =
     let le : n / 2 ^ k * 2 ^ k ≤ n = grind arith in
     omega arith
 
--- a chunk that is there with its pairs stands
-pub stands_there : (d : Descriptor) (book : LookUp) (pairs : List Bool) (reads : List ℕ) (i : ℕ) → IsDescriptor d → IsRooted d book → i < chunks_of d
-    → HasHeader d reads → PairsStand d book pairs reads → HasItsPairs d pairs i → is_there d reads book i ≡ true → StandsIn d reads i
-stands_there d book pairs reads i valid rooted within begins stand has there =
+-- a chunk that is there with its pairs is held
+pub holds_there : (d : Descriptor) (book : LookUp) (pairs : List Bool) (reads : List ℕ) (i : ℕ) → IsDescriptor d → IsRooted d book → i < chunks_of d
+    → HasHeader d reads → PairsStand d book pairs reads → HasItsPairs d pairs i → is_there d reads book i ≡ true → HoldsIn d reads i
+holds_there d book pairs reads i valid rooted within begins stand has there =
     let want = chunk_length d.size d.chunk i in
     let bytes = slice reads (chunk_place d.chunk i) want in
     let both = and_parts (length bytes == want) (matches (book 0 i) (sha256 bytes)) there in

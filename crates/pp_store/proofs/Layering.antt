@@ -5,11 +5,12 @@ use borrow.Rule.Slice.PartMut.{put_mid}
 use Rattle.sha2.specs.Sha256.{sha256}
 use Rattle.pp_terms.specs.tree.Content.{chunk_of}
 use Rattle.pp_terms.specs.tree.Tree.{empty_hash}
-use Rattle.pp_terms.specs.disk.Store.{chunk_place}
-use Rattle.pp_terms.specs.disk.Disk.{DiskState, DoesWrite}
-use Rattle.pp_store.specs.Behind.{DoesPut}
-use Rattle.pp_store.specs.Growing.{IsPartial, IsCarry, IsCarrying, IsTail, IsTailing, chunks_in}
-use Rattle.pp_store.proofs.Writings.{write_puts}
+use Rattle.pp_terms.specs.disk.Store.{chunk_place, gate_place, open_gate}
+use Rattle.pp_terms.specs.disk.Disk.{DiskState, IsKnown, DoesWrite, written}
+use Rattle.pp_terms.proofs.Knowing.{known_on}
+use Rattle.pp_store.specs.Behind.{DoesBehind, DoesPut}
+use Rattle.pp_store.specs.Growing.{with_chunk, IsPartial, IsCarry, IsCarrying, IsTail, IsTailing, chunks_in}
+use Rattle.pp_store.proofs.Writings.{write_puts, does_later, does_fault}
 use Rattle.pp_store.proofs.Carrying.{carry_start, carry_step, carry_slot}
 use Rattle.pp_store.proofs.Tails.{tail_odd, tail_even, tail_slot}
 
@@ -34,6 +35,13 @@ puts_there {E = E} old new place place' bytes bytes' u x same same' far does =
       };
       put = puts.put;
     }
+
+-- one that was refused
+pub put_fails : {T E : Type 0} (old new : DiskState) (place : ℕ) (bytes : List ℕ) (fault : E) → 64 ≤ place → DoesWrite old place bytes (Err fault) new
+    → DoesPut {T = T} old place bytes (Err fault) new
+put_fails old new place bytes fault far does =
+    let puts = write_puts old new place bytes (Err fault) far does in
+    record { does = does_fault old new fault fault puts.does; put = λ known. tt }
 
 -- the place of the slot that the code computes
 last_place : (chunk count k offset step x : ℕ) → IsTail count k offset step
@@ -68,12 +76,32 @@ module _ {E : Type 0} (chunk count k offset step : ℕ) (peaks : List (List ℕ)
       carry_step chunk content count old new above k offset step _ peaks left right above puts
       (ap (λ (s : ℕ). chunk_place chunk s + chunk) (carry_slot count k offset step at odd).1) at odd left_is digest before
 
--- the chunk that was written, and the pairs that it fills
-pub chunk_put : {E F : Type 0} (chunk count place : ℕ) (peaks peaks' : List (List ℕ)) (bytes digest : List ℕ) (count' : ℕ) (old mid new : DiskState) (u : Unit {0}) (result : Result (Unit {0}) F)
-    → place ≡ chunk_place chunk count → DoesWrite {E = E} old place bytes (Ok u) mid
+-- the chunk that was written with its gate, and the pairs that it fills
+pub chunk_put : {E F : Type 0} (chunk count : ℕ) (peaks peaks' : List (List ℕ)) (bytes digest : List ℕ) (count' : ℕ) (old mid new : DiskState) (u : Unit {0}) (result : Result (Unit {0}) F)
+    → DoesBehind {E = E} old (Ok u) mid → (IsKnown old → mid.history.reads ≡ with_chunk chunk count bytes old.history.reads)
     → ((content : List ℕ) → IsCarrying chunk content count 0 count peaks digest mid → OnOk result (IsPartial chunk content count' peaks' new))
     → (content : List ℕ) → bytes ≡ chunk_of content chunk count → digest ≡ sha256 bytes → count < chunks_in chunk content → IsPartial chunk content count peaks old
     → OnOk result (IsPartial chunk content count' peaks' new)
-chunk_put {E = E} chunk count place peaks peaks' bytes digest count' old mid new u result place_is does carry content bytes_is digest_is within part =
-    carry content (carry_start chunk content count old mid u place peaks bytes digest
-    (write_puts {E = E} old mid place bytes (Ok u) (omega (arith, place_is)) does) place_is bytes_is digest_is within part)
+chunk_put chunk count peaks peaks' bytes digest count' old mid new u result does put carry content bytes_is digest_is within part =
+    carry content (carry_start chunk content count old mid peaks bytes digest does.keeps put bytes_is digest_is within part)
+
+-- a chunk, and then its gate
+pub bytes_put : {E : Type 0} (chunk slot place gate : ℕ) (bytes gate_bytes : List ℕ) (old mid new : DiskState) (u : Unit {0}) (result : Result (Unit {0}) E)
+    → place ≡ chunk_place chunk slot → gate ≡ gate_place chunk slot → gate_bytes ≡ open_gate
+    → DoesWrite {E = E} old place bytes (Ok u) mid → DoesWrite mid gate gate_bytes result new
+    → DoesBehind old result new × (IsKnown old → OnOk result (new.history.reads ≡ with_chunk chunk slot bytes old.history.reads))
+bytes_put {E = E} chunk slot place gate bytes gate_bytes old mid new u result place_is gate_is bytes_is one two =
+    let first = write_puts {E = E} old mid place bytes (Ok u) (omega (arith, place_is)) one in
+    let second = write_puts mid new gate gate_bytes result (omega (arith, gate_is)) two in (
+      does_later old mid new result first.does.keeps second.does,
+      λ known. on_ok result (λ back. reads_of known back) (second.put (known_on old mid first.does.keeps.tells first.does.keeps.honest known)),
+    )
+  where
+    on_ok : {A B : Type 0} (r : Result (Unit {0}) E) → (A → B) → OnOk r A → OnOk r B
+    on_ok (Ok v) f a = f a
+    on_ok (Err fault) f a = tt
+
+    reads_of : IsKnown old → new.history.reads ≡ written mid.history.reads gate gate_bytes → new.history.reads ≡ with_chunk chunk slot bytes old.history.reads
+    reads_of known e =
+        let first = write_puts {E = E} old mid place bytes (Ok u) (omega (arith, place_is)) one in
+        e ∙ (λ t. written (first.put known t) (gate_is t) (bytes_is t)) ∙ ap (λ (p : ℕ). written (written old.history.reads p bytes) (gate_place chunk slot) open_gate) place_is

@@ -8,6 +8,7 @@ pub mod Nexts
 pub mod Quads
 pub mod Sealing
 pub mod Steps
+pub mod Stretching
 pub mod Ends
 pub mod Counted
 pub mod Opening
@@ -15,9 +16,10 @@ pub mod Rereading
 pub mod Surviving
 pub mod KnownPairs
 pub mod PairWrites
+pub mod GateWrites
 pub mod Marking
 pub mod Answering
-pub mod Committing
 pub mod Puttings
+pub mod Committing
 pub mod Beginnings
 pub mod Writtens

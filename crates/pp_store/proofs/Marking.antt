@@ -7,7 +7,6 @@ use Rattle.std.proofs.Math.ListN.{set}
 use Rattle.std.proofs.Math.Nat.{mod-eq_of_lt, mul-le-mul_left}
 use Rattle.std.proofs.Math.Pow.{pow_mono}
 use Rattle.std.proofs.lemmas.Bool.{cases_lt, cases_eq, cases_Bool, false≢true, eqb-true, and_parts}
-use Rattle.std.proofs.lemmas.Bool.Decides.{nat_tests}
 use Rattle.std.proofs.lemmas.List.{places, take-append-drop, get_or_past, get_or-replicate, length-replicate}
 use Rattle.std.proofs.lemmas.Nat.{pow_pos}
 use Rattle.sha2.specs.Sha256.{sha256}

@@ -1,17 +1,17 @@
 -- A store is opened, and its chunks are read.
-use Rattle.std.proofs.Common.{◌≡◌, ◌⊎◌, inl, inr, ⊎_elim, ℕ, ◌+◌, ◌<◌, ◌≤◌, ◌==◌, nat_eq, Bool, true, false, Option, Some, List, [], ◌++◌, length, get_or, take, drop, replicate, Result, Ok, Err, IfOk, IfErr, refl, sym, ◌∙◌, ap, subst, arith}
+use Rattle.std.proofs.Common.{◌≡◌, ◌⊎◌, inl, inr, ⊎_elim, ℕ, ◌+◌, ◌-◌, ◌<◌, ◌≤◌, ◌==◌, nat_eq, Bool, true, false, Option, Some, List, [], ◌∷◌, ◌++◌, length, get_or, take, drop, replicate, Result, Ok, Err, IfOk, IfErr, refl, sym, ◌∙◌, ap, subst, arith}
 use Rattle.std.specs.Prelude.{◌&&◌}
 use Rattle.std.specs.Cmp.Lexicographic.{pointwise, same_text, other_text}
-use Rattle.std.proofs.lemmas.Bool.{cases_lt, false≢true, eqb-true}
-use Rattle.std.proofs.lemmas.List.{length-take, length-drop, get_or_past, take_at}
+use Rattle.std.proofs.lemmas.Bool.{cases_lt, false≢true, eqb-true, and_parts}
+use Rattle.std.proofs.lemmas.List.{length-take, length-drop, take_at}
 use Rattle.sha2.specs.Sha256.{sha256}
 use Rattle.pp_terms.specs.Count.{HasRisen}
 use Rattle.pp_terms.specs.tree.Content.{chunk_length}
 use Rattle.pp_terms.specs.tree.Book.{LookUp, has_peaks}
 use Rattle.pp_terms.specs.format.Descriptor.{Descriptor, chunks_of, IsDescriptor}
-use Rattle.pp_terms.specs.disk.Store.{header, chunk_place, Has}
-use Rattle.pp_terms.specs.disk.Image.{slice, known, matches, holds, StandsIn}
-use Rattle.pp_terms.specs.disk.Disk.{DiskState, History, IsImage, IsKnown, IsRead, DoesLen, MayLeaveSince, Throughout, moment_of, written}
+use Rattle.pp_terms.specs.disk.Store.{header, chunk_place, file_size, Has}
+use Rattle.pp_terms.specs.disk.Image.{slice, known, matches, holds, is_open, StandsIn}
+use Rattle.pp_terms.specs.disk.Disk.{DiskState, History, IsImage, IsKnown, IsRead, DoesLen, MayLeave, MayLeaveSince, Throughout, moment_of, written}
 use Rattle.pp_terms.proofs.Headers.{length-header}
 use Rattle.pp_terms.proofs.Images.{written_inside, sole_image, since_now, since_settled}
 use Rattle.pp_terms.proofs.Facts.{member_below}
@@ -25,7 +25,7 @@ use Rattle.pp_scan.specs.Scan.{IsScanned, HasFound}
 use Rattle.pp_scan.proofs.Reading.{no_bytes, read_slice}
 use Rattle.pp_scan.proofs.Finding.{found_empty, some_bytes}
 use Rattle.pp_store.specs.Keep.{kept}
-use Rattle.pp_store.specs.Store.{IsOpened, AllStand, GoesOn}
+use Rattle.pp_store.specs.Store.{made, IsOpened, AllStand, GoesOn}
 use Rattle.pp_store.specs.ReadChunk.{IsRightChunk, IsDamaged}
 
 -- an empty file
@@ -72,6 +72,20 @@ pub only_image : (h old : History) (image : List ℕ) → h ≡ synced old → M
 only_image h old image is since =
     sole_image old.reads image (since_now (synced old) image (subst (λ (x : History). MayLeaveSince x (moment_of x) image) is since))
 
+-- what a file that was made reads, and that this is the one image
+abbrev pub made_reads : Descriptor → History → List ℕ
+made_reads d old = (made d old).reads
+
+pub made_image : (d : Descriptor) (old new : History) (image : List ℕ) → new ≡ made d old → MayLeave new image → image ≡ made_reads d old
+made_image d old new image is may = sole_image (made_reads d old) image (subst (λ (h : History). MayLeave h image) is may)
+
+pub made_begins : (d : Descriptor) (old : History) → IsDescriptor d → HasHeader d (made_reads d old)
+made_begins d old valid k lt =
+    let before = (kept (kept (synced old) 0 (replicate 8 0)) (file_size d - 1) (0 ∷ [])).reads in
+    let at : 0 + k ≡ k = omega arith in
+    let lt' : k < length (header d) = omega (arith, length-header d valid.root_length) in
+    ap (λ (n : ℕ). get_or (written before 0 (header d)) n 0) (sym at) ∙ written_inside before 0 (header d) k lt'
+
 module _ (d : Descriptor) (old new : DiskState) (book : LookUp) (set : List Bool) (valid : IsDescriptor d) (scanned : IsScanned d old book set)
     (known : IsKnown old) (opened : IsOpened d old.history new.history) where
   pub opened_begins : Throughout new.history (moment_of new.history) (HasHeader d)
@@ -82,16 +96,15 @@ module _ (d : Descriptor) (old new : DiskState) (book : LookUp) (set : List Bool
       (scanned.begins known))
       (λ none.
       let empty : old.history.reads ≡ [] = no_bytes old.history.reads (omega arith) in
-      let image_is : image ≡ written old.history.reads 0 (header d) =
-      sole_image (written old.history.reads 0 (header d)) image (since_now (kept old.history 0 (header d)) image (subst (λ (x : History). MayLeaveSince x (moment_of x) image) (opened.fresh empty) since)) in
-      λ k lt. let at : 0 + k ≡ k = omega arith in let lt' : k < length (header d) = omega (arith, length-header d valid.root_length) in
-      ap (λ (x : List ℕ). get_or x k 0) image_is ∙ ap (λ (n : ℕ). get_or (written old.history.reads 0 (header d)) n 0) (sym at) ∙ written_inside old.history.reads 0 (header d) k lt')
+      let image_is = made_image d old.history new.history image (opened.fresh empty) (since_now new.history image since) in
+      λ k lt. ap (λ (x : List ℕ). get_or x k 0) image_is ∙ made_begins d old.history valid k lt)
       (cases_lt 0 (length old.history.reads))
 
   pub opened_stands : AllStand d set new.history
   opened_stands i is image since =
       let within : i < chunks_of d = omega (arith, member_below set i is, scanned.count) in
-      let held : holds d old.history.reads i ≡ true = sym (scanned.held known i within) ∙ is in
+      let both = and_parts (is_open d old.history.reads i) (holds d old.history.reads i) (sym (scanned.held known i within) ∙ is) in
+      let held : holds d old.history.reads i ≡ true = both.1 in
       let bytes = some_bytes d i valid within in
       let long = held_inside d old.history.reads i bytes held in
       let some : 0 < length old.history.reads = omega arith in
@@ -101,6 +114,7 @@ module _ (d : Descriptor) (old new : DiskState) (book : LookUp) (set : List Bool
       (λ begins. subst (λ (x : List ℕ). StandsIn d x i) (sym image_is) (record {
         begins = has_header d old.history.reads valid begins (omega arith);
         within = within;
+        opened = sym (sym both.0);
         held = sym (sym held);
       }))
       (scanned.begins known)

@@ -10,7 +10,7 @@ use Rattle.pp_terms.specs.tree.Content.{chunk_length}
 use Rattle.pp_terms.specs.tree.Tree.{above}
 use Rattle.pp_terms.specs.tree.Book.{LookUp, IsJoined, IsRooted, IsBacked}
 use Rattle.pp_terms.specs.format.Descriptor.{Descriptor, chunks_of, IsDescriptor}
-use Rattle.pp_terms.specs.disk.Store.{chunk_place, pair_slot, pair_place, AreApart, Has}
+use Rattle.pp_terms.specs.disk.Store.{chunk_place, pair_slot, pair_place, gate_place, AreApart, Has}
 use Rattle.pp_terms.specs.disk.Image.{slice, matches, StandsIn}
 use Rattle.pp_terms.specs.disk.Disk.{DiskState, History, IsKnown, DoesWrite, written}
 use Rattle.pp_terms.proofs.Images.{has_over}
@@ -40,6 +40,34 @@ chunk_pair_clear d i k j = ⊎_elim
 
 turned : (a s b t : ℕ) → AreApart a s b t → AreApart b t a s
 turned a s b t apart = ⊎_elim (λ l. inr l) (λ r. inl r) apart
+
+gate_in_slot : (chunk i : ℕ) → IsInSlot chunk (gate_place chunk i) 1 i
+gate_in_slot chunk i = record { from = omega arith; to = omega arith }
+
+-- a gate, and a pair or a chunk
+pub gate_pair_clear : (chunk i k j : ℕ) → AreApart (gate_place chunk i) 1 (pair_place chunk k j) 64
+gate_pair_clear chunk i k j = ⊎_elim
+    (λ e. inr (let same : chunk_place chunk i ≡ chunk_place chunk (pair_slot k j) = ap (λ (s : ℕ). chunk_place chunk s) e in omega arith))
+    (λ ne. slots_apart chunk _ _ _ _ i (pair_slot k j) ne (gate_in_slot chunk i) (pair_in_slot chunk k j))
+    (cases_eq i (pair_slot k j))
+
+pub gate_chunk_clear : (d : Descriptor) (i at : ℕ) → AreApart (gate_place d.chunk i) 1 (chunk_place d.chunk at) (chunk_length d.size d.chunk at)
+gate_chunk_clear d i at = ⊎_elim
+    (λ e. inr (let same : chunk_place d.chunk i ≡ chunk_place d.chunk at = ap (λ (s : ℕ). chunk_place d.chunk s) e in omega arith))
+    (λ ne. slots_apart d.chunk _ _ _ _ i at ne (gate_in_slot d.chunk i) (chunk_in_slot d at))
+    (cases_eq i at)
+
+pub gates_clear : (chunk i j : ℕ) → (i ≡ j → ⊥) → AreApart (gate_place chunk i) 1 (gate_place chunk j) 1
+gates_clear chunk i j ne = slots_apart chunk _ _ _ _ i j ne (gate_in_slot chunk i) (gate_in_slot chunk j)
+
+-- a gate's range lies apart from all that any chunk needs but its own gate
+pub gate_clear : (d : Descriptor) (i at : ℕ) → IsClear d i (gate_place d.chunk at) 1
+gate_clear d i at = record {
+  behind = omega arith;
+  chunk = turned _ _ _ _ (gate_chunk_clear d at i);
+  way = λ l inner. turned _ _ _ _ (gate_pair_clear d.chunk at l (above (suc l) i));
+  unfilled = λ l is. turned _ _ _ _ (gate_pair_clear d.chunk at l (above (suc l) (chunks_of d)));
+}
 
 -- a pair that is stored, and one that isn't
 pairs_clear : (chunk k j l i : ℕ) (pairs : List Bool) → has_pair pairs k j ≡ true → has_pair pairs l i ≡ false
@@ -107,7 +135,9 @@ module _ (d : Descriptor) (book : LookUp) (pairs : List Bool) (k j place : ℕ) 
     chunks_kept = chunk_kept;
     pairs_stand = stand;
     goes_on = λ i has moment within. throughout_over old new place moment bytes (λ image. StandsIn d image i)
-        (λ under image is. stands_over d i place (length bytes) under image valid (clear i has) is) over;
+        (λ under image is. stands_over d i place (length bytes) under image valid (clear i has)
+        (subst (λ (p : ℕ). AreApart (gate_place d.chunk i) 1 p (length bytes)) (sym place_is)
+        (subst (λ (n : ℕ). AreApart (gate_place d.chunk i) 1 (pair_place d.chunk k j) n) (sym size_is) (gate_pair_clear d.chunk i k j))) is) over;
   }
 
   -- a refused one
@@ -173,7 +203,9 @@ chunk_over d book pairs at place bytes old new valid rooted place_is size_is ove
       (subst (λ (p : ℕ). AreApart (pair_place d.chunk l i) 64 p (length bytes)) (sym place_is)
       (subst (λ (n : ℕ). AreApart (pair_place d.chunk l i) 64 (chunk_place d.chunk at) n) (sym size_is) (turned _ _ _ _ (chunk_pair_clear d at l i)))) over (stand l i inner stored);
   goes_on = λ i ne has moment within. throughout_over old new place moment bytes (λ image. StandsIn d image i)
-      (λ under image is. stands_over d i place (length bytes) under image valid (clear i ne) is) over;
+      (λ under image is. stands_over d i place (length bytes) under image valid (clear i ne)
+      (subst (λ (p : ℕ). AreApart (gate_place d.chunk i) 1 p (length bytes)) (sym place_is)
+      (subst (λ (n : ℕ). AreApart (gate_place d.chunk i) 1 (chunk_place d.chunk at) n) (sym size_is) (gate_chunk_clear d i at))) is) over;
 }
   where
     clear : (i : ℕ) → (i ≡ at → ⊥) → IsClear d i place (length bytes)

@@ -24,7 +24,7 @@ use Rattle.pp_store.specs.declared.admitting.Put.TheVariants.{Stored, Held, Miss
 use Rattle.pp_store.specs.Answer.{admitted, learned, put_answer, put_learned}
 use Rattle.pp_store.specs.Pairs.{HasItsPairs, PairsStand, GoesOnSince, PutsChunk}
 use Rattle.pp_store.specs.Store.{StoreState, IsSized, in_either, is_held, AgreesWith, HoldsAll, KnowsHeld, after_put}
-use Rattle.pp_store.proofs.KnownPairs.{stands_there}
+use Rattle.pp_store.proofs.KnownPairs.{holds_there}
 use Rattle.pp_store.proofs.PairWrites.{has_on}
 use Rattle.pp_store.proofs.Surviving.{peak_in, peaks_in}
 
@@ -35,6 +35,9 @@ either_case a b e = elim a as (λ v. (v || b) ≡ true → (v ≡ true) ⊎ (b �
 
 pub either_left : (a b : Bool) → a ≡ true → (a || b) ≡ true
 either_left a b e = ap (λ (v : Bool). v || b) e
+
+left_out : (a b : Bool) → (a || b) ≡ false → a ≡ false
+left_out a b e = elim a as (λ v. (v || b) ≡ false → v ≡ false) [ true ↦ λ h. h | false ↦ λ h. refl ] e
 
 other_set : (committed pending : List Bool) (i l : ℕ) → (l ≡ i → ⊥) → in_either committed (set pending i true) l ≡ in_either committed pending l
 other_set committed pending i l ne = ap (λ (b : Bool). get_or committed l false || b) (get_or-set_other pending i l true false ne)
@@ -57,16 +60,21 @@ module _ (d : Descriptor) (committed pending pairs pairs' : List Bool) (book : L
     pending_size = sized.pending_size;
     pairs_size = puts.size ∙ sized.pairs_size;
     supported = λ l held. has_on d pairs pairs' l puts.stays (sized.supported l held);
+    apart = sized.apart;
   }
 
-  pub sized_done : HasItsPairs d pairs' i → IsSized d committed (set pending i true) pairs'
-  sized_done has = record {
+  pub sized_done : in_either committed pending i ≡ false → HasItsPairs d pairs' i → IsSized d committed (set pending i true) pairs'
+  sized_done absent has = record {
     committed_size = sized.committed_size;
     pending_size = length-set pending i true ∙ sized.pending_size;
     pairs_size = puts.size ∙ sized.pairs_size;
     supported = λ l held. ⊎_elim
         (λ same. subst (λ (m : ℕ). HasItsPairs d pairs' m) (sym same) has)
         (λ other. has_on d pairs pairs' l puts.stays (sized.supported l (sym (other_set committed pending i l other) ∙ held)))
+        (cases_eq l i);
+    apart = λ l two. ⊎_elim
+        (λ same. ap (λ (m : ℕ). get_or committed m false) same ∙ left_out (get_or committed i false) (get_or pending i false) absent)
+        (λ other. sized.apart l (sym (get_or-set_other pending i l true false other) ∙ two))
         (cases_eq l i);
   }
 
@@ -177,7 +185,7 @@ pub holds_all : (s : StoreState) (book : LookUp) (reads : List ℕ) → IsDescri
     → ((l : ℕ) → is_held s l ≡ true → l < chunks_of s.descriptor) → ((l : ℕ) → is_held s l ≡ true → HasItsPairs s.descriptor s.pairs l)
     → AgreesWith s book reads → HoldsAll s reads
 holds_all s book reads valid rooted sized supported agrees l held =
-    stands_there s.descriptor book s.pairs reads l valid rooted (sized l held) agrees.begins agrees.pairs_stand (supported l held) (agrees.chunks l held)
+    holds_there s.descriptor book s.pairs reads l valid rooted (sized l held) agrees.begins agrees.pairs_stand (supported l held) (agrees.chunks l held)
 
 -- ---- what the book knows of held chunks
 

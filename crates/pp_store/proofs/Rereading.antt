@@ -14,8 +14,8 @@ use Rattle.sha2.proofs.Facts256.{length-sha256}
 use Rattle.pp_terms.specs.tree.Content.{chunk_of, chunk_length}
 use Rattle.pp_terms.specs.tree.Tree.{pair, leaf_of, above}
 use Rattle.pp_terms.specs.format.Descriptor.{Descriptor, chunks_of, height_of}
-use Rattle.pp_terms.specs.disk.Store.{header, chunk_place, pair_place, Has, IsStoreOf, the_header, a_chunk, a_pair}
-use Rattle.pp_terms.specs.disk.Image.{slice, half, child, known, known_below, matches, holds, StandsIn}
+use Rattle.pp_terms.specs.disk.Store.{header, chunk_place, pair_place, gate_place, open_gate, Has, IsStoreOf, the_header, a_chunk, a_pair, a_gate}
+use Rattle.pp_terms.specs.disk.Image.{slice, half, child, known, known_below, matches, holds, is_open, StandsIn}
 use Rattle.pp_terms.specs.tree.Book.{has_peaks_below}
 use Rattle.pp_terms.proofs.Heights.{height_is}
 use Rattle.pp_terms.proofs.Nodes.{length-node}
@@ -34,6 +34,12 @@ has_slice place bytes image has =
   where
     at : (k : ℕ) → k < length bytes → get_or (take (length bytes) (drop place image)) k 0 ≡ get_or image (place + k) 0
     at k lt = grind (arith, places)
+
+-- a gate that stands open in an image
+pub open_gate_there : (d : Descriptor) (image : List ℕ) (i : ℕ) → Has (gate_place d.chunk i) open_gate image → is_open d image i ≡ true
+open_gate_there d image i has =
+    let at : gate_place d.chunk i + 0 ≡ gate_place d.chunk i = omega arith in
+    ap (λ (b : ℕ). b == 0x4f) (ap (λ (p : ℕ). get_or image p 0) (sym at) ∙ has.same 0 (omega arith))
 
 pub text_itself : (xs ys : List ℕ) → xs ≡ ys → pointwise nat_eq xs ys ≡ true
 text_itself xs ys e = ⊎_elim (λ t. t) (λ f. absurd (other_text xs ys (sym f) e)) (cases_Bool (pointwise nat_eq xs ys))
@@ -131,5 +137,6 @@ module _ (chunk : ℕ) (content image : List ℕ) (fits : IsContent chunk conten
       record {
         begins = whole.pieces 0 (header d) the_header;
         within = within;
+        opened = open_gate_there d image i (whole.pieces _ _ (a_gate i within));
         held = sym (sym held);
       }

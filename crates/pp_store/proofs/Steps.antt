@@ -1,17 +1,15 @@
--- A sync, and then the header is kept.
+-- A sync, and then bytes at the front are kept.
 use Rattle.std.proofs.Common.{◌≡◌, ⊎_elim, ℕ, ◌<◌, List, Result, Ok, Err, ◌∙◌, subst, arith}
 use Rattle.pp_terms.specs.Count.{HasCause}
-use Rattle.pp_terms.specs.format.Descriptor.{Descriptor}
-use Rattle.pp_terms.specs.disk.Store.{header}
 use Rattle.pp_terms.specs.disk.Disk.{DiskState, History, IsKnown, IsRefusedWrite, DoesSync, after_write}
 use Rattle.pp_terms.proofs.Knowing.{known_on}
 use Rattle.pp_store.specs.Keep.{DoesKeep, kept}
 use Rattle.pp_scan.specs.Look.{synced}
-use Rattle.pp_store.specs.Seal.{DoesSeal, unsynced, header_refused, header_unsynced, sealed}
+use Rattle.pp_store.specs.Front.{DoesFront, unsynced, front_refused, front_unsynced, front_kept}
 
-pub not_synced : {E : Type 0} (d : Descriptor) (old new : DiskState) (fault : E)
-    → DoesSync old (Err fault) new → DoesSeal d old (Err fault) new
-not_synced d old new fault does = record {
+pub not_synced : {E : Type 0} (bytes : List ℕ) (old new : DiskState) (fault : E)
+    → DoesSync old (Err fault) new → DoesFront bytes old (Err fault) new
+not_synced bytes old new fault does = record {
   tells = does.call.tells;
   honest = does.call.honest;
   later = does.call.later;
@@ -28,35 +26,35 @@ both {before = before} {mid = mid} {now = now} one two = record {
   risen = λ err below. let r : mid < now = two.risen err below in omega (arith, one.later, r);
 }
 
-module _ {E : Type 0} (d : Descriptor) (head : List ℕ) (old mid new : DiskState) (is_header : head ≡ header d) (u : Unit {0}) (first : DoesSync {E = E} old (Ok u) mid) where
+module _ {E : Type 0} (bytes : List ℕ) (old mid new : DiskState) (u : Unit {0}) (first : DoesSync {E = E} old (Ok u) mid) where
   known_mid : IsKnown old → IsKnown mid
   known_mid = known_on old mid first.call.tells first.call.honest
 
-  -- the history in the middle, and the header as it is
-  from_mid : IsKnown old → (P : History → List ℕ → Type 0) → P mid.history head → P (synced old.history) (header d)
-  from_mid known P p = subst (λ (bytes : List ℕ). P (synced old.history) bytes) is_header (subst (λ (h : History). P h head) (first.done known) p)
+  -- the history in the middle
+  from_mid : IsKnown old → (P : History → Type 0) → P mid.history → P (synced old.history)
+  from_mid known P p = subst P (first.done known) p
 
-  pub header_kept : (result : Result (Unit {0}) E) → DoesKeep mid 0 head result new → DoesSeal d old result new
-  header_kept (Ok v) second = record {
+  pub front_kept_by : (result : Result (Unit {0}) E) → DoesKeep mid 0 bytes result new → DoesFront bytes old result new
+  front_kept_by (Ok v) second = record {
     tells = second.tells ∙ first.call.tells;
     honest = second.honest ∙ first.call.honest;
     later = omega (arith, first.call.later, second.later);
     done = done;
-    leaves = λ known. sealed new.history (done known);
+    leaves = λ known. front_kept new.history (done known);
     cause = both first.call.cause second.cause;
     hard_cause = both first.hard_cause second.hard_cause;
   }
     where
-      done : IsKnown old → new.history ≡ kept (synced old.history) 0 (header d)
-      done known = from_mid known (λ (h : History) (bytes : List ℕ). new.history ≡ kept h 0 bytes) (second.done (known_mid known))
-  header_kept (Err fault) second = record {
+      done : IsKnown old → new.history ≡ kept (synced old.history) 0 bytes
+      done known = from_mid known (λ (h : History). new.history ≡ kept h 0 bytes) (second.done (known_mid known))
+  front_kept_by (Err fault) second = record {
     tells = second.tells ∙ first.call.tells;
     honest = second.honest ∙ first.call.honest;
     later = omega (arith, first.call.later, second.later);
     done = λ known. tt;
     leaves = λ known. ⊎_elim
-        (λ r. header_refused new.history (from_mid known (λ (h : History) (bytes : List ℕ). IsRefusedWrite h 0 bytes new.history) r))
-        (λ r. header_unsynced new.history (from_mid known (λ (h : History) (bytes : List ℕ). new.history ≡ after_write h 0 bytes) r))
+        (λ r. front_refused new.history (from_mid known (λ (h : History). IsRefusedWrite h 0 bytes new.history) r))
+        (λ r. front_unsynced new.history (from_mid known (λ (h : History). new.history ≡ after_write h 0 bytes) r))
         (second.refused (known_mid known));
     cause = both first.call.cause second.cause;
     hard_cause = both first.hard_cause second.hard_cause;

@@ -5,7 +5,7 @@ use Rattle.std.specs.Cmp.Lexicographic.{pointwise}
 use Rattle.std.proofs.lemmas.Bool.{cases_lt, cases_eq, cases_Bool, eqb-true, false≢true, and_parts}
 use Rattle.std.proofs.lemmas.Bool.Decides.{nat_tests}
 use Rattle.std.proofs.lemmas.Grind.{same_number_lists}
-use Rattle.std.proofs.lemmas.List.{places, length-take, length-drop}
+use Rattle.std.proofs.lemmas.List.{places, length-take, length-drop, get_or_past}
 use Rattle.std.proofs.Math.Nat.{mul-le-mul_left}
 use Rattle.std.proofs.lemmas.Nat.{pow_pos}
 use Rattle.sha2.specs.Sha256.{sha256}
@@ -13,8 +13,8 @@ use Rattle.pp_terms.specs.tree.Content.{chunk_length}
 use Rattle.pp_terms.specs.tree.Tree.{above}
 use Rattle.pp_terms.specs.tree.Book.{LookUp, has_peaks, has_peaks_below}
 use Rattle.pp_terms.specs.format.Descriptor.{Descriptor, chunks_of, height_of, IsDescriptor}
-use Rattle.pp_terms.specs.disk.Store.{header, chunk_place, pair_place, AreApart, Has}
-use Rattle.pp_terms.specs.disk.Image.{slice, half, child, known, known_below, matches, StandsIn}
+use Rattle.pp_terms.specs.disk.Store.{header, chunk_place, pair_place, gate_place, AreApart, Has}
+use Rattle.pp_terms.specs.disk.Image.{slice, half, child, known, known_below, matches, is_open, StandsIn}
 use Rattle.pp_terms.specs.disk.Disk.{DiskState, History, IsKnown, IsOver, DoesWrite, Throughout, written, pends}
 use Rattle.pp_terms.proofs.Headers.{length-header}
 use Rattle.pp_terms.proofs.Heights.{height_is}
@@ -26,6 +26,7 @@ use Rattle.pp_paths.proofs.PeakNodes.{layer_within}
 use Rattle.pp_scan.specs.Holding.{is_there}
 use Rattle.pp_scan.proofs.Finding.{some_bytes}
 use Rattle.pp_store.specs.Pairs.{IsUnfilled}
+use Rattle.pp_store.specs.Store.{HoldsIn}
 
 -- ---- one write, done or refused
 
@@ -244,9 +245,10 @@ pub header_over : (d : Descriptor) (place size : ℕ) (under image : List ℕ) �
 header_over d place size under image valid far over has =
     has_over place size 0 (header d) under image (inl (omega (arith, length-header d valid.root_length))) over has
 
-pub stands_over : (d : Descriptor) (i place size : ℕ) (under image : List ℕ) → IsDescriptor d → IsClear d i place size → IsOver place size under image
-    → StandsIn d under i → StandsIn d image i
-stands_over d i place size under image valid clear over stands =
+-- a chunk that is held elsewhere
+pub holds_over : (d : Descriptor) (i place size : ℕ) (under image : List ℕ) → IsDescriptor d → IsClear d i place size → IsOver place size under image
+    → HoldsIn d under i → HoldsIn d image i
+holds_over d i place size under image valid clear over stands =
     let want = chunk_length d.size d.chunk i in
     let bytes = slice under (chunk_place d.chunk i) want in
     let tests = and_parts (has_peaks (known d under) (chunks_of d) && (length bytes == want)) (matches (known d under 0 i) (sha256 bytes)) (sym (sym stands.held)) in
@@ -291,3 +293,25 @@ stands_over d i place size under image valid clear over stands =
         let up : AllUp (λ l m. AreApart (pair_place d.chunk l m) 64 place size) (height_of d) 0 i =
         up_way (λ l m. AreApart (pair_place d.chunk l m) 64 place size) (height_of d) i (height_of d) 0 (omega arith) clear.way in
         leaf_known digest up (known d under 0 i) refl is
+
+-- a gate elsewhere stays open
+pub open_over : (d : Descriptor) (i place size : ℕ) (under image : List ℕ) → AreApart (gate_place d.chunk i) 1 place size → IsOver place size under image
+    → is_open d under i ≡ true → is_open d image i ≡ true
+open_over d i place size under image apart over is =
+    let value : get_or under (gate_place d.chunk i) 0 ≡ 79 = eqb-true _ _ is in
+    let inside : gate_place d.chunk i < length under = ⊎_elim
+    (λ low. low)
+    (λ past. absurd (let zero = get_or_past under (gate_place d.chunk i) 0 past in omega (arith, zero, value)))
+    (cases_lt (gate_place d.chunk i) (length under)) in
+    ap (λ (b : ℕ). b == 0x4f) (over.outside (gate_place d.chunk i) inside (λ w. ⊎_elim (λ before. omega (arith, w.0)) (λ behind. omega (arith, w.1)) apart)) ∙ is
+
+pub stands_over : (d : Descriptor) (i place size : ℕ) (under image : List ℕ) → IsDescriptor d → IsClear d i place size → AreApart (gate_place d.chunk i) 1 place size
+    → IsOver place size under image → StandsIn d under i → StandsIn d image i
+stands_over d i place size under image valid clear apart over stands =
+    let held = holds_over d i place size under image valid clear over (record { begins = stands.begins; within = stands.within; held = stands.held }) in
+    record {
+      begins = held.begins;
+      within = held.within;
+      opened = sym (sym (open_over d i place size under image apart over (sym (sym stands.opened))));
+      held = held.held;
+    }

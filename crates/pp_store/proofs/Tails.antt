@@ -6,7 +6,7 @@ use Rattle.std.proofs.lemmas.Bool.{cases_lt}
 use Rattle.std.proofs.Math.Pow.{pow_mono}
 use Rattle.sha2.specs.Sha256.{sha256}
 use Rattle.pp_terms.specs.tree.Tree.{empty_hash, pair, leaf_of, root_of, above, height, IsHeight}
-use Rattle.pp_terms.specs.disk.Store.{pair_slot, pair_place, a_chunk, a_pair}
+use Rattle.pp_terms.specs.disk.Store.{pair_slot, pair_place, a_pair}
 use Rattle.pp_terms.specs.disk.Disk.{DiskState, IsKnown, written}
 use Rattle.pp_terms.proofs.Heights.{height_is, height_of_least}
 use Rattle.pp_terms.proofs.Nodes.{node_empty}
@@ -15,7 +15,7 @@ use Rattle.pp_tree.proofs.Clashes.{node_is}
 use Rattle.pp_store.specs.Behind.{DoesPut}
 use Rattle.pp_store.specs.Growing.{IsContent, IsPartial, IsTail, IsStoredTail, IsTailing, IsBuilt, chunks_in, digest_of, HasPair}
 use Rattle.pp_store.proofs.Writings.{put_reads}
-use Rattle.pp_store.proofs.Pieces.{has_written, piece_kept, staged_more, pair_low, slot_is, count_range}
+use Rattle.pp_store.proofs.Pieces.{has_written, piece_kept, chunk_kept, staged_more, pair_low, slot_is, count_range}
 use Rattle.pp_store.proofs.Carrying.{layer_low}
 
 pub tail_first : (count : ℕ) → IsTail count 0 count 1
@@ -81,7 +81,7 @@ module _ (chunk : ℕ) (content : List ℕ) (count : ℕ) (fits : IsContent chun
       (λ l j less has. let is = pair_low chunk content fits l j count (omega (arith, all)) less in piece_kept chunk content fits reads _ _ _ _ (a_pair l j is.0 is.1) here has) in
       record {
         staged = staged_more chunk content fits reads _ _ here before.staged;
-        chunks = λ i lt. piece_kept chunk content fits reads _ _ _ _ (a_chunk i (omega (arith, all))) here (before.chunks i lt);
+        chunks = λ i lt. chunk_kept chunk content fits reads i _ _ (omega (arith, all)) here (before.chunks i lt);
         low = λ l j lt less. ⊎_elim
             (λ below.
             let inner' : l < height n = omega arith in

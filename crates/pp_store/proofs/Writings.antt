@@ -1,14 +1,15 @@
 -- Calls of a disk one after the other, of which none syncs.
-use Rattle.std.proofs.Common.{◌≡◌, inl, inr, ℕ, ◌<◌, ◌≤◌, List, Result, Ok, Err, refl, sym, ◌∙◌, ap, subst, arith}
+use Rattle.std.proofs.Common.{◌≡◌, inl, inr, ℕ, ◌+◌, ◌<◌, ◌≤◌, List, length, Result, Ok, Err, refl, sym, ◌∙◌, ap, subst, arith}
 use Rattle.pp_terms.specs.Count.{HasCause}
-use Rattle.pp_terms.specs.disk.Disk.{DiskState, History, IsKnown, IsRefusedWrite, DoesWrite, written, after_write}
+use Rattle.pp_terms.specs.disk.Disk.{DiskState, History, IsKnown, IsRefusedWrite, DoesWrite, Throughout, written, pends, after_write}
+use Rattle.pp_terms.specs.disk.Store.{Has}
 use Rattle.pp_terms.proofs.Knowing.{known_on}
-use Rattle.pp_terms.proofs.Images.{written_outside}
+use Rattle.pp_terms.proofs.Images.{written_outside, throughout_write_elsewhere}
 use Rattle.pp_store.specs.Keep.{KeepsDisk}
 use Rattle.pp_store.specs.Behind.{IsBehind, KeepsBehind, DoesBehind, DoesPut}
 
 pub behind_same : (h : History) → IsBehind h h
-behind_same h = record { past = refl; attachment = record { start = refl; first = refl; found = refl; names = refl }; header = λ k lt. refl }
+behind_same h = record { past = refl; attachment = record { start = refl; first = refl; found = refl; names = refl }; header = λ k lt. refl; front = λ moment at bytes le all. all }
 
 pub behind_more : (old mid new : History) → IsBehind old mid → IsBehind mid new → IsBehind old new
 behind_more old mid new one two = record {
@@ -20,6 +21,7 @@ behind_more old mid new one two = record {
     names = two.attachment.names ∙ one.attachment.names;
   };
   header = λ k lt. two.header k lt ∙ one.header k lt;
+  front = λ moment at bytes le all. two.front moment at bytes le (one.front moment at bytes le all);
 }
 
 pub keeps_same : (state : DiskState) → KeepsBehind state state
@@ -76,11 +78,17 @@ does_fault old new x y one = record {
 pub known_back : (old new : DiskState) → KeepsBehind old new → IsKnown new → IsKnown old
 known_back old new keeps known = known_on new old (sym keeps.tells) (sym keeps.honest) known
 
+-- a write behind the header, done or refused
+front_pending : (old : History) (place : ℕ) (bytes reads : List ℕ) → 64 ≤ place → (moment at : ℕ) (kept : List ℕ) → at + length kept ≤ 64
+    → Throughout old moment (Has at kept) → Throughout (record old { reads = reads; epoch = pends old.epoch place bytes }) moment (Has at kept)
+front_pending old place bytes reads far moment at kept le all = throughout_write_elsewhere old moment place at bytes kept (inl (omega arith)) all
+
 written_behind : (old : History) (place : ℕ) (bytes : List ℕ) → 64 ≤ place → IsBehind old (after_write old place bytes)
 written_behind old place bytes far = record {
   past = refl;
   attachment = record { start = refl; first = refl; found = refl; names = refl };
   header = λ k lt. written_outside old.reads place bytes k (λ w. omega (arith, w.0));
+  front = front_pending old place bytes old.reads far;
 }
 
 refused_behind : (old : History) (place : ℕ) (bytes : List ℕ) (new : History) → 64 ≤ place → IsRefusedWrite old place bytes new → IsBehind old new
@@ -89,6 +97,7 @@ refused_behind old place bytes new far (inr (torn, is, same)) = subst (λ (h : H
   past = refl;
   attachment = record { start = refl; first = refl; found = refl; names = refl };
   header = λ k lt. is.outside k (λ w. omega (arith, w.0));
+  front = front_pending old place bytes torn far;
 })
 
 -- one write behind the header

@@ -2,8 +2,8 @@
 use Rattle.std.specs.Prelude.{◌≡◌, ◌⊎◌, ℕ, suc, ◌+◌, ◌-◌, ◌*◌, ◌%◌, ◌^◌, ◌<◌, ◌≤◌, List, [], length, take, drop, slice_index, slice_index_or}
 use Rattle.pp_terms.specs.tree.Content.{chunk_of, chunk_count, IsChunkSize, IsContentSize}
 use Rattle.pp_terms.specs.tree.Tree.{node, pair, leaf_of, above, height}
-use Rattle.pp_terms.specs.disk.Store.{chunk_place, pair_place, IsWithin, Has, IsPiece}
-use Rattle.pp_terms.specs.disk.Disk.{DiskState, IsKnown}
+use Rattle.pp_terms.specs.disk.Store.{chunk_place, pair_place, gate_place, open_gate, file_size, IsWithin, Has, IsPiece}
+use Rattle.pp_terms.specs.disk.Disk.{DiskState, IsKnown, written}
 use Rattle.pp_store.specs.Imported.{imported}
 
 -- A content that can be imported.
@@ -18,20 +18,24 @@ chunks_in chunk content = chunk_count (length content) chunk
 abbrev pub digest_of : ℕ → List ℕ → ℕ → ℕ → List ℕ
 digest_of chunk content k j = node (leaf_of content chunk) (chunks_in chunk content) k j
 
--- Its chunk i stands at its place, and the pair of node (k + 1, j).
-abbrev pub HasChunk : ℕ → List ℕ → List ℕ → ℕ → Type 0
-HasChunk chunk content reads i = Has (chunk_place chunk i) (chunk_of content chunk i) reads
+-- Its chunk i stands at its place and its gate is open; and the pair of node (k + 1, j) stands.
+pub record HasChunk (chunk : ℕ) (content reads : List ℕ) (i : ℕ) : Type 0 where
+  pub there : Has (chunk_place chunk i) (chunk_of content chunk i) reads
+  pub gate : Has (gate_place chunk i) open_gate reads
 
 abbrev pub HasPair : ℕ → List ℕ → List ℕ → ℕ → ℕ → Type 0
 HasPair chunk content reads k j = Has (pair_place chunk k j) (pair (leaf_of content chunk) (chunks_in chunk content) k j) reads
 
--- Only pieces of the store were written: all else is zeros, and the file is empty or ends where a piece does.
+-- a file with these bytes as chunk i and its gate open
+abbrev pub with_chunk : ℕ → ℕ → List ℕ → List ℕ → List ℕ
+with_chunk chunk i bytes reads = written (written reads (chunk_place chunk i) bytes) (gate_place chunk i) open_gate
+
+-- Only pieces of the store were written: all else is zeros, and the file is no longer than the store.
 pub record IsStaged (chunk : ℕ) (content reads : List ℕ) : Type 0 where
   pub zeros : (k : ℕ)
       → ((place : ℕ) (bytes : List ℕ) → IsPiece (imported content chunk) content place bytes → IsWithin place (length bytes) k → ⊥)
       → slice_index reads k ≡ 0
-  pub ends : (reads ≡ [])
-      ⊎ ((place : ℕ) × (bytes : List ℕ) × IsPiece (imported content chunk) content place bytes × (place + length bytes ≡ length reads))
+  pub size : length reads ≤ file_size (imported content chunk)
 
 -- The first `count` chunks stand with the pairs of all nodes that are full under them.
 pub record IsStoredTo (chunk : ℕ) (content : List ℕ) (count : ℕ) (reads : List ℕ) : Type 0 where
@@ -99,6 +103,11 @@ pub record IsBuilt (chunk : ℕ) (content reads : List ℕ) : Type 0 where
   pub staged : IsStaged chunk content reads
   pub chunks : (i : ℕ) → i < chunks_in chunk content → HasChunk chunk content reads i
   pub pairs : (k j : ℕ) → k < height (chunks_in chunk content) → j * 2 ^ suc k < chunks_in chunk content → HasPair chunk content reads k j
+
+-- And the file is as long as the store.
+pub record IsWhole (chunk : ℕ) (content reads : List ℕ) : Type 0 where
+  pub built : IsBuilt chunk content reads
+  pub long : length reads ≡ file_size (imported content chunk)
 
 -- The bytes are the content's next ones after so many chunks, and end with a chunk.
 pub record IsNext (chunk : ℕ) (content : List ℕ) (count : ℕ) (pieces : List ℕ) : Type 0 where

@@ -11,8 +11,8 @@ use Rattle.pp_store.specs.declared.importing.ImportFault.TheVariants.{NotEmpty, 
 use Rattle.pp_store.specs.Keep.{KeepsDisk}
 use Rattle.pp_store.specs.Behind.{IsBehind}
 use Rattle.pp_store.specs.Imported.{imported}
-use Rattle.pp_store.specs.Growing.{IsPartial, IsBuilt}
-use Rattle.pp_store.specs.Seal.{Leaves}
+use Rattle.pp_store.specs.Growing.{IsPartial, IsWhole}
+use Rattle.pp_store.specs.Front.{Leaves}
 
 -- the greatest size of a content in bytes: 2 ^ 20 chunks
 abbrev pub most_bytes : ℕ → ℕ
@@ -38,22 +38,23 @@ pub record IsNotEmpty (len : ℕ) (source source' : SourceState) (disk disk' : D
   pub unread : source' ≡ source
   pub unwritten : disk'.history ≡ disk.history
 
--- Nothing was synced, so no store was begun, and what reads give is none.
-pub record IsUnsynced (disk disk' : DiskState) : Type 0 where
-  pub moment : IsKnown disk → moment_of disk'.history ≡ moment_of disk.history
+-- No store was begun: what reads give is none, nor is any image that a crash since the first sync may leave.
+pub record IsUnbegun (disk disk' : DiskState) : Type 0 where
   pub no_store : IsKnown disk → IsNoStore disk'.history.reads
+  pub images : IsKnown disk → (moment : ℕ) → moment_of disk.history < moment → moment ≤ moment_of disk'.history
+      → Throughout disk'.history moment IsNoStore
 
 -- The content has no byte or more than 2 ^ 20 chunks.
 pub record IsNoContent (chunk count : ℕ) (source : SourceState) (disk disk' : DiskState) : Type 0 where
   pub empty : IsKnown disk → disk.history.reads ≡ []
   pub either : (count ≡ 0) ⊎ (count ≡ most_bytes chunk + 1)
   pub counted : (content : List ℕ) → source.left ≡ Some content → count ≡ min (length content) (most_bytes chunk + 1)
-  pub left : IsUnsynced disk disk'
+  pub left : IsUnbegun disk disk'
 
 pub record IsSourceFault (source source' : SourceState) (disk disk' : DiskState) : Type 0 where
   pub empty : IsKnown disk → disk.history.reads ≡ []
   pub risen : HasRisen source.faults source'.faults
-  pub left : IsUnsynced disk disk'
+  pub left : IsUnbegun disk disk'
 
 pub record IsDiskFault (disk disk' : DiskState) : Type 0 where
   pub risen : HasRisen disk.faults disk'.faults
@@ -93,11 +94,11 @@ HasFault (ContentSize count) source source' disk disk' = ⊥
 HasFault Source source source' disk disk' = HasRisen source.faults source'.faults
 HasFault Disk source source' disk disk' = IsDiskFault disk disk'
 
--- How a disk may be left once the chunks of a content of that size are stored: the pairs that were left to be written or
--- their sync was refused, or the descriptor's header was begun over the built store.
+-- How a disk may be left once the chunks of a content of that size are stored: what was left to be written or its sync was
+-- refused, or the descriptor's header was begun over the whole store.
 pub data IsLeft (chunk size count : ℕ) (peaks : List (List ℕ)) (old : DiskState) : History → Type 0 where
   unfinished : (new : History) → IsBehind old.history new → IsLeft chunk size count peaks old new
   finished : (d : Descriptor) (walked new : History) → IsBehind old.history walked
       → ((content : List ℕ) → length content ≡ size → IsPartial chunk content count peaks old
-      → (d ≡ imported content chunk) × IsBuilt chunk content walked.reads)
-      → Leaves d walked new → IsLeft chunk size count peaks old new
+      → (d ≡ imported content chunk) × IsWhole chunk content walked.reads)
+      → Leaves (header d) walked new → IsLeft chunk size count peaks old new

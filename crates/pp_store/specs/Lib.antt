@@ -3,7 +3,8 @@ pub mod Behind
 pub mod Imported
 pub mod Leaves
 pub mod Growing
-pub mod Seal
+pub mod Front
+pub mod Gates
 pub mod Import
 pub mod Probe
 pub mod ReadChunk

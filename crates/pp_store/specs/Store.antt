@@ -1,9 +1,9 @@
 -- What is meant by an open store.
-use Rattle.std.specs.Prelude.{◌≡◌, ℕ, ◌*◌, ◌<◌, ◌||◌, Bool, true, false, List, [], length, replicate, slice_index_or, slice_set, is_some}
+use Rattle.std.specs.Prelude.{◌≡◌, ℕ, ◌-◌, ◌*◌, ◌<◌, ◌||◌, Bool, true, false, IsTrue, List, [], ◌∷◌, length, replicate, slice_index_or, slice_set, is_some}
 use Rattle.pp_terms.specs.tree.Book.{LookUp, has_peaks}
 use Rattle.pp_terms.specs.format.Descriptor.{Descriptor, chunks_of}
-use Rattle.pp_terms.specs.disk.Store.{header}
-use Rattle.pp_terms.specs.disk.Image.{StandsIn}
+use Rattle.pp_terms.specs.disk.Store.{header, file_size, Has}
+use Rattle.pp_terms.specs.disk.Image.{holds, StandsIn}
 use Rattle.pp_terms.specs.disk.Disk.{History, Throughout, moment_of}
 use Rattle.pp_scan.specs.Look.{synced}
 use Rattle.pp_scan.specs.Header.{HasHeader}
@@ -27,16 +27,26 @@ pub record StoreState : Type 0 where
 abbrev pub in_either : List Bool → List Bool → ℕ → Bool
 in_either committed pending i = slice_index_or committed i false || slice_index_or pending i false
 
--- The sets are of the content's chunks and slots, and of each chunk that is held the pairs are stored.
+-- The sets are of the content's chunks and slots, no chunk is in both, and of each chunk that is held the pairs are stored.
 pub record IsSized (d : Descriptor) (committed pending pairs : List Bool) : Type 0 where
   pub committed_size : length committed ≡ chunks_of d
   pub pending_size : length pending ≡ chunks_of d
   pub pairs_size : length pairs ≡ 2 * chunks_of d
   pub supported : (i : ℕ) → in_either committed pending i ≡ true → HasItsPairs d pairs i
+  pub apart : (i : ℕ) → slice_index_or pending i false ≡ true → slice_index_or committed i false ≡ false
 
--- An empty disk got the header; of any other what was written is on the disk.
+-- the disk once a zero byte was kept at a store's last place, and then its header
+abbrev pub filled : Descriptor → History → History
+filled d h = kept (kept h (file_size d - 1) (0 ∷ [])) 0 (header d)
+
+-- The disk once an empty file was made a store that holds no chunk: before that eight zero bytes are kept at its front, so
+-- that no crash leaves a header before the file has its length.
+abbrev pub made : Descriptor → History → History
+made d h = filled d (kept (synced h) 0 (replicate 8 0))
+
+-- An empty file was made a store; of any other what was written is on the disk.
 pub record IsOpened (d : Descriptor) (old new : History) : Type 0 where
-  pub fresh : old.reads ≡ [] → new ≡ kept old 0 (header d)
+  pub fresh : old.reads ≡ [] → new ≡ made d old
   pub scanned : 0 < length old.reads → new ≡ synced old
 
 -- Each chunk of the set stands in every image that a crash from now on may leave.
@@ -58,9 +68,15 @@ pub record AgreesWith (s : StoreState) (book : LookUp) (reads : List ℕ) : Type
   pub chunks : (i : ℕ) → is_held s i ≡ true → is_there s.descriptor reads book i ≡ true
   pub pairs_stand : PairsStand s.descriptor book s.pairs reads
 
--- each chunk that is committed or pending stands in the file
+-- The file begins with the header and holds chunk i, which stands in it once its gate is open.
+pub record HoldsIn (d : Descriptor) (reads : List ℕ) (i : ℕ) : Type 0 where
+  pub begins : Has 0 (header d) reads
+  pub within : i < chunks_of d
+  pub held : IsTrue (holds d reads i)
+
+-- so is each chunk that is committed or pending
 abbrev pub HoldsAll : StoreState → List ℕ → Type 0
-HoldsAll s reads = (i : ℕ) → is_held s i ≡ true → StandsIn s.descriptor reads i
+HoldsAll s reads = (i : ℕ) → is_held s i ≡ true → HoldsIn s.descriptor reads i
 
 -- The store after an answer: a stored chunk is pending, and the pairs that it needs are stored.
 abbrev pub after_put : Put → ℕ → StoreState → StoreState

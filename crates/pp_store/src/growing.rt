@@ -6,11 +6,11 @@ ghost use Rattle.pp_terms.specs.tree.Tree.{root_of};
 ghost use Rattle.pp_terms.specs.disk.Disk.{IsKnown, DoesWrite};
 ghost use Rattle.pp_terms.specs.disk.Store.{chunk_place};
 ghost use Rattle.pp_store.specs.Behind.{DoesBehind, DoesPut};
-ghost use Rattle.pp_store.specs.Growing.{IsPartial, IsCarrying, IsTail, IsTailing, IsBuilt, IsNext, chunks_in};
+ghost use Rattle.pp_store.specs.Growing.{with_chunk, IsPartial, IsCarrying, IsTail, IsTailing, IsBuilt, IsNext, chunks_in};
 
 use crate::leaves::{LEAVES, leaf_digests};
 use pp_outside::{Disk, DiskFault};
-use pp_scan::slot_place;
+use pp_scan::{OPEN_GATE, gate_place, slot_place};
 use pp_tree::{Digest, parent};
 
 // A tree of 2^20 chunks has 21 layers.
@@ -35,7 +35,7 @@ impl GrowingTree {
         }
     }
 
-    /// Stores the next chunk, whose digest is given, and then the pairs that it fills.
+    /// Stores the next chunk, whose digest is given, opens its gate, and then stores the pairs that it fills.
     pub(crate) fn put_chunk<D: Disk>(
         &mut self,
         chunk: u32,
@@ -52,7 +52,7 @@ impl GrowingTree {
             → self.old.count < chunks_in chunk content → IsPartial chunk content self.old.count self.old.peaks (D.state disk.old)
             → OnOk result (IsPartial chunk content self.new.count self.new.peaks (D.state disk.new)) }
     {
-        match disk.write_at(slot_place(chunk, self.count), bytes) {
+        match put_bytes(disk, chunk, self.count, bytes) {
             Ok(()) => self.carry(chunk, digest, disk),
             Err(fault) => Err(fault),
         }
@@ -182,6 +182,21 @@ impl GrowingTree {
         } else {
             Ok(*last)
         }
+    }
+}
+
+// Writes a chunk and opens its gate.
+fn put_bytes<D: Disk>(disk: &mut D, chunk: u32, slot: u32, bytes: &[u8]) -> Result<(), DiskFault>
+    requires size { chunk ≤ 8192 }
+    requires len { length bytes.now ≤ chunk }
+    requires few { slot < 2 ^ 20 }
+    ensures does { DoesBehind (D.state disk.old) result (D.state disk.new) }
+    ensures put { IsKnown (D.state disk.old) → OnOk result ((D.state disk.new).history.reads
+        ≡ with_chunk chunk slot bytes.now (D.state disk.old).history.reads) }
+{
+    match disk.write_at(slot_place(chunk, slot), bytes) {
+        Ok(()) => disk.write_at(gate_place(chunk, slot), &[OPEN_GATE]),
+        Err(fault) => Err(fault),
     }
 }
 

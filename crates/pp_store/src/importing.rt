@@ -6,15 +6,16 @@ ghost use Rattle.pp_terms.specs.tree.Tree.{root_of};
 ghost use Rattle.pp_terms.specs.disk.Store.{IsNoStore, IsStoreOf};
 ghost use Rattle.pp_terms.specs.disk.Disk.{IsKnown, Throughout, moment_of};
 ghost use Rattle.pp_store.specs.Keep.{KeepsDisk};
-ghost use Rattle.pp_store.specs.Behind.{KeepsBehind};
+ghost use Rattle.pp_store.specs.Behind.{KeepsBehind, DoesBehind};
 ghost use Rattle.pp_store.specs.Imported.{imported};
-ghost use Rattle.pp_store.specs.Growing.{IsPartial};
+ghost use Rattle.pp_store.specs.Growing.{IsPartial, IsBuilt, IsWhole};
 ghost use Rattle.pp_store.specs.Import.{most_bytes, HasAnswer, HasFault, IsDiskFault, IsLeft, LeavesWholeStores, IsUntouched, TakesAtMost, DoesImport};
 
-use crate::durable::seal;
+use crate::durable::keep_front;
 use crate::filling::fill;
 use crate::growing::GrowingTree;
-use pp_outside::{Disk, Source, SourceFault};
+use pp_outside::{Disk, DiskFault, Source, SourceFault};
+use pp_scan::{file_size, header_of};
 use pp_tree::{Descriptor, Digest, Method};
 use thiserror::Error;
 
@@ -74,7 +75,8 @@ pub fn import<D: Disk, S: Source>(
     }
 }
 
-// The content is read into the buffer, a piece after the other.
+// The content is read into the buffer, a piece after the other. The file begins with zeros until all is there, so that no
+// crash leaves a header before that.
 fn import_to_empty<D: Disk, S: Source>(
     chunk: u32,
     source: &mut S,
@@ -85,6 +87,10 @@ fn import_to_empty<D: Disk, S: Source>(
     requires empty { IsKnown (D.state disk.old) → (D.state disk.old).history.reads ≡ [] }
     ensures { DoesImport chunk (S.state source.old) (S.state source.new) (D.state disk.old) (D.state disk.new) result }
 {
+    match keep_front(disk, &[0; 8]) {
+        Ok(()) => {}
+        Err(_) => return Err(ImportFault::Disk),
+    }
     let mut tree = GrowingTree::new();
     let size = match store_chunks(chunk, source, buffer, &mut tree, disk) {
         Ok(size) => size,
@@ -212,13 +218,28 @@ fn finish_store<D: Disk>(
     match tree.finish(chunk, disk) {
         Ok(root) => {
             let descriptor = describe(root, chunk, size);
-            match seal(disk, &descriptor) {
-                Ok(()) => Ok(descriptor),
+            match stretch(&descriptor, disk) {
+                Ok(()) => match keep_front(disk, &header_of(&descriptor)) {
+                    Ok(()) => Ok(descriptor),
+                    Err(_) => Err(ImportFault::Disk),
+                },
                 Err(_) => Err(ImportFault::Disk),
             }
         }
         Err(_) => Err(ImportFault::Disk),
     }
+}
+
+// Writes a zero byte at the store's last place, unless the gate of the last slot stands there.
+fn stretch<D: Disk>(descriptor: &Descriptor, disk: &mut D) -> Result<(), DiskFault>
+    ensures does { DoesBehind (D.state disk.old) result (D.state disk.new) }
+    ensures whole { (chunk : ℕ) (content : List ℕ) → descriptor.now ≡ imported content chunk → IsKnown (D.state disk.old)
+        → IsBuilt chunk content (D.state disk.old).history.reads → OnOk result (IsWhole chunk content (D.state disk.new).history.reads) }
+{
+    if descriptor.chunks() == 1 << descriptor.height() {
+        return Ok(());
+    }
+    disk.write_at(file_size(descriptor) - 1, &[0])
 }
 
 // The descriptor of an import.

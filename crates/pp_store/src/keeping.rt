@@ -5,7 +5,6 @@ ghost use Rattle.pp_terms.specs.Count.{HasCause, HasRisen};
 ghost use Rattle.pp_terms.specs.tree.Content.{chunk_length};
 ghost use Rattle.pp_terms.specs.tree.Book.{LookUp, IsRooted, IsBacked};
 ghost use Rattle.pp_terms.specs.format.Descriptor.{chunks_of, IsDescriptor};
-ghost use Rattle.pp_terms.specs.disk.Store.{header};
 ghost use Rattle.pp_terms.specs.disk.Disk.{IsKnown, MayLeave, Throughout, moment_of};
 ghost use Rattle.pp_terms.specs.disk.Image.{StandsIn};
 ghost use Rattle.pp_terms.specs.tree.Proves.{first_absent};
@@ -17,21 +16,23 @@ ghost use Rattle.pp_scan.specs.Header.{HasHeader};
 ghost use Rattle.pp_scan.specs.Layers.{HasOnlyKnown};
 ghost use Rattle.pp_scan.specs.Holding.{is_there};
 ghost use Rattle.pp_scan.specs.Scan.{HasFound};
-ghost use Rattle.pp_store.specs.Keep.{kept, KeepsDisk};
+ghost use Rattle.pp_store.specs.Keep.{KeepsDisk};
+ghost use Rattle.pp_store.specs.Gates.{made_durable, IsRefusedCommit};
 ghost use Rattle.pp_store.specs.Behind.{KeepsBehind, DoesBehind};
 ghost use Rattle.pp_store.specs.ReadChunk.{HasRead};
 ghost use Rattle.pp_store.specs.Answer.{put_answer, put_learned};
 ghost use Rattle.pp_store.specs.Pairs.{HasItsPairs, HasMarked, GoesOnSince};
 ghost use Rattle.pp_store.specs.Writes.{after_writes, put_writes};
-ghost use Rattle.pp_store.specs.Store.{IsOpened, AllStand, GoesOn, in_either, is_held, AgreesWith, HoldsAll, KnowsHeld, HasCommitted, after_put};
+ghost use Rattle.pp_store.specs.Store.{made, IsOpened, AllStand, GoesOn, in_either, is_held, AgreesWith, HoldsAll, KnowsHeld, HasCommitted, after_put};
 
 use crate::admitting::{Put, admit};
-use crate::durable::keep;
+use crate::durable::make_file;
+use crate::gates::make_durable;
 use crate::pairing::{find_pairs, put_pieces};
 use crate::reading::{ReadFault, read_chunk};
 use pp_outside::{Disk, DiskFault};
 use pp_paths::Claims;
-use pp_scan::{ScanFault, header_of, scan_into};
+use pp_scan::{ScanFault, scan_into};
 use pp_tree::{Bits, Book, ChunkSet, Descriptor};
 use std::alloc::Global;
 use std::marker::Model;
@@ -65,7 +66,7 @@ pub(crate) fn open_file<D: Disk>(
     }
 }
 
-// An empty file gets its header.
+// An empty file becomes a store that holds no chunk.
 fn begin<D: Disk>(
     descriptor: &Descriptor,
     disk: &mut D,
@@ -74,10 +75,10 @@ fn begin<D: Disk>(
     ensures same { IfOk result (λ committed. committed ≡ set) }
     ensures fault { IfErr result (λ fault. (fault ≡ ScanFault.Disk) × HasRisen (D.state disk.old).faults (D.state disk.new).faults) }
     ensures written { IsKnown (D.state disk.old)
-        → OnOk result ((D.state disk.new).history ≡ kept (D.state disk.old).history 0 (header descriptor.now)) }
+        → OnOk result ((D.state disk.new).history ≡ made descriptor.now (D.state disk.old).history) }
     ensures disk { KeepsDisk (D.state disk.old) (D.state disk.new) }
 {
-    match keep(disk, 0, &header_of(descriptor)) {
+    match make_file(descriptor, disk) {
         Ok(()) => Ok(set),
         Err(_) => Err(ScanFault::Disk),
     }
@@ -124,8 +125,8 @@ impl Model for Store {
 
 impl Store {
     /// Opens the descriptor's store on the disk. The book is prepared and has the root alone; afterwards it has the nodes
-    /// that the file lets be known. All memory is taken first. An empty file gets the header and is synced; any other is
-    /// scanned.
+    /// that the file lets be known. All memory is taken first. An empty file is made a store that holds no chunk; any other
+    /// is scanned.
     pub fn open<D: Disk>(
         alloc: Global,
         descriptor: &Descriptor,
@@ -247,7 +248,8 @@ impl Store {
         }
     }
 
-    /// Syncs the disk and commits all chunks that are pending; with nothing pending it makes no call of the disk.
+    /// Makes all chunks that are pending durable and commits them: the disk is synced, then their gates are opened by rising
+    /// number, and these are synced. With nothing pending it makes no call of the disk.
     pub fn commit<D: Disk>(&mut self, disk: &mut D) -> Result<(), DiskFault>
         requires live { self.old.live ≡ true }
 
@@ -260,15 +262,17 @@ impl Store {
         ensures hard { HasCause (D.state disk.old).hard (D.state disk.new).hard result }
         ensures cause { HasCause (D.state disk.old).faults (D.state disk.new).faults result }
 
-        // Over a disk that is honest and tells: one sync, or a refused one, and whatever stands in every image goes on standing.
-        ensures synced { IsKnown (D.state disk.old) → 0 < count_by (λ b. b) self.old.pending
-            → OnOk result ((D.state disk.new).history ≡ synced (D.state disk.old).history) }
-        ensures unsynced { IsKnown (D.state disk.old) → OnErr result ((D.state disk.new).history ≡ (D.state disk.old).history) }
+        // Over a disk that is honest and tells: exactly those calls, the last of which may be refused, and each chunk that isn't
+        // pending goes on standing.
+        ensures durable { IsKnown (D.state disk.old) → 0 < count_by (λ b. b) self.old.pending
+            → OnOk result ((D.state disk.new).history ≡ made_durable self.old.descriptor self.old.pending (D.state disk.old).history) }
+        ensures refused { IsKnown (D.state disk.old) → OnErr result (IsRefusedCommit self.old.descriptor self.old.pending
+            (D.state disk.old).history (D.state disk.new).history) }
         ensures disk { KeepsDisk (D.state disk.old) (D.state disk.new) }
-        ensures goes_on { IsKnown (D.state disk.old) → (l : ℕ)
+        ensures goes_on { IsKnown (D.state disk.old) → (l : ℕ) → slice_index_or self.old.pending l false ≡ false
             → GoesOnSince self.old.descriptor l (D.state disk.old).history (D.state disk.new).history }
-        ensures agrees { IsKnown (D.state disk.old) → (book : LookUp) → AgreesWith self.old book (D.state disk.old).history.reads
-            → AgreesWith self.new book (D.state disk.new).history.reads }
+        ensures agrees { IsKnown (D.state disk.old) → (book : LookUp) → IsRooted self.old.descriptor book
+            → AgreesWith self.old book (D.state disk.old).history.reads → AgreesWith self.new book (D.state disk.new).history.reads }
         // Each chunk that was pending now stands in every image.
         ensures stands { IsKnown (D.state disk.old) → HoldsAll self.old (D.state disk.old).history.reads
             → AllStand self.old.descriptor self.old.committed (D.state disk.old).history
@@ -279,7 +283,7 @@ impl Store {
         }
         // Its contract tells how many chunks there are at the most.
         let _ = self.descriptor.chunks();
-        match disk.sync() {
+        match make_durable(&self.descriptor, &self.pending, disk) {
             Ok(()) => {
                 commit_all(&mut self.committed, &mut self.pending);
                 Ok(())

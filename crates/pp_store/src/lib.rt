@@ -5,6 +5,7 @@ mod admitting;
 mod durable;
 mod filling;
 mod findings;
+mod gates;
 mod growing;
 mod importing;
 mod keeping;

@@ -1,10 +1,10 @@
 -- Worked examples: a content of 7,000 bytes in chunks of 1,024, and the store of "abc".
-use Rattle.std.specs.Prelude.{◌≡◌, ℕ, ◌+◌, ◌*◌, ◌/◌, ◌%◌, ◌^◌, true, false, Some, List, [], ◌∷◌, ◌++◌, length, map, take, codes}
+use Rattle.std.specs.Prelude.{◌≡◌, ℕ, ◌+◌, ◌*◌, ◌/◌, ◌%◌, ◌^◌, true, false, Some, List, [], ◌∷◌, ◌++◌, length, map, take, replicate, codes}
 use Rattle.std.specs.List.{range_with_len}
 use Rattle.pp_terms.specs.tree.Content.{chunk_count, chunk_length}
 use Rattle.pp_terms.specs.tree.Tree.{empty_hash, node, height, root_of, is_full, peaks}
 use Rattle.pp_terms.specs.format.Descriptor.{Descriptor, Range32, descriptor_of, descriptor_text}
-use Rattle.pp_terms.specs.disk.Store.{header, slot_size, pair_place}
+use Rattle.pp_terms.specs.disk.Store.{header, slot_size, pair_place, open_gate, file_size}
 use Rattle.pp_terms.specs.disk.Image.{known, holds, is_found}
 
 -- 7,000 bytes: 5, 12, 19 .., with a step more at each 256th
@@ -15,9 +15,9 @@ seven = map (λ j. (5 + 7 * j + j / 256 + j / 65536) % 256) (range_with_len 0 70
 abbrev pub abc : Descriptor
 abc = descriptor_of (codes "abc") 1024 Range32
 
--- its store: a header and the one chunk
+-- its store: a header, the one chunk, zeros where a longer chunk and a pair would stand, and an open gate
 abbrev pub store_of_abc : List ℕ
-store_of_abc = header abc ++ codes "abc"
+store_of_abc = header abc ++ codes "abc" ++ replicate 1085 0 ++ open_gate
 
 -- A content of 7,000 bytes, its tree, and the root of "abc".
 pub record TreeExamples : Type 0 where
@@ -48,18 +48,18 @@ pub record TreeExamples : Type 0 where
 
 -- Where pairs stand, and the store of "abc".
 pub record StoreExamples : Type 0 where
-  -- the room of a chunk of 1,024 bytes and its pair
-  pub slot : slot_size 1024 ≡ 1088
+  -- the room of a chunk of 1,024 bytes, its pair and its gate
+  pub slot : slot_size 1024 ≡ 1089
   -- the places of the pairs of nodes (1, 0), (2, 0), (1, 1), (3, 0), (1, 2), (2, 1) and (1, 3), chunks of 1,024 bytes
-  pub pair_places : (pair_place 1024 0 0 ≡ 1088) × (pair_place 1024 1 0 ≡ 2176) × (pair_place 1024 0 1 ≡ 3264)
-      × (pair_place 1024 2 0 ≡ 4352) × (pair_place 1024 0 2 ≡ 5440) × (pair_place 1024 1 1 ≡ 6528)
-      × (pair_place 1024 0 3 ≡ 7616)
+  pub pair_places : (pair_place 1024 0 0 ≡ 1088) × (pair_place 1024 1 0 ≡ 2177) × (pair_place 1024 0 1 ≡ 3266)
+      × (pair_place 1024 2 0 ≡ 4355) × (pair_place 1024 0 2 ≡ 5444) × (pair_place 1024 1 1 ≡ 6533)
+      × (pair_place 1024 0 3 ≡ 7622)
   -- the text of the descriptor of "abc"
   pub text_of_abc : descriptor_text abc ≡
       codes "ppspp1:ba7816bf8f01cfea414140de5dae2223b00361a396177a9cb410ff61f20015ad:1024:3:2"
   -- the header of its store
   pub header_of_abc : header abc ≡
-      0x50 ∷ 0x50 ∷ 0x53 ∷ 0x54 ∷ 0x4f ∷ 0x52 ∷ 0x45 ∷ 0x31 ∷ 0x00 ∷ 0x00 ∷ 0x04 ∷ 0x00 ∷ 0x00 ∷ 0x00 ∷ 0x00 ∷ 0x00 ∷
+      0x50 ∷ 0x50 ∷ 0x53 ∷ 0x54 ∷ 0x4f ∷ 0x52 ∷ 0x45 ∷ 0x32 ∷ 0x00 ∷ 0x00 ∷ 0x04 ∷ 0x00 ∷ 0x00 ∷ 0x00 ∷ 0x00 ∷ 0x00 ∷
       0x00 ∷ 0x00 ∷ 0x00 ∷ 0x03 ∷ 0xba ∷ 0x78 ∷ 0x16 ∷ 0xbf ∷ 0x8f ∷ 0x01 ∷ 0xcf ∷ 0xea ∷ 0x41 ∷ 0x41 ∷ 0x40 ∷ 0xde ∷
       0x5d ∷ 0xae ∷ 0x22 ∷ 0x23 ∷ 0xb0 ∷ 0x03 ∷ 0x61 ∷ 0xa3 ∷ 0x96 ∷ 0x17 ∷ 0x7a ∷ 0x9c ∷ 0xb4 ∷ 0x10 ∷ 0xff ∷ 0x61 ∷
       0xf2 ∷ 0x00 ∷ 0x15 ∷ 0xad ∷ 0x00 ∷ 0x00 ∷ 0x00 ∷ 0x00 ∷ 0x00 ∷ 0x00 ∷ 0x00 ∷ 0x00 ∷ 0x00 ∷ 0x00 ∷ 0x00 ∷ 0x00 ∷ []
@@ -67,5 +67,8 @@ pub record StoreExamples : Type 0 where
   pub abc_is_held : (known abc store_of_abc 0 0 ≡ Some (root_of (codes "abc") 1024)) × (holds abc store_of_abc 0 ≡ true)
   -- one byte less, or another last byte, and it doesn't hold it
   pub abc_is_not_held : (holds abc (header abc ++ codes "ab") 0 ≡ false) × (holds abc (header abc ++ codes "abd") 0 ≡ false)
-  -- an opening finds it there, and doesn't without its last byte
-  pub abc_is_found : (is_found abc store_of_abc 0 ≡ true) × (is_found abc (header abc ++ codes "ab") 0 ≡ false)
+  -- an opening finds it there, and doesn't where its gate is closed or lies past the end
+  pub abc_is_found : (is_found abc store_of_abc 0 ≡ true) × (is_found abc (header abc ++ codes "abc" ++ replicate 1086 0) 0 ≡ false)
+      × (is_found abc (header abc ++ codes "abc") 0 ≡ false)
+  -- the whole file of it, and of the seven chunks
+  pub sizes : (file_size abc ≡ 1153) × (file_size (descriptor_of seven 1024 Range32) ≡ 8776)

@@ -1,9 +1,9 @@
 -- While a choke stands nothing is asked for.
-use Rattle.std.proofs.Common.{◌≡◌, ℕ, eqb, Bool, true, false, not, ◌&&◌, List, [], ◌∷◌, refl, ap}
+use Rattle.std.proofs.Common.{◌≡◌, ℕ, eqb, Bool, true, false, not, ◌&&◌, [], ◌∷◌, refl}
 use Rattle.std.proofs.lemmas.Bool.{or_from, and_right, false≢true}
 use Rattle.pp_terms.specs.tree.Range.{within}
 use Rattle.pp_terms.specs.format.Messages.{Message, Data, Request, Cancel, Choke, Unchoke}
-use Rattle.pp_traffic.specs.Story.{Line, Heard, Said, Taken}
+use Rattle.pp_traffic.specs.Story.{Heard, Said, Taken}
 use Rattle.pp_traffic.specs.Asking.{choked_by, choked, asked_by, asked_after, asked}
 use Rattle.pp_traffic.specs.Laws.{ChokesEndAsking}
 

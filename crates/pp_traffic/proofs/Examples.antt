@@ -1,13 +1,13 @@
 -- Worked examples on small traffic.
-use Rattle.std.proofs.Common.{◌≡◌, inl, inr, ⊎_elim, ℕ, ◌+◌, leb, true, false, ◌&&◌, List, [], codes, refl, sym, ◌∙◌, ap, subst, arith}
+use Rattle.std.proofs.Common.{◌≡◌, inl, inr, ⊎_elim, ℕ, ◌+◌, leb, true, false, ◌&&◌, List, [], ◌++◌, replicate, codes, refl, sym, ◌∙◌, ap, subst, arith}
 use Rattle.std.specs.Prelude.{slice_index}
 use Rattle.std.proofs.lemmas.Bool.{false≢true, leb-true, and_parts, or_cases}
-use Rattle.std.proofs.lemmas.List.{get_or_append_left, length-append}
+use Rattle.std.proofs.lemmas.List.{get_or_append_left, length-append, append_assoc}
 use Rattle.sha2.specs.Sha256.{first_words, schedule, rounds, compress, hash_after, digest_bytes, sha256}
 use Rattle.pp_terms.specs.Example.{abc, store_of_abc}
 use Rattle.pp_terms.specs.tree.Tree.{node, height}
 use Rattle.pp_terms.specs.disk.Disk.{History, IsImage, fresh, settled}
-use Rattle.pp_terms.specs.disk.Store.{header, Has}
+use Rattle.pp_terms.specs.disk.Store.{header, open_gate, Has}
 use Rattle.pp_terms.specs.disk.Image.{StandsIn}
 use Rattle.pp_terms.specs.format.Traffic.{Sent}
 use Rattle.pp_terms.specs.format.Messages.{leaves_of, span_in, handshake_at, data_at, ack_at, integrity_at, span_at, address_at, message_at, next_message, messages_from, datagram}
@@ -46,17 +46,24 @@ window_examples = record { empty = refl; full = refl; acknowledged = refl }
 pub claimed_examples : ClaimedExamples
 claimed_examples = record { pair = refl; cut = refl; unclaimed = refl; said = refl }
 
--- the store of "abc" begins with its header
+-- what stands behind the header in the store of "abc"
+abbrev rest : List ℕ
+rest = codes "abc" ++ (replicate 1085 0 ++ open_gate)
+
+split : header abc ++ rest ≡ store_of_abc
+split = sym (append_assoc (header abc ++ codes "abc") (replicate 1085 0) open_gate ∙ append_assoc (header abc) (codes "abc") (replicate 1085 0 ++ open_gate))
+
+-- which begins with its header
 begins : Has 0 (header abc) store_of_abc
-begins = record {
-  inside = let sum = length-append (header abc) (codes "abc") in omega (arith, sum);
+begins = subst (Has 0 (header abc)) split (record {
+  inside = let sum = length-append (header abc) rest in omega (arith, sum);
   same = λ k lt. let place : 0 + k ≡ k = omega arith in
-      ap (λ (n : ℕ). slice_index store_of_abc n) place ∙ get_or_append_left (header abc) (codes "abc") 0 k lt;
-}
+      ap (λ (n : ℕ). slice_index (header abc ++ rest) n) place ∙ get_or_append_left (header abc) rest 0 k lt;
+})
 
 stands : StandsIn abc store_of_abc 0
 unfolding header first_words schedule rounds compress hash_after digest_bytes sha256 node height
-stands = record { begins = begins; within = let one : chunks_of abc ≡ 1 = refl in omega (arith, one); held = refl }
+stands = record { begins = begins; within = let one : chunks_of abc ≡ 1 = refl in omega (arith, one); opened = refl; held = refl }
 
 -- the datagram announces chunk 0 alone
 announces_zero : (moment i : ℕ) → announces i (read abc (Sent moment peer have)).messages.read ≡ true → i ≡ 0

@@ -6,7 +6,7 @@ use pp_store::{ImportFault, import};
 use std::test::Fail;
 
 // A place in chunk 2.
-const IN_CHUNK_2: u64 = 64 + 2 * 1088 + 500;
+const IN_CHUNK_2: u64 = 64 + 2 * 1089 + 500;
 
 // Makes the content a store on an empty disk.
 fn store_on(disk: &mut MemoryDisk) -> Result<Descriptor, ImportFault> {
@@ -75,7 +75,7 @@ fn another_file_gives_nothing(rt: HostRuntime) -> Result<(), Fail> {
     let alloc = rt.alloc();
     let mut disk = MemoryDisk::new(alloc, &[])?;
     let descriptor = store_on(&mut disk)?;
-    assert_eq!(rt; disk.write_at(7, b"2"), Ok(()));
+    assert_eq!(rt; disk.write_at(7, b"3"), Ok(()));
     let exported = export_from(alloc, &descriptor, &mut disk);
     assert_eq!(rt; exported.status, Status::NotAStore);
     assert_eq!(rt; exported.sink.bytes().len(), 0);

@@ -1,7 +1,7 @@
 // The store of `abc`, seeded to one peer by the words of a command line. Channel numbers are drawn from zeros: by the first
 // test vector of ChaCha20 (RFC 8439, appendix A.1) the first is ade0b876. What the link carried is audited each time.
 use crate::run;
-use crate::tests::{DESCRIPTOR_OF_ABC, STORE_OF_ABC, words_of};
+use crate::tests::{DESCRIPTOR_OF_ABC, store_of_abc, words_of};
 use pp_audit::{Entry, serves};
 use pp_outside::{Address, Disk, Event, Mark, MemoryDisk, MemoryLink, MemorySink, MemorySource};
 use pp_tree::{Book, Descriptor, Digest, Method, Node};
@@ -265,7 +265,7 @@ fn last_bytes(link: &MemoryLink) -> &[u8] {
 #[test]
 fn seeds_one_chunk(rt: HostRuntime) -> Result<(), Fail> {
     let alloc = rt.alloc();
-    let mut disk = MemoryDisk::new(alloc, &STORE_OF_ABC)?;
+    let mut disk = MemoryDisk::new(alloc, &store_of_abc())?;
     let mut coming = Coming::greeting(alloc)?;
     coming.add(&[&OURS, &REQUEST])?;
     let ran = coming.seed(&mut disk)?;
@@ -274,7 +274,7 @@ fn seeds_one_chunk(rt: HostRuntime) -> Result<(), Fail> {
     assert!(rt; ran.has_replied(0)?);
     assert!(rt; ran.has_served(1, BEGIN + 1)?);
     assert_eq!(rt; ran.serves, Some(true));
-    assert_eq!(rt; disk.bytes(), STORE_OF_ABC.as_slice());
+    assert_eq!(rt; disk.bytes(), store_of_abc().as_slice());
     Ok(())
 }
 
@@ -286,7 +286,7 @@ fn audits_a_changed_byte(rt: HostRuntime) -> Result<(), Fail> {
     coming.add(&[&OURS, &REQUEST])?;
     // the last turn sends the chunk
     coming.count = 1;
-    let ran = coming.seed(&mut MemoryDisk::new(alloc, &STORE_OF_ABC)?)?;
+    let ran = coming.seed(&mut MemoryDisk::new(alloc, &store_of_abc())?)?;
     assert!(rt; ran.has_served(1, BEGIN + 1)?);
     assert_eq!(rt; ran.serves, Some(true));
     let mut changed = joined(alloc, &[last_bytes(&ran.link)])?;

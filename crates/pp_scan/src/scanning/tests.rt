@@ -4,8 +4,9 @@ use pp_outside::MemoryDisk;
 use pp_tree::{Method, leaf};
 use std::test::Fail;
 
-const STORE: [u8; 67] = [
-    0x50, 0x50, 0x53, 0x54, 0x4f, 0x52, 0x45, 0x31, // "PPSTORE1"
+// What stands in front of the zeros behind the chunk.
+const FRONT: [u8; 67] = [
+    0x50, 0x50, 0x53, 0x54, 0x4f, 0x52, 0x45, 0x32, // "PPSTORE2"
     0x00, 0x00, 0x04, 0x00, // the chunk size
     0x00, 0x00, 0x00, 0x00, 0x00, 0x00, 0x00, 0x03, // the content size
     // the root
@@ -14,6 +15,14 @@ const STORE: [u8; 67] = [
     0x00, 0x00, 0x00, 0x00, 0x00, 0x00, 0x00, 0x00, 0x00, 0x00, 0x00, 0x00, // zeros
     0x61, 0x62, 0x63, // "abc"
 ];
+
+// The store of `abc`: zeros stand behind the chunk, and then an open gate.
+fn store_of_abc() -> [u8; 1153] {
+    let mut image = [0u8; 1153];
+    image[..67].copy_from_slice(&FRONT);
+    image[1152] = 0x4f;
+    image
+}
 
 // How many chunks a file holds of the descriptor's one.
 fn held(alloc: Global, image: &[u8]) -> Result<Result<u32, ScanFault>, Fail> {
@@ -32,31 +41,42 @@ fn held(alloc: Global, image: &[u8]) -> Result<Result<u32, ScanFault>, Fail> {
 #[test]
 fn holds_what_is_there(rt: HostRuntime) -> Result<(), Fail> {
     let alloc = rt.alloc();
-    assert_eq!(rt; held(alloc, &STORE)?, Ok(1));
-    assert_eq!(rt; held(alloc, &STORE[..66])?, Ok(0));
+    let store = store_of_abc();
+    assert_eq!(rt; held(alloc, &store)?, Ok(1));
+    // The gate lies past the end.
+    assert_eq!(rt; held(alloc, &store[..1152])?, Ok(0));
     assert_eq!(rt; held(alloc, &[])?, Ok(0));
-    let mut other = STORE;
+    let mut other = store;
     other[66] = b'd';
     assert_eq!(rt; held(alloc, &other)?, Ok(0));
+    Ok(())
+}
+
+// A gate with any other value is closed.
+#[test]
+fn holds_nothing_behind_a_closed_gate(rt: HostRuntime) -> Result<(), Fail> {
+    let mut store = store_of_abc();
+    store[1152] = 0x4e;
+    assert_eq!(rt; held(rt.alloc(), &store)?, Ok(0));
     Ok(())
 }
 
 #[test]
 fn names_the_first_byte_that_differs(rt: HostRuntime) -> Result<(), Fail> {
     let alloc = rt.alloc();
-    let mut other = STORE;
-    other[7] = b'2';
+    let mut other = store_of_abc();
+    other[7] = b'3';
     let fault = ScanFault::NotAStore {
         at: 7,
-        found: 50,
-        want: 49,
+        found: 51,
+        want: 50,
     };
     assert_eq!(rt; held(alloc, &other)?, Err(fault));
     let fault = ScanFault::NotAStore {
         at: 7,
         found: 0,
-        want: 49,
+        want: 50,
     };
-    assert_eq!(rt; held(alloc, &STORE[..7])?, Err(fault));
+    assert_eq!(rt; held(alloc, &FRONT[..7])?, Err(fault));
     Ok(())
 }

@@ -9,8 +9,9 @@ use std::test::Fail;
 const ABC_TEXT: &[u8] =
     b"ppspp1:ba7816bf8f01cfea414140de5dae2223b00361a396177a9cb410ff61f20015ad:1024:3:2";
 
-const ABC_STORE: [u8; 67] = [
-    0x50, 0x50, 0x53, 0x54, 0x4f, 0x52, 0x45, 0x31, // "PPSTORE1"
+// What stands in front of the zeros behind the chunk.
+const ABC_FRONT: [u8; 67] = [
+    0x50, 0x50, 0x53, 0x54, 0x4f, 0x52, 0x45, 0x32, // "PPSTORE2"
     0x00, 0x00, 0x04, 0x00, // the chunk size
     0x00, 0x00, 0x00, 0x00, 0x00, 0x00, 0x00, 0x03, // the content size
     // the root
@@ -19,6 +20,14 @@ const ABC_STORE: [u8; 67] = [
     0x00, 0x00, 0x00, 0x00, 0x00, 0x00, 0x00, 0x00, 0x00, 0x00, 0x00, 0x00, // zeros
     0x61, 0x62, 0x63, // "abc"
 ];
+
+// The store of `abc`: zeros stand behind the chunk, and then an open gate.
+fn store_of_abc() -> [u8; 1153] {
+    let mut image = [0u8; 1153];
+    image[..67].copy_from_slice(&ABC_FRONT);
+    image[1152] = 0x4f;
+    image
+}
 
 fn import_from<D: Disk>(
     source: &mut MemorySource,
@@ -34,7 +43,7 @@ fn abc_becomes_a_store(rt: HostRuntime) -> Result<(), Fail> {
     let mut text = [0; 128];
     let len = descriptor.write(&mut text);
     assert_eq!(rt; &text[..len], ABC_TEXT);
-    assert_eq!(rt; disk.bytes(), ABC_STORE.as_slice());
+    assert_eq!(rt; disk.bytes(), store_of_abc().as_slice());
     Ok(())
 }
 
@@ -43,7 +52,8 @@ fn an_empty_content_is_none(rt: HostRuntime) -> Result<(), Fail> {
     let mut disk = MemoryDisk::new(rt.alloc(), &[])?;
     let answer = import_from(&mut MemorySource::new(&[]), &mut disk);
     assert_eq!(rt; answer, Err(ImportFault::ContentSize { count: 0 }));
-    assert_eq!(rt; disk.bytes().len(), 0);
+    // The front was cleared, and nothing else was done.
+    assert_eq!(rt; disk.bytes(), [0; 8].as_slice());
     Ok(())
 }
 
@@ -56,11 +66,11 @@ fn seven_chunks_become_a_store(rt: HostRuntime) -> Result<(), Fail> {
     }
     let mut disk = MemoryDisk::new(rt.alloc(), &[])?;
     let _ = import_from(&mut MemorySource::new(&content), &mut disk)?;
-    assert_eq!(rt; disk.bytes().len(), 7680);
+    assert_eq!(rt; disk.bytes().len(), 8776);
     let want = Digest::new([
-        0x39, 0x36, 0xda, 0x5c, 0x26, 0xee, 0xfa, 0x83, 0x08, 0xed, 0x59, 0xff, 0x7e, 0x01, 0x23,
-        0x7b, 0xf5, 0x48, 0x18, 0x05, 0xcc, 0x2f, 0x0e, 0x02, 0xc2, 0x3f, 0xb5, 0x0f, 0x20, 0xf8,
-        0x25, 0x68,
+        0x8e, 0x25, 0xbb, 0xe2, 0xcb, 0x91, 0x8a, 0x10, 0x31, 0xac, 0x21, 0x5a, 0xef, 0x9b, 0x12,
+        0x67, 0x42, 0x2a, 0x73, 0x1a, 0xab, 0x42, 0x00, 0x0b, 0x17, 0x17, 0x46, 0x5c, 0x24, 0x3c,
+        0x15, 0x61,
     ]);
     assert_eq!(rt; leaf(disk.bytes()), want);
     Ok(())
@@ -80,22 +90,23 @@ fn a_disk_of_one_byte_stays(rt: HostRuntime) -> Result<(), Fail> {
 }
 
 #[test]
-fn a_source_that_fails_leaves_the_disk_empty(rt: HostRuntime) -> Result<(), Fail> {
+fn a_source_that_fails_leaves_no_store(rt: HostRuntime) -> Result<(), Fail> {
     let mut disk = MemoryDisk::new(rt.alloc(), &[])?;
     let answer = import_from(&mut MemorySource::failing(b"ab"), &mut disk);
     assert_eq!(rt; answer, Err(ImportFault::Source));
-    assert_eq!(rt; disk.bytes(), [].as_slice());
+    assert_eq!(rt; disk.bytes(), [0; 8].as_slice());
     Ok(())
 }
 
-// An import makes five calls: of the length, and twice of a write and a sync.
+// An import makes nine calls: of the length and a sync; a write and a sync of zeros; of the chunk and its gate, and a sync;
+// and of the header and a sync.
 #[test]
 fn a_crash_leaves_no_other_store(rt: HostRuntime) -> Result<(), Fail> {
-    for (left, pick) in (0..=5).flat_map(|left| (0..=5).map(move |pick| (left, pick))) {
+    for (left, pick) in (0..=9).flat_map(|left| (0..=5).map(move |pick| (left, pick))) {
         let inner = MemoryDisk::new(rt.alloc(), &[])?;
         let mut disk = StoppingDisk { inner, left };
         let answer = import_from(&mut MemorySource::new(b"abc"), &mut disk);
-        let fault = if left < 5 {
+        let fault = if left < 9 {
             Some(ImportFault::Disk)
         } else {
             None
@@ -103,10 +114,10 @@ fn a_crash_leaves_no_other_store(rt: HostRuntime) -> Result<(), Fail> {
         assert_eq!(rt; answer.err(), fault, "after {left} calls");
         disk.inner.crash(pick);
         let image = disk.inner.bytes();
-        if left == 5 || image.starts_with(&ABC_STORE[..64]) {
+        if left == 9 || image.starts_with(&ABC_FRONT[..64]) {
             assert_eq!(rt;
                 image,
-                ABC_STORE.as_slice(),
+                store_of_abc().as_slice(),
                 "after {left} calls, by pick {pick}"
             );
         }

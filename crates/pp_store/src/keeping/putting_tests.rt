@@ -170,7 +170,7 @@ fn a_chunk_is_stored_once(rt: HostRuntime) -> Result<(), Fail> {
     let put = put_chunk(alloc, &swarm, 0, &mut store, &mut book, &mut disk)?;
     assert_eq!(rt; put, Some(Put::Stored));
     // The chunk, three pairs on its way, and two of nodes that aren't full: (1,3) and (2,1).
-    assert_eq!(rt; disk.bytes().len(), 7680);
+    assert_eq!(rt; disk.bytes().len(), 8776);
     assert_eq!(rt; (store.pending(), store.committed().count()), (1, 0));
     let put = put_chunk(alloc, &swarm, 0, &mut store, &mut book, &mut disk)?;
     assert_eq!(rt; put, Some(Put::Held));
@@ -211,8 +211,9 @@ fn other_bytes_are_refused(rt: HostRuntime) -> Result<(), Fail> {
     let found = Digest::new(<[u8; 32]>::from_hex(CHANGED)?);
     let kept = Digest::new(<[u8; 32]>::from_hex(PEAK)?);
     assert_eq!(rt; put, Some(Put::Wrong { node, found, kept }));
-    // The header alone was written.
-    assert_eq!(rt; (store.pending(), disk.bytes().len()), (0, 64));
+    // Nothing was written behind the header.
+    assert!(rt; disk.bytes()[64..].iter().all(|byte| *byte == 0));
+    assert_eq!(rt; store.pending(), 0);
     Ok(())
 }
 
@@ -260,21 +261,21 @@ fn survives(alloc: Global, swarm: &Swarm, calls: u32, pick: u64) -> Result<bool,
     Ok(done)
 }
 
-// Seven chunks, seven pairs and four syncs are 18 calls.
+// Seven chunks, seven pairs and seven gates, and two syncs in each of four commits, are 29 calls.
 #[test]
 fn what_was_committed_is_held(rt: HostRuntime) -> Result<(), Fail> {
     let swarm = seven_chunks(rt.alloc())?;
-    for calls in 0..20 {
+    for calls in 0..31 {
         for pick in 0..6 {
             let done = survives(rt.alloc(), &swarm, calls, pick)?;
-            assert_eq!(rt; done, calls >= 18, "{calls} calls, pick {pick}");
+            assert_eq!(rt; done, calls >= 29, "{calls} calls, pick {pick}");
         }
     }
     Ok(())
 }
 
 #[test]
-fn one_sync_commits_many(rt: HostRuntime) -> Result<(), Fail> {
+fn two_syncs_commit_many(rt: HostRuntime) -> Result<(), Fail> {
     let alloc = rt.alloc();
     let swarm = seventy_chunks(alloc)?;
     let mut disk = MemoryDisk::new(alloc, &[])?;
@@ -286,10 +287,10 @@ fn one_sync_commits_many(rt: HostRuntime) -> Result<(), Fail> {
     assert_eq!(rt; (store.pending(), disk.moment()), (64, before));
     assert!(rt; store.is_live());
     store.commit(&mut disk)?;
-    assert_eq!(rt; disk.moment(), before + 1);
+    assert_eq!(rt; disk.moment(), before + 2);
     assert_eq!(rt; (store.pending(), store.committed().count()), (0, 64));
     assert!(rt; store.is_live());
     store.commit(&mut disk)?;
-    assert_eq!(rt; disk.moment(), before + 1);
+    assert_eq!(rt; disk.moment(), before + 2);
     Ok(())
 }

@@ -2,6 +2,7 @@
 use super::*;
 use crate::importing::import;
 use pp_outside::{MemoryDisk, MemorySource};
+use pp_scan::header_of;
 use pp_tree::Digest;
 use std::test::Fail;
 
@@ -31,7 +32,7 @@ fn what_was_imported_is_read_back(rt: HostRuntime) -> Result<(), Fail> {
 }
 
 #[test]
-fn a_fresh_store_gets_its_header(rt: HostRuntime) -> Result<(), Fail> {
+fn a_fresh_store_gets_its_header_and_length(rt: HostRuntime) -> Result<(), Fail> {
     let alloc = rt.alloc();
     let Ok(descriptor) = Descriptor::new(Digest::new([9; 32]), 256, 257, pp_tree::Method::Range32)
     else {
@@ -41,7 +42,10 @@ fn a_fresh_store_gets_its_header(rt: HostRuntime) -> Result<(), Fail> {
     let mut book = Book::empty(alloc);
     book.prepare(alloc, &descriptor)?;
     let store = Store::open(alloc, &descriptor, &mut disk, &mut book)?;
-    assert_eq!(rt; disk.bytes(), header_of(&descriptor).as_slice());
+    // A header, and two slots of 256 + 65 bytes.
+    let mut want = [0u8; 706];
+    want[..64].copy_from_slice(&header_of(&descriptor));
+    assert_eq!(rt; disk.bytes(), want.as_slice());
     let mut out = [0; 256];
     assert_eq!(rt; store.committed().count(), 0);
     assert_eq!(rt; store.committed().contains(1), false);

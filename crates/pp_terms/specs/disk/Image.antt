@@ -1,11 +1,11 @@
 -- What an image of a store lets be known, read from the root down, and which chunks it holds.
-use Rattle.std.specs.Prelude.{ℕ, zero, suc, ◌-◌, ◌/◌, ◌%◌, ◌<◌, ◌==◌, Bool, false, cond, ◌&&◌, Option, Some, None, nat_le, List, length, take, drop, IsTrue, nat_eq}
+use Rattle.std.specs.Prelude.{ℕ, zero, suc, ◌-◌, ◌/◌, ◌%◌, ◌<◌, ◌==◌, Bool, false, cond, ◌&&◌, Option, Some, None, nat_le, List, length, take, drop, slice_index, IsTrue, nat_eq}
 use Rattle.std.specs.Cmp.Lexicographic.{pointwise}
 use Rattle.sha2.specs.Sha256.{sha256}
 use Rattle.pp_terms.specs.tree.Content.{chunk_length}
 use Rattle.pp_terms.specs.tree.Book.{LookUp, has_peaks}
 use Rattle.pp_terms.specs.format.Descriptor.{Descriptor, chunks_of, height_of}
-use Rattle.pp_terms.specs.disk.Store.{header, chunk_place, pair_place, Has}
+use Rattle.pp_terms.specs.disk.Store.{header, chunk_place, pair_place, gate_place, Has}
 
 -- n bytes at a place, or as many of them as the image has
 abbrev pub slice : List ℕ → ℕ → ℕ → List ℕ
@@ -44,12 +44,17 @@ holds d image i =
     && (length bytes == chunk_length d.size d.chunk i)
     && matches (known d image 0 i) (sha256 bytes)
 
+-- the gate of chunk i lies in the image and is open
+abbrev pub is_open : Descriptor → List ℕ → ℕ → Bool
+is_open d image i = slice_index image (gate_place d.chunk i) == 0x4f
+
 -- what an opening answers of a chunk, by what reads give
 abbrev pub is_found : Descriptor → List ℕ → ℕ → Bool
-is_found d reads i = holds d reads i
+is_found d reads i = is_open d reads i && holds d reads i
 
--- Chunk i stands in the image: it begins with the descriptor's header and holds the chunk.
+-- Chunk i stands in the image: it begins with the descriptor's header, the chunk's gate is open, and it holds the chunk.
 pub record StandsIn (d : Descriptor) (image : List ℕ) (i : ℕ) : Type 0 where
   pub begins : Has 0 (header d) image
   pub within : i < chunks_of d
+  pub opened : IsTrue (is_open d image i)
   pub held : IsTrue (holds d image i)

@@ -1,5 +1,6 @@
 use Rattle.pp_terms.proofs.Knowing.{known_on}
 use Rattle.pp_node.proofs.Looks.{named_later}
+use Rattle.pp_node.proofs.Runs.{attach_run}
 use Rattle.pp_node.proofs.Attached.{ends_since, run_since}
 use Rattle.pp_node.proofs.importing.import.Goals as goal
 
@@ -16,3 +17,7 @@ returns-in-Ok-clause-named g c known =
     named_later (g.D.Disk.state c.args.disk.now).history.names c.args.store.now (g.D.Disk.state c.attach.new.self).history.names (g.D.Disk.state c.import_attached.new.disk).history.names
     (c.in-Ok.ensures.attached known).named
     (c.import_attached.ensures.names (known_on (g.D.Disk.state c.args.disk.now) (g.D.Disk.state c.attach.new.self) c.in-Ok.ensures.call.tells c.in-Ok.ensures.call.honest known))
+
+pub returns-in-Err-clause-run : goal.returns-in-Err-clause-run
+returns-in-Err-clause-run g c =
+    attach_run c.report.result c.args.chunk (g.S.Source.state c.args.source.now) (g.D.Disk.state c.args.disk.now) (g.D.Disk.state c.attach.new.self) _ _ c.in-Err.ensures c.report.ensures.0

@@ -48,7 +48,7 @@ fn reports_what_was_served(rt: HostRuntime) -> Result<(), Fail> {
     let alloc = rt.alloc();
     let mut coming = Coming::greeting(alloc)?;
     coming.add(&[&OURS, &REQUEST])?;
-    let ran = coming.seed(&mut MemoryDisk::new(alloc, &STORE_OF_ABC)?)?;
+    let ran = coming.seed(&mut MemoryDisk::new(alloc, &store_of_abc())?)?;
     let want = report(
         alloc,
         Counted {
@@ -68,7 +68,7 @@ fn reports_what_was_served(rt: HostRuntime) -> Result<(), Fail> {
 fn drops(rt: &impl Abort, alloc: Global, datagram: &[u8], want: Counted) -> Result<(), Fail> {
     let mut coming = Coming::greeting(alloc)?;
     coming.add(&[datagram])?;
-    let ran = coming.seed(&mut MemoryDisk::new(alloc, &STORE_OF_ABC)?)?;
+    let ran = coming.seed(&mut MemoryDisk::new(alloc, &store_of_abc())?)?;
     assert_eq!(rt; ran.status, 0);
     assert_eq!(rt; ran.link.sent(), 1);
     assert!(rt; ran.has_replied(0)?);
@@ -108,7 +108,7 @@ fn counts_short_datagrams(rt: HostRuntime) -> Result<(), Fail> {
     // with nothing before it
     let mut coming = Coming::none(alloc)?;
     coming.add(&[&[1, 2, 3]])?;
-    let ran = coming.seed(&mut MemoryDisk::new(alloc, &STORE_OF_ABC)?)?;
+    let ran = coming.seed(&mut MemoryDisk::new(alloc, &store_of_abc())?)?;
     let want = report(
         alloc,
         Counted {
@@ -144,7 +144,7 @@ fn takes_options_in_any_order(rt: HostRuntime) -> Result<(), Fail> {
         &[0xff],
     ])?;
     coming.add(&[&OURS, &REQUEST])?;
-    let ran = coming.seed(&mut MemoryDisk::new(alloc, &STORE_OF_ABC)?)?;
+    let ran = coming.seed(&mut MemoryDisk::new(alloc, &store_of_abc())?)?;
     assert_eq!(rt; ran.status, 0);
     assert_eq!(rt; ran.link.sent(), 2);
     assert!(rt; ran.has_replied(0)?);
@@ -170,7 +170,7 @@ fn refuses_other_options(rt: HostRuntime) -> Result<(), Fail> {
             repeated,
             &[0xff],
         ])?;
-        let ran = coming.seed(&mut MemoryDisk::new(alloc, &STORE_OF_ABC)?)?;
+        let ran = coming.seed(&mut MemoryDisk::new(alloc, &store_of_abc())?)?;
         let want = report(
             alloc,
             Counted {
@@ -193,7 +193,7 @@ fn refuses_other_options(rt: HostRuntime) -> Result<(), Fail> {
 fn sends_no_forged_byte(rt: HostRuntime) -> Result<(), Fail> {
     let alloc = rt.alloc();
     for place in 64..67 {
-        let mut disk = LyingDisk::new(MemoryDisk::new(alloc, &STORE_OF_ABC)?, place, 1, 1);
+        let mut disk = LyingDisk::new(MemoryDisk::new(alloc, &store_of_abc())?, place, 1, 1);
         let mut coming = Coming::greeting(alloc)?;
         coming.add(&[&OURS, &REQUEST])?;
         let ran = coming.seed(&mut disk)?;

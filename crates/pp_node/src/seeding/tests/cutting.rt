@@ -17,7 +17,7 @@ fn serves_behind_cuts(
         coming.add(&[&OURS, front(&message, end)])?;
         coming.add(&[&OURS, &ACK, &EIGHT, &REQUEST])?;
     }
-    let ran = coming.seed(&mut MemoryDisk::new(alloc, &STORE_OF_ABC)?)?;
+    let ran = coming.seed(&mut MemoryDisk::new(alloc, &store_of_abc())?)?;
     assert_eq!(rt; ran.status, 0, "{parts:?}");
     assert_eq!(rt; ran.link.sent(), message.len(), "{parts:?}");
     assert!(rt; ran.has_replied(0)?);
@@ -67,7 +67,7 @@ fn serves_behind_cut_handshakes(rt: HostRuntime) -> Result<(), Fail> {
     }
     coming.add(&[&greeting])?;
     coming.add(&[&OURS, &REQUEST])?;
-    let ran = coming.seed(&mut MemoryDisk::new(alloc, &STORE_OF_ABC)?)?;
+    let ran = coming.seed(&mut MemoryDisk::new(alloc, &store_of_abc())?)?;
     assert_eq!(rt; ran.status, 0);
     assert_eq!(rt; ran.link.sent(), 2);
     assert!(rt; ran.has_replied(0)?);

@@ -28,7 +28,7 @@ fn serves_by(
     let ran = coming.seed_as(
         &described,
         method,
-        &mut MemoryDisk::new(alloc, &STORE_OF_ABC)?,
+        &mut MemoryDisk::new(alloc, &store_of_abc())?,
     )?;
     assert_eq!(rt; ran.status, 0, "method {number}");
     assert_eq!(rt; ran.link.sent(), 2, "method {number}");

@@ -188,7 +188,7 @@ fn sends_no_changed_chunk(rt: HostRuntime) -> Result<(), Fail> {
     ] {
         let mut inner = MemoryDisk::new(alloc, &[])?;
         let _ = store_on(&mut inner)?;
-        let mut disk = LyingDisk::new(inner, 64 + 2 * 1088 + 500, 1, passed);
+        let mut disk = LyingDisk::new(inner, 64 + 2 * 1089 + 500, 1, passed);
         let mut coming = greeting(alloc)?;
         coming.add(&[&OURS, &named(8, 2, 2)])?;
         let ran = seed_seven(coming, &mut disk)?;

@@ -12,6 +12,9 @@ pub returns-in-Ok-clause-does : goal.returns-in-Ok-clause-does
 returns-in-Ok-clause-does g c =
     does_later _ _ _ _ (write_puts _ _ _ _ _ (omega (arith, c.slot_place.ensures)) c.in-Ok.ensures).does.keeps c.put_pairs.ensures.does
 
+pub returns-in-Err-clause-does : goal.returns-in-Err-clause-does
+returns-in-Err-clause-does g c = (write_puts _ _ _ _ _ (omega (arith, c.slot_place.ensures)) c.in-Err.ensures).does
+
 pub returns-in-Ok-clause-there : goal.returns-in-Ok-clause-there
 returns-in-Ok-clause-there g c known =
     on_ok_any c.put_pairs.result

@@ -1,6 +1,6 @@
 use Rattle.std.proofs.Common.{◌<◌, [], inl, inr, length, arith, refl, ◌∙◌}
 use Rattle.pp_tree.proofs.Layers.{default_in, zeros_empty}
-use Rattle.pp_store.proofs.Writings.{keeps_same, keeps_more}
+use Rattle.pp_store.proofs.Writings.{keeps_same, keeps_more, does_later}
 use Rattle.pp_store.proofs.Tails.{tail_first, tail_up, tail_low, tail_start, tail_built, tail_root}
 use Rattle.pp_store.proofs.growing.GrowingTree.finish.Goals as goal
 
@@ -10,6 +10,9 @@ loop-step-init g c = record {
   keeps = keeps_same _;
   tailing = λ content all part. tail_start c.args.chunk content c.args.self.now.count c.args.self.now.peaks _ _ (c.new-last.ensures.same ∙ zeros_empty) all part;
 }
+
+pub returns-in-Err-clause-does : goal.returns-in-Err-clause-does
+returns-in-Err-clause-does g c = does_later _ _ _ _ c.loop-step.invariant.keeps c.in-Err.ensures.does
 
 pub overflow_add-layer : goal.overflow_add-layer
 overflow_add-layer g c = let low = tail_low _ _ _ _ c.loop-step.invariant.at c.requires.most in omega arith

@@ -11,7 +11,8 @@ pub invariant_of-self : goal.invariant_of-self
 invariant_of-self g c =
     subst (λ (ps : List Bool). IsSized c.self.inside.descriptor c.self.inside.committed ps c.put_pieces.new.pairs) (sym c.insert.ensures)
     (sized_done c.self.inside.descriptor c.self.inside.committed c.self.inside.pending c.self.inside.pairs c.put_pieces.new.pairs (entry c.args.book.now) c.args.i
-    (g.D.Disk.state c.args.disk.now) (g.D.Disk.state c.put_pieces.new.disk) c.self.invariant c.put_pieces.ensures.puts c.in-Ok.ensures.stored)
+    (g.D.Disk.state c.args.disk.now) (g.D.Disk.state c.put_pieces.new.disk) c.self.invariant c.put_pieces.ensures.puts
+    (ap (λ (t : StoreState). is_held t c.args.i) c.self.view_is ∙ c.requires.absent) c.in-Ok.ensures.stored)
 
 pub invariant_of-self-in-Err : goal.invariant_of-self-in-Err
 invariant_of-self-in-Err g c =
@@ -40,7 +41,8 @@ returns-in-Ok-clause-agrees g c known agrees =
 pub returns-in-Ok-clause-supported : goal.returns-in-Ok-clause-supported
 returns-in-Ok-clause-supported g c l held =
     (sized_done c.self.inside.descriptor c.self.inside.committed c.self.inside.pending c.self.inside.pairs c.put_pieces.new.pairs (entry c.args.book.now) c.args.i
-    (g.D.Disk.state c.args.disk.now) (g.D.Disk.state c.put_pieces.new.disk) c.self.invariant c.put_pieces.ensures.puts c.in-Ok.ensures.stored).supported l
+    (g.D.Disk.state c.args.disk.now) (g.D.Disk.state c.put_pieces.new.disk) c.self.invariant c.put_pieces.ensures.puts
+    (ap (λ (t : StoreState). is_held t c.args.i) c.self.view_is ∙ c.requires.absent) c.in-Ok.ensures.stored).supported l
     (ap (λ (ps : List Bool). is_held (record {
       descriptor = c.self.inside.descriptor;
       committed = c.self.inside.committed;
