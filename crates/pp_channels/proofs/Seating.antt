@@ -17,7 +17,7 @@ use Rattle.pp_channels.specs.declared.channel.Channel.{Channel}
 use Rattle.pp_channels.specs.Seats.{Seats, at_seat, channel_at, IsUsedSeat, IsFull, AreSeats, has_local, has_address, is_found, after_drop, closed, used_of}
 
 -- a list of free seats has no channel
-none_there : (n seat : ℕ) → at_seat (replicate n None) seat ≡ None
+pub none_there : (n seat : ℕ) → at_seat (replicate n None) seat ≡ None
 none_there zero seat = refl
 none_there (suc n) zero = refl
 none_there (suc n) (suc seat) = none_there n seat

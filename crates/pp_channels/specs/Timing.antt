@@ -1,5 +1,5 @@
 -- The timers of a channel, in microseconds: those of this profile.
-use Rattle.std.specs.Prelude.{ℕ, ◌-◌, ◌==◌, nat_le, Bool, true, false, not, ◌&&◌, ◌||◌, Option, Some, None}
+use Rattle.std.specs.Prelude.{ℕ, ◌-◌, ◌==◌, nat_le, Bool, true, false, ◌&&◌, ◌||◌, Option, Some, None}
 use Rattle.pp_channels.specs.declared.channel.State.{State}
 use Rattle.pp_channels.specs.declared.channel.State.TheVariants.{Greeted, Proven}
 use Rattle.pp_channels.specs.declared.channel.Reply.{Reply}

@@ -1,18 +1,19 @@
 -- The seats as the calls leave them stand for the traffic.
-use Rattle.std.proofs.Common.{◌≡◌, ⊎_elim, ℕ, cond, eqb, leb, Bool, true, false, ◌||◌, ◌&&◌, Some, None, List, [], ◌∷◌, length, refl, sym, ◌∙◌, ap, subst, arith}
+use Rattle.std.proofs.Common.{◌≡◌, ⊎_elim, ℕ, cond, eqb, Bool, true, false, ◌||◌, ◌&&◌, Some, None, List, refl, sym, ◌∙◌, ap, subst}
 use Rattle.std.specs.List.{list_any}
 use Rattle.std.proofs.lemmas.List.Folds.{list_any_at}
 use Rattle.std.proofs.lemmas.Option.{same_Some}
-use Rattle.std.proofs.lemmas.Bool.{cases_Bool, both_ways, and_from, or_left, or_right, eqb-true, eqb-false, eq-eqb, le-leb}
+use Rattle.std.proofs.lemmas.Bool.{cases_Bool, both_ways, and_from, or_left, or_right, eqb-true, eqb-false, eq-eqb}
 use Rattle.pp_terms.specs.format.Traffic as traffic
 use Rattle.pp_terms.specs.format.Traffic.{Record, Sent, same_address}
 use Rattle.pp_terms.specs.format.Descriptor.{Descriptor}
-use Rattle.pp_traffic.specs.Past.{read, goes_to, is_number, some_since, is_at}
+use Rattle.pp_traffic.specs.Past.{read, goes_to, is_number, is_at}
 use Rattle.pp_traffic.specs.Life.{Life, greets, answers, begins_as}
 use Rattle.pp_outside.specs.Outside.{address_of}
 use Rattle.pp_outside.specs.declared.link.Address.{Address}
 use Rattle.pp_channels.specs.Seats.{Seats, AreSeats, channel_at, changed, closed, dialled, has_address, is_begun, with_channel, with_handshake}
 use Rattle.pp_channels.specs.declared.channel.Channel.{Channel}
+use Rattle.pp_traffic.proofs.OneMore.{at_since}
 use Rattle.pp_lives.specs.Reading.{is_waiting}
 use Rattle.pp_lives.specs.Standing.{Stands}
 use Rattle.pp_lives.specs.Calls.{Changes, Steady, IsDialOf}
@@ -59,20 +60,6 @@ noted t seat c false at there =
 
 -- ---- what is sent
 
--- a channel that this peer dialled has begun
-opened_since : (test : Record → Bool) (place : ℕ) (xs : List Record) → is_at test place xs ≡ true → some_since test place xs ≡ true
-opened_since test place xs e = by xs e
-  where
-    joined : (a b c e f : Bool) → (a ≡ true → e ≡ true) → (c ≡ true → f ≡ true) → (a && b || c) ≡ true → (e && b || f) ≡ true
-    joined true true c e f first rest w = or_left (e && true) f (and_from e true (first refl) refl)
-    joined true false c e f first rest w = or_right (e && false) f (rest w)
-    joined false b c e f first rest w = or_right (e && b) f (rest w)
-
-    by : (ys : List Record) → is_at test place ys ≡ true → some_since test place ys ≡ true
-    by [] e = absurd cc
-    by (r ∷ ys) e = joined (eqb place (length ys)) (test r) (is_at test place ys) (leb place (length ys)) (some_since test place ys)
-        (λ same. le-leb place (length ys) (let n = eqb-true place (length ys) same in omega (arith, n))) (by ys) e
-
 -- whether it was noted is whether it counts
 handshake_counts : (d : Descriptor) (c : Channel) (life : Life) (handshake : Bool) (moment : ℕ) (bytes : List ℕ) (past : List Record) → Stands d c life past
     → (read d (Sent moment (address_of c.address) bytes)).channel ≡ Some life.remote → handshake ≡ begins_as c.local (read d (Sent moment (address_of c.address) bytes)).messages.read
@@ -80,7 +67,7 @@ handshake_counts : (d : Descriptor) (c : Channel) (life : Life) (handshake : Boo
 handshake_counts d c life handshake moment bytes past st number own = ⊎_elim
     (λ dialled_is.
     let opened : is_at (answers d life) life.opening past ≡ true = subst (λ (b : Bool). is_at (λ x. cond b (answers d life x) (greets d life x)) life.opening past ≡ true) dialled_is st.opened in
-    let begun : is_begun c.opening ≡ true = st.goes.has_begun ∙ opened_since (answers d life) life.opening past opened in
+    let begun : is_begun c.opening ≡ true = st.goes.has_begun ∙ at_since (answers d life) life.opening past opened in
     or_right handshake (is_begun c.opening) begun ∙ sym (or_right (answers d life r) (is_begun c.opening) begun))
     (λ answered.
     let goes : goes_to life.address r ≡ true = subst (λ (a : traffic.Address). same_address (address_of c.address) a ≡ true) (sym st.address) (same_self (address_of c.address)) in

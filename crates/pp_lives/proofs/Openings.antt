@@ -11,14 +11,14 @@ use Rattle.pp_terms.specs.format.Messages.{Message, Handshake}
 use Rattle.pp_traffic.specs.Past.{read, comes_from, goes_to, is_number, is_at}
 use Rattle.pp_traffic.specs.Life.{Life, greets, answers, begins, begins_as, begins_fitting}
 use Rattle.pp_traffic.specs.Prompt.{first_source}
-use Rattle.pp_traffic.proofs.OneMore.{at_within}
+use Rattle.pp_traffic.proofs.OneMore.{at_within, at_more}
 use Rattle.pp_channels.specs.Seats.{Seats, at_seat, channel_at, is_dialled}
 use Rattle.pp_channels.specs.Timing.{is_greeted}
 use Rattle.pp_channels.specs.declared.channel.Channel.{Channel}
 use Rattle.pp_lives.specs.Reading.{opens, is_waiting}
 use Rattle.pp_lives.specs.Standing.{Stands, Standing, AllBegun}
 use Rattle.pp_lives.specs.Laws.{is_opening, SeatsOpened}
-use Rattle.pp_lives.proofs.Telling.{at_more, fitting_begins}
+use Rattle.pp_lives.proofs.Telling.{fitting_begins}
 use Rattle.pp_lives.proofs.Own.{stands_of}
 use Rattle.pp_lives.proofs.Sent.{same_is}
 use Rattle.pp_lives.proofs.Plainly.{fitting_source}

@@ -13,7 +13,7 @@ use Rattle.pp_traffic.specs.Awaiting.{Awaits, AwaitsDial, AwaitsAnswer, IsReply}
 use Rattle.pp_traffic.specs.Places.{StandsBefore}
 use Rattle.pp_traffic.proofs.Standing.{found_at, stands_since, stands_until}
 use Rattle.pp_traffic.proofs.Plains.{IsReplyTo, one_opening}
-use Rattle.pp_traffic.proofs.Awaited.{plain_grows}
+use Rattle.pp_traffic.proofs.Awaited.{plain_grows, answers_goes}
 use Rattle.pp_outside.specs.Outside.{address_of}
 use Rattle.pp_outside.specs.declared.link.Address.{Address}
 use Rattle.pp_channels.specs.Seats.{is_dialled, answered, dialled}
@@ -26,7 +26,7 @@ use Rattle.pp_lives.proofs.Staying.{began, waits_dialled}
 use Rattle.pp_lives.proofs.Own.{stands_of}
 use Rattle.pp_lives.proofs.Missed.{MissesAll}
 use Rattle.pp_lives.proofs.Sent.{same_is, same_there}
-use Rattle.pp_lives.proofs.Plainly.{awaits_none, no_reply, plains_received, answers_to}
+use Rattle.pp_lives.proofs.Plainly.{awaits_none, no_reply, plains_received}
 
 -- ---- one record of two kinds
 
@@ -34,7 +34,7 @@ use Rattle.pp_lives.proofs.Plainly.{awaits_none, no_reply, plains_received, answ
 sent_apart : (d : Descriptor) (life other : Life) (past : List Record) → life.is_dialled ≡ false → Awaits d life past → is_at (answers d other) other.opening past ≡ true → other.address ≡ life.address → ⊥
 sent_apart d life other past answered is opened same =
     let s = found_at (answers d other) other.opening past opened in
-    let goes : goes_to life.address s.here ≡ true = subst (λ (a : traffic.Address). goes_to a s.here ≡ true) same (answers_to d other s.here s.passes) in
+    let goes : goes_to life.address s.here ≡ true = subst (λ (a : traffic.Address). goes_to a s.here ≡ true) same (answers_goes d other s.here s.passes) in
     let begins = subst (λ (b : Bool). MatchBool b (AwaitsDial d life past) (AwaitsAnswer d life past)) answered is.begins in
     ⊎_elim
     (λ here. elsewhere s.after s.here s.before s.split s.place goes here)
@@ -112,7 +112,7 @@ plains_said d t new lives seat c mine moment bytes past s p there living known n
     own_life : (life : Life) → IsReply d life (Sent moment (address_of c.address) bytes) past → Stands d c mine past → mine ≡ life
     own_life life reply st =
         let r = Sent moment (address_of c.address) bytes in
-        let goes = answers_to d life r reply.2 in
+        let goes = answers_goes d life r reply.2 in
         let outer = and_parts (goes_to life.address r && is_number (cond life.is_dialled 0 life.remote) (read d r).channel) (begins_as life.local (read d r).messages.read) reply.2 in
         let n = subst (λ (b : Bool). is_number (cond b 0 life.remote) (read d r).channel ≡ true) reply.0 (numbered life r reply.2) in
         reply_is_own d c mine life r past st
@@ -165,7 +165,7 @@ plains_dialled d t new lives seat c moment bytes past p there living waits is_di
           (λ here.
           let answers_it = subst (λ (b : Bool). MatchBool b (answers d life r ≡ true) (greets_once d life r ≡ true)) dialled here.1 in
           let outer = and_parts (goes_to life.address r && is_number (cond life.is_dialled 0 life.remote) (read d r).channel) (begins_as life.local (read d r).messages.read) answers_it in
-          let address : address_of c.address ≡ life.address = same_is (address_of c.address) life.address (answers_to d life r answers_it) in
+          let address : address_of c.address ≡ life.address = same_is (address_of c.address) life.address (answers_goes d life r answers_it) in
           let local : c.local ≡ life.local = eqb-true c.local life.local (sym (ap (begins_as life.local) is_dial.alone) ∙ outer.1) in
           let make : traffic.Address → ℕ → Bool → ℕ → Life = λ a l b o. record { address = a; local = l; remote = life.remote; is_dialled = b; opening = o } in
           record {
@@ -207,10 +207,10 @@ plains_redialled d t new lives seat c mine moment bytes past s p there living wa
           (λ before. let h = p.dial life dialled before in record { seat = h.seat; channel = h.channel; there = same h.seat ∙ h.there; lives_there = h.lives_there; waits = h.waits; unshadowed = h.unshadowed })
           (λ here. absurd (
           let answers_it = subst (λ (b : Bool). MatchBool b (answers d life r ≡ true) (greets_once d life r ≡ true)) dialled here.1 in
-          let address : address_of c.address ≡ life.address = same_is (address_of c.address) life.address (answers_to d life r answers_it) in
+          let address : address_of c.address ≡ life.address = same_is (address_of c.address) life.address (answers_goes d life r answers_it) in
           let opened : is_at (answers d mine) mine.opening past ≡ true = subst (λ (b : Bool). is_at (λ x. cond b (answers d mine x) (greets d mine x)) mine.opening past ≡ true) (st.dialled ∙ waits_dialled c waits) st.opened in
           let f = found_at (answers d mine) mine.opening past opened in
-          let goes : goes_to life.address f.here ≡ true = subst (λ (a : traffic.Address). goes_to a f.here ≡ true) (st.address ∙ address) (answers_to d mine f.here f.passes) in
+          let goes : goes_to life.address f.here ≡ true = subst (λ (a : traffic.Address). goes_to a f.here ≡ true) (st.address ∙ address) (answers_goes d mine f.here f.passes) in
           let stands : StandsBefore (concerns life.address) life.opening (r ∷ past) = record {
             after = r ∷ f.after;
             here = f.here;

@@ -7,8 +7,8 @@ use Rattle.pp_terms.specs.format.Traffic as traffic
 use Rattle.pp_terms.specs.format.Traffic.{Record, Received, Sent, same_address}
 use Rattle.pp_terms.specs.format.Descriptor.{Descriptor}
 use Rattle.pp_terms.specs.format.Messages.{Message, Handshake}
-use Rattle.pp_traffic.specs.Past.{now, now_at, read, comes_from, goes_to, is_event, is_number, some_since, is_at}
-use Rattle.pp_traffic.specs.Life.{Life, greets, answers, begins, begins_as, begins_fitting, comes_on, shakes_on, closes, closes_on, fits}
+use Rattle.pp_traffic.specs.Past.{now, now_at, read, comes_from, is_event, is_number, some_since, is_at}
+use Rattle.pp_traffic.specs.Life.{Life, greets, answers, begins, begins_fitting, comes_on, shakes_on, closes, closes_on, fits}
 use Rattle.pp_traffic.specs.Plain.{greets_once, heard_at, is_in_time, is_timely, IsPlainNow}
 use Rattle.pp_traffic.specs.Awaiting.{Awaits, AwaitsDial, AwaitsAnswer, IsReplyOfPeer}
 use Rattle.pp_traffic.specs.Prompt.{first_source}
@@ -52,11 +52,6 @@ since_all test more place (r ∷ xs) e grows = ⊎_elim
     or_left (leb 0 (length xs) && more r) (some_since more 0 xs) (and_from (leb 0 (length xs)) (more r) (le-leb 0 (length xs) (omega arith)) (grows r parts.1)))
     (λ before. or_right (leb 0 (length xs) && more r) (some_since more 0 xs) (since_all test more place xs before grows))
     (or_cases (leb place (length xs) && test r) (some_since test place xs) e)
-
-pub answers_to : (d : Descriptor) (life : Life) (r : Record) → answers d life r ≡ true → goes_to life.address r ≡ true
-answers_to d life r e =
-    let outer = and_parts (goes_to life.address r && is_number (cond life.is_dialled 0 life.remote) (read d r).channel) (begins_as life.local (read d r).messages.read) e in
-    (and_parts (goes_to life.address r) (is_number (cond life.is_dialled 0 life.remote) (read d r).channel) outer.0).0
 
 -- from the address of a channel whose peer's number is known something came
 pub known_came : (d : Descriptor) (c : Channel) (life : Life) (past : List Record) → Stands d c life past → is_waiting c ≡ false

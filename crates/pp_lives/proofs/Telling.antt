@@ -5,7 +5,7 @@ use Rattle.pp_terms.specs.format.Traffic.{Address, Record, Received, Sent}
 use Rattle.pp_terms.specs.format.Traffic as traffic
 use Rattle.pp_terms.specs.format.Descriptor.{Descriptor}
 use Rattle.pp_terms.specs.format.Messages.{Message, Handshake}
-use Rattle.pp_traffic.specs.Past.{now, now_at, read, is_number, comes_from, some_since, is_at}
+use Rattle.pp_traffic.specs.Past.{now, now_at, read, is_number, comes_from, some_since}
 use Rattle.pp_traffic.specs.Life.{Life, greets, begins, begins_fitting, comes_on, shakes_on}
 use Rattle.pp_traffic.specs.Story.{Line, Taken, hear, say, said_in, told}
 use Rattle.pp_traffic.specs.Plain.{heard_at}
@@ -17,18 +17,6 @@ use Rattle.pp_lives.specs.Reading.{shows}
 pub since_more : (test : Record → Bool) (place : ℕ) (r : Record) (past : List Record) → place ≤ length past
     → some_since test place (r ∷ past) ≡ (test r || some_since test place past)
 since_more test place r past le = ap (λ (b : Bool). b && test r || some_since test place past) (le-leb place (length past) le)
-
--- a record at a place that passes a test passes a weaker one
-pub at_more : (test more : Record → Bool) → ((r : Record) → test r ≡ true → more r ≡ true) → (place : ℕ) (past : List Record)
-    → is_at test place past ≡ true → is_at more place past ≡ true
-at_more test more grows place [] e = absurd cc
-at_more test more grows place (r ∷ past) e = joined (eqb place (length past)) (test r) (more r) (is_at test place past) (is_at more place past) (grows r) (at_more test more grows place past) e
-  where
-    joined : (a b b' c c' : Bool) → (b ≡ true → b' ≡ true) → (c ≡ true → c' ≡ true) → (a && b || c) ≡ true → (a && b' || c') ≡ true
-    joined true true b' c c' f g w = rw (f refl) refl
-    joined true false true c c' f g w = refl
-    joined true false false c c' f g w = g w
-    joined false b b' c c' f g w = g w
 
 -- one that doesn't pass
 pub since_same : (test : Record → Bool) (place : ℕ) (r : Record) (past : List Record) → test r ≡ false → some_since test place (r ∷ past) ≡ some_since test place past

@@ -1,17 +1,18 @@
 -- The laws of the calls.
-use Rattle.std.proofs.Common.{◌≡◌, ℕ, zero, suc, eqb, Bool, true, false, cond, ◌||◌, Option, Some, None, List, [], ◌∷◌, length, replicate, refl, sym, ◌∙◌, subst, arith}
+use Rattle.std.proofs.Common.{◌≡◌, ℕ, eqb, Bool, true, false, cond, ◌||◌, Option, Some, None, List, [], ◌∷◌, length, replicate, refl, sym, ◌∙◌, subst, arith}
 use Rattle.std.specs.Prelude.{MatchBool}
 use Rattle.std.proofs.lemmas.Bool.{or_left, or_right, cond-false, ne_eqb}
 use Rattle.pp_terms.specs.format.Traffic.{Received, Sent}
 use Rattle.pp_terms.specs.format.Descriptor.{Descriptor}
 use Rattle.pp_traffic.specs.Life.{Life, greets, answers}
 use Rattle.pp_traffic.specs.Awaiting.{Awaits, AwaitsDial, AwaitsAnswer}
+use Rattle.pp_traffic.proofs.OneMore.{at_more}
 use Rattle.pp_traffic.proofs.Awaited.{plain_began}
 use Rattle.pp_outside.specs.Outside.{address_of}
 use Rattle.pp_outside.specs.declared.link.Address.{Address}
-use Rattle.pp_channels.specs.Seats.{Seats, at_seat, channel_at}
+use Rattle.pp_channels.specs.Seats.{Seats, channel_at}
 use Rattle.pp_channels.specs.declared.channel.Channel.{Channel}
-use Rattle.pp_channels.proofs.Seating.{all_free}
+use Rattle.pp_channels.proofs.Seating.{all_free, none_there}
 use Rattle.pp_lives.specs.Reading.{opens}
 use Rattle.pp_lives.specs.Standing.{StandsAt}
 use Rattle.pp_lives.specs.Calls.{dialled_life}
@@ -19,7 +20,6 @@ use Rattle.pp_lives.specs.Arriving.{Arrives}
 use Rattle.pp_lives.specs.Arrived.{Arrived, KeepsStanding}
 use Rattle.pp_lives.specs.Laws.{StandsAtFirst, QuietStays, ExpiredStays, SaidStays, SeatsLive, DialsStay, DialledStays, RedialledStays, SteadyStays}
 use Rattle.pp_lives.specs.declared.arriving.Arrival.{Arrival}
-use Rattle.pp_lives.proofs.Telling.{at_more}
 use Rattle.pp_lives.proofs.Own.{stands_of}
 use Rattle.pp_lives.proofs.Missed.{quiet_seated, quiet_tells}
 use Rattle.pp_lives.proofs.Closing.{dropped_seated, dropped_tells}
@@ -36,19 +36,14 @@ keeps_standing d t new sender moment bytes result a lives stamp past e s live =
     subst (λ (n : ℕ). Arrived d t lives (Received stamp (address_of sender) bytes) past n bytes result new) (sym e)
     (arrived d t new lives sender stamp bytes past result s live (subst (λ (n : ℕ). Arrives d t sender n bytes result new) e a))
 
-no_channel : (n seat : ℕ) → at_seat (replicate n None) seat ≡ None
-no_channel zero seat = refl
-no_channel (suc n) zero = refl
-no_channel (suc n) (suc seat) = no_channel n seat
-
 pub stands_at_first : StandsAtFirst
 stands_at_first d numbers =
     let t : Seats = record { channels = replicate 64 None; numbers = numbers } in
-    let free : (seat : ℕ) (c : Channel) → channel_at t seat ≡ Some c → ⊥ = λ seat c there. (let none = no_channel 64 seat in cc) in
+    let free : (seat : ℕ) (c : Channel) → channel_at t seat ≡ Some c → ⊥ = λ seat c there. (let none = none_there 64 seat in cc) in
     record {
       seated = record {
         are = all_free;
-        each = λ seat. subst (λ (o : Option Channel). StandsAt d o None []) (sym (no_channel 64 seat)) tt;
+        each = λ seat. subst (λ (o : Option Channel). StandsAt d o None []) (sym (none_there 64 seat)) tt;
         apart = λ one other a e n at_one at_other ra re same. absurd (free one a at_one);
         blank = λ seat c l there living waits. absurd (free seat c there);
         unknown = λ seat c there waits. absurd (free seat c there);

@@ -1,15 +1,15 @@
 -- Promises that small runs break.
 use lib.Count.{count_trailing_zeros}
 use Rattle.std.proofs.Common.{◌≡◌, ◌⊎◌, inl, inr, leb, eqb, cond, not, ◌&&◌, ◌||◌, drop, map, replicate, sym, ◌∙◌, subst, ◌+◌, ◌<◌, ⊎_elim, ℕ, suc, ◌≤◌, Bool, true, false, Some, None, List, [], ◌∷◌, ◌++◌, length, take, refl, ap, arith}
-use Rattle.std.proofs.lemmas.Bool.{or_parts, and_parts, or_cases, eqb-true, cases_Bool, cond-true, cond-false}
+use Rattle.std.proofs.lemmas.Bool.{or_parts, or_cases, eqb-true}
 use Rattle.std.specs.Prelude.{codes, ◌==◌, count_by}
-use Rattle.std.specs.List.{list_any, list_all}
+use Rattle.std.specs.List.{list_any}
 use Rattle.sha2.specs.Sha256.{first_words, schedule, rounds, compress, hash_after, digest_bytes, sha256}
-use Rattle.pp_terms.specs.tree.Book.{LookUp, AreDigests}
+use Rattle.pp_terms.specs.tree.Book.{LookUp}
 use Rattle.pp_terms.specs.disk.Disk.{DiskState, History}
 use Rattle.pp_terms.specs.format.Traffic.{LinkState, Record, Received, Quiet, Sent}
 use Rattle.pp_terms.specs.tree.Tree.{Node, height, empty_hash}
-use Rattle.pp_terms.specs.tree.Claims.{Claim, latest, Contradicts}
+use Rattle.pp_terms.specs.tree.Claims.{Contradicts}
 use Rattle.pp_terms.specs.tree.Range.{leaves_of}
 use Rattle.pp_terms.specs.tree.Proves.{first_absent, last_layer, Proves}
 use Rattle.pp_terms.specs.format.Messages as bins
@@ -19,6 +19,7 @@ use Rattle.pp_terms.specs.disk.Store.{header}
 use Rattle.pp_terms.specs.format.Descriptor.{Descriptor}
 use Rattle.pp_terms.specs.format.Options.{none, spelling_of, fault_at, read_from, read_options}
 use Rattle.pp_terms.specs.format.Mismatch.{mismatch_of}
+use Rattle.pp_terms.proofs.Claims.{latest_digests}
 use Rattle.pp_traffic.specs.Claims.{claims_in}
 use Rattle.pp_traffic.specs.Past.{now, read}
 use Rattle.pp_traffic.specs.Life.{Life, greets, comes_on}
@@ -262,18 +263,9 @@ brings : BringsChunk two (answered 0) (past run.opened_two) q 1 (codes "abc")
 unfolding spell bins.leaves_of span_in handshake_at data_at ack_at integrity_at span_at address_at message_at next_message messages_from datagram spelling_of fault_at read_from read_options mismatch_of height
 brings = record { plain = proved_plain; comes = refl; front = run.hashes_of_two; sent_at = 0; rest = []; messages = refl; open_still = refl }
 
-claims_are_digests : (claims : List Claim) → list_all (λ c. eqb (length c.digest) 32) claims ≡ true → AreDigests (latest claims)
-claims_are_digests [] all k j digest e = absurd cc
-claims_are_digests (c ∷ claims) all k j digest e = ⊎_elim
-    (λ here. let same : Some c.digest ≡ Some digest = sym (cond-true (eqb c.node.layer k && eqb c.node.offset j) (Some c.digest) (latest claims k j) here) ∙ e in
-    let is : c.digest ≡ digest = cc in
-    ap (λ (xs : List ℕ). length xs) (sym is) ∙ eqb-true (length c.digest) 32 (and_parts (eqb (length c.digest) 32) (list_all (λ x. eqb (length x.digest) 32) claims) all).0)
-    (λ other. claims_are_digests claims (and_parts (eqb (length c.digest) 32) (list_all (λ x. eqb (length x.digest) 32) claims) all).1 k j digest (sym (cond-false (eqb c.node.layer k && eqb c.node.offset j) (Some c.digest) (latest claims k j) other) ∙ e))
-    (cases_Bool (eqb c.node.layer k && eqb c.node.offset j))
-
 proves : Proves two (claimed_before two (answered 0) q (past run.opened_two) run.hashes_of_two) 1 (codes "abc")
 unfolding spell bins.leaves_of span_in handshake_at data_at ack_at integrity_at span_at address_at message_at next_message messages_from datagram spelling_of fault_at read_from read_options mismatch_of height empty_hash first_absent last_layer first_words schedule rounds compress hash_after digest_bytes sha256 count_trailing_zeros
-proves = record { whole = refl; digests = claims_are_digests (take 128 (claims_in 2 (hear 1100000 run.hashes_of_two (proven_story two (answered 0) (past run.opened_two))))) refl; peaks_known = refl; top = 1; has_peak = refl; below_it = refl; to_peak = refl; to_root = refl }
+proves = record { whole = refl; digests = latest_digests (take 128 (claims_in 2 (hear 1100000 run.hashes_of_two (proven_story two (answered 0) (past run.opened_two))))) refl; peaks_known = refl; top = 1; has_peak = refl; below_it = refl; to_peak = refl; to_root = refl }
 
 -- a book without an entry contradicts nothing
 agrees : (meets : LookUp) → Contradicts no_book meets → ⊥
@@ -317,7 +309,7 @@ dial_brings = record { plain = dial_plain; comes = refl; front = reply_front; se
 
 dial_proves : Proves two (claimed_before two (dialled 1) reply dial reply_front) 1 (codes "abc")
 unfolding spell bins.leaves_of span_in handshake_at data_at ack_at integrity_at span_at address_at message_at next_message messages_from datagram spelling_of fault_at read_from read_options mismatch_of height empty_hash first_absent last_layer first_words schedule rounds compress hash_after digest_bytes sha256 count_trailing_zeros
-dial_proves = record { whole = refl; digests = claims_are_digests (take 128 (claims_in 2 (hear 1100000 reply_front (proven_story two (dialled 1) dial)))) refl; peaks_known = refl; top = 1; has_peak = refl; below_it = refl; to_peak = refl; to_root = refl }
+dial_proves = record { whole = refl; digests = latest_digests (take 128 (claims_in 2 (hear 1100000 reply_front (proven_story two (dialled 1) dial)))) refl; peaks_known = refl; top = 1; has_peak = refl; below_it = refl; to_peak = refl; to_root = refl }
 
 pub stores_dialled : StoresAll two no_book no_bytes (past run.dialled_two) → ⊥
 unfolding dial_brings

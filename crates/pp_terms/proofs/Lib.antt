@@ -13,6 +13,7 @@ pub mod Grammar
 pub mod Peaks
 pub mod MessageLaws
 pub mod DatagramLaws
+pub mod Claims
 mod ClaimExamples
 mod ReportExamples
 pub mod Facts
@@ -21,3 +22,5 @@ pub mod Halves
 pub mod Within
 pub mod MovedSteps
 pub mod PeakBooks
+pub mod ReadSteps
+pub mod MessageLengths

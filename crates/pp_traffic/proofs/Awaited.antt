@@ -164,7 +164,7 @@ came_before life past at e =
     } in
     stands_until (concerns life.address) life.opening past stands
 
-answers_goes : (d : Descriptor) (life : Life) (r : Record) → answers d life r ≡ true → goes_to life.address r ≡ true
+pub answers_goes : (d : Descriptor) (life : Life) (r : Record) → answers d life r ≡ true → goes_to life.address r ≡ true
 answers_goes d life r e =
     let outer = and_parts (goes_to life.address r && is_number (cond life.is_dialled 0 life.remote) (read d r).channel) (begins_as life.local (read d r).messages.read) e in
     (and_parts (goes_to life.address r) (is_number (cond life.is_dialled 0 life.remote) (read d r).channel) outer.0).0

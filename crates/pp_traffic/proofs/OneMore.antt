@@ -1,6 +1,6 @@
 -- What one record more does.
-use Rattle.std.proofs.Common.{◌≡◌, ℕ, ◌<◌, ◌≤◌, ltb, leb, eqb, Bool, true, false, not, ◌&&◌, ◌||◌, List, [], ◌∷◌, length, refl, ap, arith}
-use Rattle.std.proofs.lemmas.Bool.{or_right, or_from, le-leb, lt-leb, ne_eqb, eq-eqb, and_left, and_right}
+use Rattle.std.proofs.Common.{◌≡◌, ⊎_elim, ℕ, ◌<◌, ◌≤◌, ltb, leb, eqb, Bool, true, false, not, ◌&&◌, ◌||◌, List, [], ◌∷◌, length, refl, ap, arith}
+use Rattle.std.proofs.lemmas.Bool.{or_left, or_right, or_from, or_cases, le-leb, lt-leb, ne_eqb, eq-eqb, eqb-true, and_parts, and_from, and_left, and_right}
 use Rattle.std.proofs.lemmas.List.{length-append}
 use Rattle.pp_terms.specs.format.Traffic.{Record, Received, Quiet, Sent}
 use Rattle.pp_terms.specs.format.Descriptor.{Descriptor}
@@ -16,6 +16,25 @@ pub at_within : (test : Record → Bool) (place : ℕ) (past : List Record) → 
 at_within test place past e =
     let s = found_at test place past e in
     omega (arith, s.place, ap length s.split, length-append s.after (s.here ∷ s.before))
+
+-- a record at a place that passes a test is one since then that does
+pub at_since : (test : Record → Bool) (place : ℕ) (past : List Record) → is_at test place past ≡ true → some_since test place past ≡ true
+at_since test place [] e = absurd cc
+at_since test place (r ∷ past) e = ⊎_elim
+    (λ here. let parts = and_parts (eqb place (length past)) (test r) here in
+    or_left (leb place (length past) && test r) (some_since test place past)
+    (and_from (leb place (length past)) (test r) (le-leb place (length past) (omega (arith, eqb-true place (length past) parts.0))) parts.1))
+    (λ before. or_right (leb place (length past) && test r) (some_since test place past) (at_since test place past before))
+    (or_cases (eqb place (length past) && test r) (is_at test place past) e)
+
+-- and one that passes a weaker test
+pub at_more : (test more : Record → Bool) → ((r : Record) → test r ≡ true → more r ≡ true) → (place : ℕ) (past : List Record) → is_at test place past ≡ true → is_at more place past ≡ true
+at_more test more grows place [] e = absurd cc
+at_more test more grows place (r ∷ past) e = ⊎_elim
+    (λ here. let parts = and_parts (eqb place (length past)) (test r) here in
+    or_left (eqb place (length past) && more r) (is_at more place past) (and_from (eqb place (length past)) (more r) parts.0 (grows r parts.1)))
+    (λ before. or_right (eqb place (length past) && more r) (is_at more place past) (at_more test more grows place past before))
+    (or_cases (eqb place (length past) && test r) (is_at test place past) e)
 
 pub lives_began : LivesBegan
 lives_began d life past is = at_within (λ r. greets d life r || answers d life r) life.opening past is.opened

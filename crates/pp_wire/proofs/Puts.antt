@@ -1,7 +1,13 @@
 -- Bytes put one after the other.
-use Rattle.std.proofs.Common.{◌≡◌, ℕ, ◌+◌, ◌≤◌, List, [], ◌∷◌, ◌++◌, length, ap, ◌∙◌, append_assoc, arith, length-append}
+use Rattle.std.proofs.Common.{◌≡◌, ℕ, ◌+◌, ◌≤◌, List, [], ◌∷◌, ◌++◌, length, take, drop, ap, ◌∙◌, append_assoc, arith}
+use Rattle.std.proofs.lemmas.List.{length-take, length-append, take_at}
 use Rattle.pp_terms.specs.Place.{placed}
 use Rattle.pp_terms.proofs.Placing.{placed-twice}
+
+-- the front of a buffer in which bytes were put
+pub placed_front : (old : List ℕ) (at : ℕ) (text : List ℕ) → at + length text ≤ length old → take (at + length text) (placed old at text) ≡ take at old ++ text
+placed_front old at text le =
+    take_at (take at old ++ text) (drop (at + length text) old) (at + length text) (omega (arith, length-append (take at old) text, length-take at old))
 
 -- more bytes behind those that were put
 pub then_put : (old one two : List ℕ) (at end : ℕ) (a b : List ℕ) → one ≡ placed old at a → end ≡ at + length a

@@ -1,4 +1,4 @@
-use Rattle.std.proofs.Common.{Some, ap, sym, ◌∙◌}
+use Rattle.std.proofs.Common.{Some, ap, ◌∙◌}
 use Rattle.std.specs.Prelude.{is_some, count_by}
 use Rattle.std.proofs.Math.ListN.{set}
 use Rattle.pp_channels.specs.Seats.{used_of}
