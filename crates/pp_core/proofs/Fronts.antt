@@ -1,7 +1,7 @@
 -- A message put behind a datagram.
 use Rattle.std.proofs.Common.{◌≡◌, ℕ, zero, suc, ltb, false, ◌^◌, ◌*◌, ◌+◌, ◌<◌, ◌≤◌, Some, None, List, [], ◌∷◌, ◌++◌, length, take, drop, Result, Ok, Err, refl, sym, ◌∙◌, ap, subst, arith}
 use Rattle.std.specs.List.{AllByRecursion}
-use Rattle.std.specs.Int.{w32, w64, to_be_bytes, from_be_bytes}
+use Rattle.std.specs.Int.{w32, to_be_bytes, from_be_bytes}
 use Rattle.std.proofs.lemmas.Bool.{le-ltb}
 use Rattle.std.proofs.lemmas.List.{length-take, length-append, take_at, drop_all}
 use Rattle.std.proofs.Math.Seq.{take-length}
@@ -10,20 +10,16 @@ use Rattle.pp_terms.specs.tree.Tree.{Node}
 use Rattle.pp_terms.specs.tree.Content.{IsChunkSize}
 use Rattle.pp_terms.specs.format.Descriptor.{Descriptor, IsDescriptor, Method, Bin32, Range32, Bin64, Range64}
 use Rattle.pp_terms.specs.format.Options.{IsBytes, spelling_of}
-use Rattle.pp_terms.specs.format.Messages.{Message, Handshake, Data, Ack, Have, Integrity, Pex4, PexReq, Request, Cancel, Choke, Unchoke, Pex6, only, spell, spell_span, bin_number_of, IsNamed, IsBinSpan, IsSpelt, IsFull, AtMostFull, Datagram, datagram, with_last, messages_from}
+use Rattle.pp_terms.specs.format.Messages.{Message, Handshake, Data, Ack, Have, Integrity, Pex4, PexReq, Request, Cancel, Choke, Unchoke, Pex6, only, spell, bin_number_of, IsNamed, IsBinSpan, IsSpelt, IsFull, AtMostFull, Datagram, datagram, with_last, messages_from}
 use Rattle.pp_terms.specs.tree.Range.{Span}
 use Rattle.pp_terms.proofs.DatagramLaws.{grows_by_one}
-use Rattle.pp_terms.proofs.MessageLaws.{wide32, wide64, IsBytes-take}
+use Rattle.pp_terms.proofs.MessageLaws.{wide32, IsBytes-take}
 use Rattle.pp_tree.proofs.Sizes.{chunk_size_range}
 use Rattle.pp_wire.specs.Put.{IsPut, IsSpan}
+use Rattle.pp_wire.proofs.Puts.{placed_front}
 use Rattle.pp_wire.specs.declared.message.PutFault.{PutFault}
 use Rattle.pp_wire.specs.declared.message.PutFault.TheVariants as faults
 use Rattle.pp_core.specs.Writing.{IsDatagram, IsFront, IsWritten, own_options, span_under}
-
--- the front of a buffer in which a text was placed
-pub placed_front : (old : List ℕ) (at : ℕ) (text : List ℕ) → at + length text ≤ length old → take (at + length text) (placed old at text) ≡ take at old ++ text
-placed_front old at text le =
-    take_at (take at old ++ text) (drop (at + length text) old) (at + length text) (omega (arith, length-append (take at old) text, length-take at old))
 
 all_push : (P : Message → Type 0) (ms : List Message) (m : Message) → AllByRecursion P ms → P m → AllByRecursion P (ms ++ m ∷ [])
 all_push P [] m all h = (h, tt)
@@ -111,25 +107,6 @@ begun d front old channel low is some fits =
     }
 
 -- ---- how long messages are
-
-length_span : (method : Method) (s : Span) → length (spell_span method s) ≤ 16
-length_span Bin32 s = omega (arith, wide32.len (bin_number_of s))
-length_span Range32 s = omega (arith, length-append (to_be_bytes w32 s.first) (to_be_bytes w32 s.last), wide32.len s.first, wide32.len s.last)
-length_span Bin64 s = omega (arith, wide64.len (bin_number_of s))
-length_span Range64 s = omega (arith, length-append (to_be_bytes w64 s.first) (to_be_bytes w64 s.last), wide64.len s.first, wide64.len s.last)
-
-pub length_have : (method : Method) (s : Span) → length (spell method (Have s)) ≤ 17
-unfolding spell
-length_have method s = omega (arith, length_span method s)
-
-pub length_integrity : (method : Method) (s : Span) (digest : List ℕ) → length digest ≡ 32 → length (spell method (Integrity s digest)) ≤ 49
-unfolding spell
-length_integrity method s digest len = omega (arith, length_span method s, length-append (spell_span method s) digest)
-
-pub length_data : (method : Method) (i sent_at : ℕ) (bytes : List ℕ) → length (spell method (Data i sent_at bytes)) ≤ 25 + length bytes
-unfolding spell
-length_data method i sent_at bytes =
-    omega (arith, length_span method (only i), length-append (spell_span method (only i)) (to_be_bytes w64 sent_at ++ bytes), length-append (to_be_bytes w64 sent_at) bytes, wide64.len sent_at)
 
 pub length_handshake : (d : Descriptor) (local : ℕ) → length d.root ≡ 32 → length (spell d.method (Handshake local (own_options d))) ≡ 60
 unfolding spell spelling_of

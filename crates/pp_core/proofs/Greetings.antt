@@ -7,7 +7,7 @@ use Rattle.pp_terms.specs.format.Descriptor.{Descriptor, chunks_of}
 use Rattle.pp_terms.specs.format.Options.{Options, IsBytes}
 use Rattle.pp_terms.specs.format.Messages.{Message, WireKind, Read, End, Cut, next_message, moved, Messages, messages_at, datagram}
 use Rattle.pp_terms.proofs.DatagramLaws.{one_by_one}
-use Rattle.pp_terms.proofs.MovedSteps.{moved_end}
+use Rattle.pp_terms.proofs.MovedSteps.{moved_end, cut_at}
 use Rattle.pp_terms.proofs.Spellings.{IsBytes-drop}
 use Rattle.pp_wire.specs.Views.{message_of}
 use Rattle.pp_wire.specs.declared.message.Message as code
@@ -19,7 +19,7 @@ use Rattle.pp_core.specs.Taking.{Taken, leaves, is_short, is_stranger, is_refuse
 use Rattle.pp_core.specs.declared.counts.Counts.{Counts}
 use Rattle.pp_core.specs.declared.channel.Channel.{Channel}
 use Rattle.pp_core.specs.declared.hearing.Heard.{Heard}
-use Rattle.pp_core.proofs.Readings.{is_read, cut_at}
+use Rattle.pp_terms.proofs.ReadSteps.{is_read}
 
 -- with a first message
 pub greets_by : (d : Descriptor) (sender : Address) (bytes : List ℕ) (next : ℕ) (m : Message) (channel : Option Channel) (k : Counts) (numbers : ChaCha)

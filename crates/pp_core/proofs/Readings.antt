@@ -1,63 +1,18 @@
 -- A datagram read message by message.
-use Rattle.std.proofs.Common.{◌≡◌, ℕ, zero, suc, ◌+◌, ◌<◌, ◌≤◌, Bool, true, false, cond, Some, None, List, [], ◌∷◌, length, take, drop, refl, sym, ◌∙◌, ap, arith, zero-add}
-use Rattle.std.proofs.lemmas.List.{length-take, length-drop}
+use Rattle.std.proofs.Common.{◌≡◌, ℕ, ◌<◌, ◌≤◌, Bool, true, false, cond, Some, None, List, [], length, drop, sym, ◌∙◌, ap}
 use Rattle.std.proofs.lemmas.Bool.{cond-true, cond-false}
 use Rattle.pp_terms.specs.format.Descriptor.{Method, Descriptor, chunks_of}
 use Rattle.pp_terms.specs.format.Options.{IsBytes}
-use Rattle.pp_terms.specs.format.Messages.{Message, WireKind, Step, Read, End, Cut, next_message, moved, Messages, messages_at, with_first}
-use Rattle.pp_terms.proofs.MessageLaws.{read_is_spelt, spelt_some}
+use Rattle.pp_terms.specs.format.Messages.{Message, WireKind, Read, End, Cut, next_message, moved, Messages, messages_at}
 use Rattle.pp_terms.proofs.DatagramLaws.{one_by_one}
-use Rattle.pp_terms.proofs.MovedSteps.{moved_end, size_of}
+use Rattle.pp_terms.proofs.MovedSteps.{moved_end, cut_at}
+use Rattle.pp_terms.proofs.ReadSteps.{is_read}
 use Rattle.pp_terms.proofs.Spellings.{IsBytes-drop}
 use Rattle.pp_core.specs.Counting.{rise}
 use Rattle.pp_core.specs.Hearing.{is_outside, is_closing, after_message, is_full, counted, hear_rest}
 use Rattle.pp_core.specs.Progress.{hear_at}
 use Rattle.pp_core.specs.declared.counts.Counts.{Counts}
 use Rattle.pp_core.specs.declared.channel.Channel.{Channel}
-
-pub record Place (at : ℕ) (s : Step) (kind : WireKind) : Type 0 where
-  pub place : ℕ
-  pub is : s ≡ Cut place kind
-
-pub cut_at : (at : ℕ) (s : Step) (place : ℕ) (kind : WireKind) → moved at s ≡ Cut place kind → Place at s kind
-cut_at at (Read n size) place kind e = absurd cc
-cut_at at End place kind e = absurd cc
-cut_at at (Cut there why) place kind e = record { place = there; is = cc }
-
-abbrev no_bytes : List ℕ
-no_bytes = []
-
-drop_twice : (n m : ℕ) (xs : List ℕ) → drop m (drop n xs) ≡ drop (n + m) xs
-drop_twice zero m xs = rw zero-add refl
-drop_twice (suc n) m [] = drop_none m ∙ sym (drop_none (suc n + m))
-  where
-    drop_none : (k : ℕ) → drop k no_bytes ≡ []
-    drop_none zero = refl
-    drop_none (suc k) = refl
-drop_twice (suc n) m (x ∷ xs) = drop_twice n m xs ∙ sym (ap (λ (k : ℕ). drop k (x ∷ xs)) (let e : suc n + m ≡ suc (n + m) = omega arith in e))
-
--- A message stands at the place, and others behind it.
-pub record IsRead (method : Method) (chunk at next : ℕ) (bytes : List ℕ) (m : Message) : Type 0 where
-  pub later : at < next
-  pub within : next ≤ length bytes
-  pub rest : messages_at method chunk at (drop at bytes) ≡ with_first m (messages_at method chunk next (drop next bytes))
-
-pub is_read : (method : Method) (chunk at next : ℕ) (bytes : List ℕ) (m : Message) → 0 < chunk → IsBytes bytes → at ≤ length bytes
-    → moved at (next_message method chunk (drop at bytes)) ≡ Read m next → IsRead method chunk at next bytes m
-is_read method chunk at next bytes m some fits le e =
-    let s = size_of at (next_message method chunk (drop at bytes)) m next e in
-    let begun = read_is_spelt method chunk (drop at bytes) m s.size some (IsBytes-drop at bytes fits) s.is in
-    let longer : 0 < length (take s.size (drop at bytes)) = spelt_some method m (take s.size (drop at bytes)) begun.spelt in
-    let inside : s.size ≤ length (drop at bytes) = begun.within in
-    let there : at + s.size ≤ length bytes = omega (arith, inside, length-drop at bytes) in
-    let moves : 0 < s.size = omega (arith, longer, length-take s.size (drop at bytes)) in
-    record {
-      later = omega (arith, s.ends, moves);
-      within = omega (arith, s.ends, there);
-      rest = (one_by_one method chunk at (drop at bytes) some (IsBytes-drop at bytes fits)).0 m s.size s.is
-          ∙ ap (λ (xs : List ℕ). with_first m (messages_at method chunk (at + s.size) xs)) (drop_twice at s.size bytes)
-          ∙ ap (λ (n : ℕ). with_first m (messages_at method chunk n (drop n bytes))) (sym s.ends);
-    }
 
 abbrev Rest : Method → ℕ → ℕ → List ℕ → Messages
 Rest method chunk at bytes = messages_at method chunk at (drop at bytes)

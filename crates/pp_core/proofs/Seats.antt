@@ -1,6 +1,6 @@
 -- The one channel of a peer, and one record more.
-use Rattle.std.proofs.Common.{◌≡◌, ⊎_elim, ℕ, ◌<◌, leb, eqb, Bool, true, false, cond, ◌&&◌, ◌||◌, List, [], ◌∷◌, length, refl, sym, ◌∙◌, ap, subst, arith}
-use Rattle.std.proofs.lemmas.Bool.{and_parts, and_from, or_cases, or_left, or_right, both_ways, le-leb, eqb-true, eq-eqb}
+use Rattle.std.proofs.Common.{◌≡◌, ⊎_elim, ℕ, ◌<◌, eqb, Bool, true, false, cond, ◌&&◌, ◌||◌, List, [], ◌∷◌, length, refl, sym, ◌∙◌, ap, subst, arith}
+use Rattle.std.proofs.lemmas.Bool.{and_parts, and_from, or_cases, or_left, both_ways, le-leb, eqb-true, eq-eqb}
 use Rattle.std.specs.Cmp.Lexicographic.{pointwise, same_text}
 use Rattle.std.specs.Prelude.{nat_eq}
 use Rattle.pp_terms.specs.format.Traffic.{Address, V4, V6, Record, Received, Quiet, Sent, same_address}
@@ -9,7 +9,7 @@ use Rattle.pp_terms.proofs.Facts.{bytes_same}
 use Rattle.pp_traffic.specs.Past.{now, read, goes_to, is_number, some_since, is_at, EachRecord}
 use Rattle.pp_traffic.specs.Life.{Life, IsLife, greets, answers, comes_on, closes_on}
 use Rattle.pp_traffic.specs.Story.{Line, Taken, story}
-use Rattle.pp_traffic.proofs.OneMore.{at_within, closed_no}
+use Rattle.pp_traffic.proofs.OneMore.{at_within, at_since, at_more, closed_no}
 use Rattle.pp_traffic.proofs.Plains.{at_later, NoneDialled}
 use Rattle.pp_outside.specs.Outside.{address_of}
 use Rattle.pp_core.specs.Standing.{Follows, SeatStands, DialsNone}
@@ -75,22 +75,6 @@ seat_lives d whole c life past s replied = record {
   opened = at_more (greets d life) (λ r. greets d life r || answers d life r) (λ r e. or_left (greets d life r) (answers d life r) e) life.opening past s.opened;
   open_still = s.open_still;
 }
-  where
-    at_since : (test : Record → Bool) (place : ℕ) (xs : List Record) → is_at test place xs ≡ true → some_since test place xs ≡ true
-    at_since test place [] e = absurd cc
-    at_since test place (r ∷ xs) e = ⊎_elim
-        (λ here. let parts = and_parts (eqb place (length xs)) (test r) here in
-        or_left (leb place (length xs) && test r) (some_since test place xs) (and_from (leb place (length xs)) (test r) (le-leb place (length xs) (omega (arith, eqb-true place (length xs) parts.0))) parts.1))
-        (λ before. or_right (leb place (length xs) && test r) (some_since test place xs) (at_since test place xs before))
-        (or_cases (eqb place (length xs) && test r) (is_at test place xs) e)
-
-    at_more : (test more : Record → Bool) → ((r : Record) → test r ≡ true → more r ≡ true) → (place : ℕ) (xs : List Record) → is_at test place xs ≡ true → is_at more place xs ≡ true
-    at_more test more grows place [] e = absurd cc
-    at_more test more grows place (r ∷ xs) e = ⊎_elim
-        (λ here. let parts = and_parts (eqb place (length xs)) (test r) here in
-        or_left (eqb place (length xs) && more r) (is_at more place xs) (and_from (eqb place (length xs)) (more r) parts.0 (grows r parts.1)))
-        (λ before. or_right (eqb place (length xs) && more r) (is_at more place xs) (at_more test more grows place xs before))
-        (or_cases (eqb place (length xs) && test r) (is_at test place xs) e)
 
 -- ---- lines that say nothing
 

@@ -73,7 +73,7 @@ fn put_handshake(descriptor: &Descriptor, local: u32, out: &mut [u8], at: usize)
 }
 
 /// Puts a HAVE.
-#[tactic(auto, using(crate::proofs::Fronts::named_span, crate::proofs::Fronts::length_have))]
+#[tactic(auto, using(crate::proofs::Fronts::named_span, pp_terms::proofs::MessageLengths::length_have))]
 fn put_have(descriptor: &Descriptor, span: Span, out: &mut [u8], at: usize) -> usize
     requires named { IsNamed descriptor.now.method (span_of span) }
     requires room { at + 17 ≤ length out.old }
@@ -117,7 +117,7 @@ fn span_under(node: Node) -> Span
 }
 
 /// Puts the hash of a node.
-#[tactic(auto, using(crate::proofs::Fronts::named_span, crate::proofs::Fronts::length_integrity))]
+#[tactic(auto, using(crate::proofs::Fronts::named_span, pp_terms::proofs::MessageLengths::length_integrity))]
 fn put_hash(descriptor: &Descriptor, span: Span, digest: Digest, out: &mut [u8], at: usize) -> usize
     requires named { IsNamed descriptor.now.method (span_of span) }
     requires room { at + 49 ≤ length out.old }
@@ -153,7 +153,7 @@ fn put_hashes(
 }
 
 /// Puts a chunk.
-#[tactic(auto, using(crate::proofs::Fronts::chunk_named, crate::proofs::Fronts::named_span, crate::proofs::Fronts::length_data))]
+#[tactic(auto, using(crate::proofs::Fronts::chunk_named, crate::proofs::Fronts::named_span, pp_terms::proofs::MessageLengths::length_data))]
 fn put_data(
     descriptor: &Descriptor,
     i: u32,

@@ -2,17 +2,17 @@
 use Rattle.std.proofs.Common.{◌≡◌, inl, inr, ℕ, zero, suc, ◌*◌, ◌+◌, ◌-◌, ◌^◌, ◌<◌, ◌≤◌, true, Option, Some, None, List, [], ◌∷◌, ◌++◌, map, get_or, length, take, refl, sym, ◌∙◌, ap, subst, arith, append_assoc, append-nil}
 use Rattle.std.specs.Prelude.{is_some, unwrap_or}
 use Rattle.std.specs.List.{AllByRecursion}
-use Rattle.std.specs.Int.{w32, w64, to_be_bytes}
+use Rattle.std.specs.Int.{w32, to_be_bytes}
 use Rattle.std.proofs.lemmas.Bool.{cases_lt}
-use Rattle.std.proofs.lemmas.List.{length-append, length-take, take_all}
+use Rattle.std.proofs.lemmas.List.{length-take, take_all}
 use Rattle.std.proofs.lemmas.Nat.{pow_pos}
 use Rattle.pp_terms.specs.tree.Tree as terms
 use Rattle.pp_terms.specs.tree.Book.{LookUp}
 use Rattle.pp_terms.specs.tree.Range.{Span, leaves_of}
 use Rattle.pp_terms.specs.format.Descriptor.{Descriptor, Method, chunks_of}
 use Rattle.pp_terms.specs.format.Options.{IsBytes}
-use Rattle.pp_terms.specs.format.Messages.{Message, Data, Integrity, only, spell, spell_span, MayPrecede}
-use Rattle.pp_terms.proofs.MessageLaws.{wide64, IsBytes-take}
+use Rattle.pp_terms.specs.format.Messages.{Message, Data, Integrity, only, spell, MayPrecede}
+use Rattle.pp_terms.proofs.MessageLaws.{IsBytes-take}
 use Rattle.pp_traffic.specs.Laws.{IsInBook}
 use Rattle.pp_traffic.proofs.PlansInBooks.{full_bound}
 use Rattle.pp_tree.specs.declared.node.Node.{Node}
@@ -22,7 +22,7 @@ use Rattle.pp_draft.specs.Puts.{AddsOne, PutsOne, Adds, IsFront, IsLow}
 use Rattle.pp_draft.proofs.Reading.{in_order, datagram_of_text, spelled_more}
 use Rattle.pp_draft.proofs.Names.{HasName, node_name}
 use Rattle.pp_draft.proofs.Filling.{front_more}
-use Rattle.pp_draft.proofs.Putting.{map_more, adds_more, length_span}
+use Rattle.pp_draft.proofs.Putting.{map_more, adds_more}
 
 -- with room a message is put
 pub room_some : (d : Descriptor) (m : Message) (old new : List ℕ) (at : ℕ) (r : Option ℕ) → at + length (spell d.method m) ≤ length old → PutsOne d m old at r new
@@ -49,10 +49,6 @@ given_low d book nodes k x chunks is most all lt =
     let power = pow_pos n.layer in
     let more : (n.offset + 1) * 2 ^ n.layer ≡ n.offset * 2 ^ n.layer + 2 ^ n.layer = omega arith in
     omega (arith, is)
-
-pub hash_short : (method : Method) (s : Span) (digest : List ℕ) → length digest ≡ 32 → length (spell method (Integrity s digest)) ≤ 49
-unfolding spell
-hash_short method s digest len = omega (arith, length_span method s, length-append (spell_span method s) digest)
 
 hash_is : (book : LookUp) (n : terms.Node) (s : Span) (digest : List ℕ) → s ≡ leaves_of n → book n.layer n.offset ≡ Some digest → Integrity s digest ≡ hash_of book n
 hash_is book n s digest span entry =
@@ -82,11 +78,6 @@ hashes_done d book nodes k old new at end all adds =
     subst (λ (xs : List Node). Adds d (map (hash_of book) (map node_of xs)) old at end new) (take_all k nodes all) adds
 
 -- ---- a chunk behind them
-
-pub chunk_short : (method : Method) (i sent_at : ℕ) (bytes : List ℕ) → length (spell method (Data i sent_at bytes)) ≤ 25 + length bytes
-unfolding spell
-chunk_short method i sent_at bytes =
-    omega (arith, length_span method (only i), length-append (spell_span method (only i)) (to_be_bytes w64 sent_at ++ bytes), length-append (to_be_bytes w64 sent_at) bytes, wide64.len sent_at)
 
 -- a chunk is its own leaf
 pub chunk_name : (method : Method) (i : ℕ) → i < 2 ^ 20 → HasName method (only i)

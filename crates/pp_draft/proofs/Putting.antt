@@ -1,16 +1,18 @@
 -- Messages put behind others.
-use Rattle.std.proofs.Common.{◌≡◌, ℕ, zero, suc, ◌*◌, ◌+◌, ◌<◌, ◌≤◌, Option, Some, None, List, [], ◌∷◌, ◌++◌, map, get_or, length, take, drop, Err, refl, sym, ◌∙◌, ap, subst, arith, append_assoc, append-nil}
+use Rattle.std.proofs.Common.{◌≡◌, ℕ, zero, suc, ◌*◌, ◌+◌, ◌<◌, ◌≤◌, Option, Some, None, List, [], ◌∷◌, ◌++◌, map, get_or, length, take, Err, refl, sym, ◌∙◌, ap, subst, arith, append_assoc, append-nil}
 use Rattle.std.specs.List.{AllByRecursion}
-use Rattle.std.specs.Int.{w16, w32, w64, to_be_bytes}
+use Rattle.std.specs.Int.{w16, w64, to_be_bytes}
 use Rattle.std.proofs.lemmas.List.{length-take, length-append, take_at, take_all, take-take}
 use Rattle.pp_terms.specs.Place.{placed}
-use Rattle.pp_terms.specs.format.Descriptor.{Descriptor, IsDescriptor, Method, Bin32, Range32, Bin64, Range64}
+use Rattle.pp_terms.specs.format.Descriptor.{Descriptor, IsDescriptor, Method}
 use Rattle.pp_terms.specs.format.Options.{spelling_of}
 use Rattle.pp_terms.specs.format.Messages as plain
 use Rattle.pp_terms.specs.format.Messages.{Message, spell, spell_span, bin_number_of, IsSpelt, MayPrecede}
 use Rattle.pp_terms.specs.tree.Range.{Span, leaves_of}
-use Rattle.pp_terms.proofs.MessageLaws.{wide16, wide32, wide64}
+use Rattle.pp_terms.proofs.MessageLaws.{wide16, wide64}
+use Rattle.pp_terms.proofs.MessageLengths.{length_span}
 use Rattle.pp_wire.specs.Put.{IsPut, NamesChunks}
+use Rattle.pp_wire.proofs.Puts.{placed_front}
 use Rattle.pp_wire.specs.declared.message.PutFault.{PutFault}
 use Rattle.pp_wire.specs.declared.message.PutFault.TheVariants as faults
 use Rattle.pp_tree.specs.declared.node.Node.{Node}
@@ -21,11 +23,6 @@ use Rattle.pp_draft.specs.Notes.{own_options, no_options}
 use Rattle.pp_draft.specs.Datagrams.{spelled}
 use Rattle.pp_draft.specs.Puts.{AddsOne, LacksOne, PutsOne, Stands, Adds, Puts, message_for, message_at}
 use Rattle.pp_draft.proofs.Reading.{spelled_more}
-
--- the front of a buffer in which a text was placed
-placed_front : (old : List ℕ) (at : ℕ) (text : List ℕ) → at + length text ≤ length old → take (at + length text) (placed old at text) ≡ take at old ++ text
-placed_front old at text le =
-    take_at (take at old ++ text) (drop (at + length text) old) (at + length text) (omega (arith, length-append (take at old) text, length-take at old))
 
 pub one_added : (d : Descriptor) (m : Message) (old new : List ℕ) (at end : ℕ) → IsSpelt d.method m (spell d.method m) → end ≡ at + length (spell d.method m)
     → end ≤ length old → new ≡ placed old at (spell d.method m) → length new ≡ length old → AddsOne d m old at end new
@@ -104,12 +101,6 @@ handshake_short d source valid = let len = valid.root_length in simp length-appe
 pub close_short : (method : Method) → length (spell method (plain.Handshake 0 no_options)) ≤ 64
 unfolding spell spelling_of
 close_short method = omega arith
-
-pub length_span : (method : Method) (s : Span) → length (spell_span method s) ≤ 16
-length_span Bin32 s = omega (arith, wide32.len (bin_number_of s))
-length_span Range32 s = omega (arith, length-append (to_be_bytes w32 s.first) (to_be_bytes w32 s.last), wide32.len s.first, wide32.len s.last)
-length_span Bin64 s = omega (arith, wide64.len (bin_number_of s))
-length_span Range64 s = omega (arith, length-append (to_be_bytes w64 s.first) (to_be_bytes w64 s.last), wide64.len s.first, wide64.len s.last)
 
 pub range_short : (method : Method) (kind : Kind) (s : Span) → length (spell method (message_for kind s)) ≤ 64
 unfolding spell
