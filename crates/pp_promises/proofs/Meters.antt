@@ -61,10 +61,6 @@ unread_meters d life chunk o at (Quiet a) s s' still e = ap (ended at) e
 unread_meters d life chunk o at (Sent moment receiver bytes) s s' still e = say_meters chunk at (said_in d life (Sent moment receiver bytes)) s s' e
 
 -- nothing flies before the reply
-or_second : (x y : Bool) → x ≡ false → (x || y) ≡ true → y ≡ true
-or_second true y e' e = absurd cc
-or_second false y e' e = e
-
 ended_still : (at : ℕ) (m : Meter) → IsStill m → IsStill (ended at m)
 ended_still at m still = pick (is_due at m)
   where
@@ -107,32 +103,31 @@ earlier_unread false false z e = e
 still_unread : (d : Descriptor) (life : Life) (chunk : ℕ) (past : List Record) → is_read d life past ≡ false → is_bare d life past ≡ true
     → IsStill (meter chunk (read_story d life past))
 still_unread d life chunk [] e bare = refl
-still_unread d life chunk (r ∷ b) e bare = pick (leb life.opening (length b)) (is_read d life (r ∷ b)) e
-    (still_unread d life chunk b (earlier_unread (not life.is_dialled) (leb life.opening (length b) && greets d life r) (is_replied d life b) e) parts.1)
+still_unread d life chunk (r ∷ b) e bare = pick (leb life.opening (length b)) (is_read d life (r ∷ b)) e bare
+    (still_unread d life chunk b (earlier_unread (not life.is_dialled) (leb life.opening (length b) && greets d life r) (is_replied d life b) e))
   where
-    parts : ((is_read d life (r ∷ b) || not (list_any is_any_data (said_in d life r))) ≡ true) × (is_bare d life b ≡ true)
-    parts = and_parts (is_read d life (r ∷ b) || not (list_any is_any_data (said_in d life r))) (is_bare d life b) bare
-
-    none : list_any is_any_data (said_in d life r) ≡ false
-    none = not-true (list_any is_any_data (said_in d life r)) (or_second (is_read d life (r ∷ b)) (not (list_any is_any_data (said_in d life r))) e parts.0)
-
-    pick : (x y : Bool) → y ≡ false → IsStill (meter chunk (read_story d life b))
+    pick : (x y : Bool) → y ≡ false → cond x ((y || not (list_any is_any_data (said_in d life r))) && is_bare d life b) true ≡ true
+        → (is_bare d life b ≡ true → IsStill (meter chunk (read_story d life b)))
         → IsStill (meter chunk (cond x (cond y (told d life (eqb life.opening (length b)) (now (r ∷ b)) r (read_story d life b)) (with_unread d life (eqb life.opening (length b)) (now (r ∷ b)) r (read_story d life b))) []))
-    pick true true e' ih = absurd cc
-    pick true false e' ih = unread_still d life chunk (eqb life.opening (length b)) (now (r ∷ b)) r (read_story d life b) none ih
-    pick false y e' ih = refl
+    pick true true e' bare' ih = absurd cc
+    pick true false e' bare' ih =
+        let parts = and_parts (not (list_any is_any_data (said_in d life r))) (is_bare d life b) bare' in
+        unread_still d life chunk (eqb life.opening (length b)) (now (r ∷ b)) r (read_story d life b)
+        (not-true (list_any is_any_data (said_in d life r)) parts.0) (ih parts.1)
+    pick false y e' bare' ih = refl
 
 pub meters_agree : (d : Descriptor) (life : Life) (chunk : ℕ) (past : List Record) → is_bare d life past ≡ true
     → meter chunk (read_story d life past) ≡ meter chunk (story d life past)
 meters_agree d life chunk [] bare = refl
-meters_agree d life chunk (r ∷ b) bare = pick (leb life.opening (length b)) (is_read d life (r ∷ b)) refl (meters_agree d life chunk b parts.1)
+meters_agree d life chunk (r ∷ b) bare = pick (leb life.opening (length b)) (is_read d life (r ∷ b)) refl bare (meters_agree d life chunk b)
   where
-    parts : ((is_read d life (r ∷ b) || not (list_any is_any_data (said_in d life r))) ≡ true) × (is_bare d life b ≡ true)
-    parts = and_parts (is_read d life (r ∷ b) || not (list_any is_any_data (said_in d life r))) (is_bare d life b) bare
-
-    pick : (x y : Bool) → is_read d life (r ∷ b) ≡ y → meter chunk (read_story d life b) ≡ meter chunk (story d life b)
+    pick : (x y : Bool) → is_read d life (r ∷ b) ≡ y → cond x ((y || not (list_any is_any_data (said_in d life r))) && is_bare d life b) true ≡ true
+        → (is_bare d life b ≡ true → meter chunk (read_story d life b) ≡ meter chunk (story d life b))
         → meter chunk (cond x (cond y (told d life (eqb life.opening (length b)) (now (r ∷ b)) r (read_story d life b)) (with_unread d life (eqb life.opening (length b)) (now (r ∷ b)) r (read_story d life b))) []) ≡ meter chunk (cond x (told d life (eqb life.opening (length b)) (now (r ∷ b)) r (story d life b)) [])
-    pick true true e ih = told_meters d life chunk (eqb life.opening (length b)) (now (r ∷ b)) r (read_story d life b) (story d life b) ih
-    pick true false e ih = unread_meters d life chunk (eqb life.opening (length b)) (now (r ∷ b)) r (read_story d life b) (story d life b)
-        (still_unread d life chunk b (earlier_unread (not life.is_dialled) (leb life.opening (length b) && greets d life r) (is_replied d life b) e) parts.1) ih
-    pick false y e ih = refl
+    pick true true e bare' ih =
+        told_meters d life chunk (eqb life.opening (length b)) (now (r ∷ b)) r (read_story d life b) (story d life b) (ih bare')
+    pick true false e bare' ih =
+        let parts = and_parts (not (list_any is_any_data (said_in d life r))) (is_bare d life b) bare' in
+        unread_meters d life chunk (eqb life.opening (length b)) (now (r ∷ b)) r (read_story d life b) (story d life b)
+        (still_unread d life chunk b (earlier_unread (not life.is_dialled) (leb life.opening (length b) && greets d life r) (is_replied d life b) e) parts.1) (ih parts.1)
+    pick false y e bare' ih = refl

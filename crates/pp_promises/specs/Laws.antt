@@ -1,5 +1,5 @@
 -- Laws of these definitions: what one record more does, and how what is read stands to the whole story.
-use Rattle.std.specs.Prelude.{◌≡◌, ℕ, ◌<◌, Bool, true, false, not, ◌&&◌, ◌||◌, List, [], ◌∷◌, length}
+use Rattle.std.specs.Prelude.{◌≡◌, ℕ, ◌<◌, nat_le, Bool, true, false, not, ◌&&◌, ◌||◌, if◌then◌else◌, List, [], ◌∷◌, length}
 use Rattle.std.specs.List.{list_any}
 use Rattle.pp_terms.specs.tree.Book.{LookUp}
 use Rattle.pp_terms.specs.tree.Claims.{Contradicts}
@@ -48,15 +48,17 @@ abbrev pub BatchesAreInTime : Type 0
 BatchesAreInTime = (is_quiet : Bool) (stored : List ℕ) (now : ℕ) (b : Batch) → is_full b ≡ false
     → CommitsInTime is_quiet stored now b (after_event is_quiet stored now b)
 
--- no chunk was sent on the channel before the other peer's reply
 abbrev pub is_any_data : Message → Bool
 is_any_data (Data chunk sent_at bytes) = true
 is_any_data _ = false
 
+-- no chunk was sent on the channel between its opening and the other peer's reply
 abbrev pub is_bare : Descriptor → Life → List Record → Bool
 is_bare d life [] = true
 is_bare d life (r ∷ before) =
-    (is_read d life (r ∷ before) || not (list_any is_any_data (said_in d life r))) && is_bare d life before
+    if nat_le life.opening (length before)
+    then (is_read d life (r ∷ before) || not (list_any is_any_data (said_in d life r))) && is_bare d life before
+    else true
 
 -- Then what was left unread moves no window.
 abbrev pub MetersAgree : Type 0
