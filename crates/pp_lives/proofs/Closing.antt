@@ -13,6 +13,7 @@ use Rattle.pp_lives.specs.Reading.{is_waiting}
 use Rattle.pp_channels.specs.Seats.{Seats, channel_at}
 use Rattle.pp_lives.specs.Standing.{Stands, StandsAt, read_of, read_at, WaitsBlank, Seated}
 use Rattle.pp_lives.specs.Calls.{Drops, Ends}
+use Rattle.pp_lives.proofs.Each.{each_by}
 
 abbrev pub Shadowed : Channel → Channel → Channel
 Shadowed dropped e = record e { shadowed = e.shadowed || is_same dropped.address e.address }
@@ -27,7 +28,7 @@ stands_shadowed d b e life past s = record {
   local_some = s.local_some;
   opened = s.opened;
   made = s.made;
-  goes = let g = s.goes in record { open_still = g.open_still; has_begun = g.has_begun; proven = g.proven; heard = g.heard; greeted = g.greeted };
+  goes = let g = s.goes in record { open_still = g.open_still; has_begun = g.has_begun; proven = g.proven; heard = g.heard; greeted = g.greeted; bare = g.bare };
 }
 
 at_dropped : (d : Descriptor) (dropped : Channel) (o : Option Channel) (l : Option Life) (past : List Record) → StandsAt d o l past
@@ -56,13 +57,10 @@ pub dropped_seated : (d : Descriptor) (t new : Seats) (lives : ℕ → Option Li
     → Seated d t lives past → AreSeats new.channels → Drops t new seat c → Seated d new lives past
 dropped_seated d t new lives seat c past s are drops = record {
   are = are;
-  each = λ other. ⊎_elim
-      (λ same. subst (λ (o : Option Channel). StandsAt d o (lives other) past) (sym (ap (channel_at new) (eqb-true other seat same) ∙ drops.free)) tt)
-      (λ apart. let ne = eqb-false other seat apart in
-      subst (λ (o : Option Channel). StandsAt d o (lives other) past) (sym (drops.others other ne))
-      (
-      (at_dropped d c (channel_at t other) (lives other) past (s.each other))))
-      (cases_Bool (eqb other seat));
+  each = each_by (λ (k : ℕ). StandsAt d (channel_at new k) (lives k) past) seat
+      (subst (λ (o : Option Channel). StandsAt d o (lives seat) past) (sym drops.free) tt)
+      (λ other ne. subst (λ (o : Option Channel). StandsAt d o (lives other) past) (sym (drops.others other ne))
+      (at_dropped d c (channel_at t other) (lives other) past (s.each other)));
   apart = λ one other a e remote at_one at_other ra re same.
       let x = (before_drop t new seat c drops one a at_one).1 in
       let y = (before_drop t new seat c drops other e at_other).1 in

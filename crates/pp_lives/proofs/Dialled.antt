@@ -20,6 +20,7 @@ use Rattle.pp_lives.specs.Reading.{is_proven, is_waiting}
 use Rattle.pp_channels.specs.Seats.{Seats, channel_at}
 use Rattle.pp_lives.specs.Standing.{Stands, StandsAt, once_known, read_of, read_at, WaitsBlank, Seated}
 use Rattle.pp_lives.specs.Calls.{Changes, Steady, with_life, dialled_life, IsDialOf}
+use Rattle.pp_lives.proofs.Each.{each_by}
 use Rattle.pp_lives.proofs.Telling.{since_same, same_both, read_sent}
 use Rattle.pp_lives.proofs.Staying.{began, waits_dialled, waits_unproven, at_apart}
 use Rattle.pp_lives.proofs.Own.{stands_of, still_apart, at_seat_now}
@@ -93,6 +94,7 @@ stands_dialled d c moment receiver bytes past is was_waiting some made c' st beg
         proven = waits_unproven c' waits ∙ sym (since_same (shakes_on d life) (length past) r past refl ∙ none_from_end (shakes_on d life) (length past) past (omega arith));
         heard = λ p. absurd (both_ways (is_proven c') (waits_unproven c' waits) p);
         greeted = λ k. absurd (both_ways (is_waiting c') k waits);
+        bare = λ k. absurd (both_ways (is_waiting c') k waits);
       };
     }
 
@@ -120,16 +122,13 @@ dialled_seated d t new lives seat c c' moment receiver bytes past s there living
     let living_else : (other : ℕ) → eqb other seat ≡ false → lives' other ≡ lives other = λ other apart. cond-false (eqb other seat) (Some l') (lives other) apart in
     record {
       are = are;
-      each = λ other. ⊎_elim
-          (λ same. subst (λ (k : ℕ). StandsAt d (channel_at new k) (lives' k) (r ∷ past)) (sym (eqb-true other seat same))
+      each = each_by (λ (k : ℕ). StandsAt d (channel_at new k) (lives' k) (r ∷ past)) seat
           (at_seat_now d (channel_at new seat) (lives' seat) c' l' (r ∷ past) ch.there living_there
-          (stands_dialled d c moment receiver bytes past is waits_here (s.are.some seat c there) made c' st begun)))
-          (λ apart. let ne = eqb-false other seat apart in
-          subst (λ (x : Option Life). StandsAt d (channel_at new other) x (r ∷ past)) (sym (living_else other apart))
+          (stands_dialled d c moment receiver bytes past is waits_here (s.are.some seat c there) made c' st begun))
+          (λ other ne. subst (λ (x : Option Life). StandsAt d (channel_at new other) x (r ∷ past)) (sym (living_else other (ne_eqb other seat ne)))
           (subst (λ (x : Option Channel). StandsAt d x (lives other) (r ∷ past)) (sym (ch.others other ne))
           (at_apart d (channel_at t other) (lives other) r past
-          (λ e l also lives_there. (dial_of_one d t lives past seat c r s there is other e l ne also lives_there, sent_misses d e l moment receiver bytes)) (s.each other))))
-          (cases_Bool (eqb other seat));
+          (λ e l also lives_there. (dial_of_one d t lives past seat c r s there is other e l ne also lives_there, sent_misses d e l moment receiver bytes)) (s.each other))));
       apart = still_apart d t new lives past seat c c' s there (steady_alike c c' st) ch;
       blank = λ other e l also lives_there waits. ⊎_elim
           (λ same. λ n some. inl (
@@ -155,15 +154,12 @@ redialled_seated d t new lives seat c c' life moment receiver bytes past s there
     let own = stands_of d (channel_at t seat) (lives seat) c life past (s.each seat) there living in
     record {
       are = are;
-      each = λ other. ⊎_elim
-          (λ same. subst (λ (k : ℕ). StandsAt d (channel_at new k) (lives k) (r ∷ past)) (sym (eqb-true other seat same))
+      each = each_by (λ (k : ℕ). StandsAt d (channel_at new k) (lives k) (r ∷ past)) seat
           (at_seat_now d (channel_at new seat) (lives seat) c' life (r ∷ past) ch.there living
-          (stands_said d c c' life moment receiver bytes past st begun own)))
-          (λ apart. let ne = eqb-false other seat apart in
-          subst (λ (x : Option Channel). StandsAt d x (lives other) (r ∷ past)) (sym (ch.others other ne))
+          (stands_said d c c' life moment receiver bytes past st begun own))
+          (λ other ne. subst (λ (x : Option Channel). StandsAt d x (lives other) (r ∷ past)) (sym (ch.others other ne))
           (at_apart d (channel_at t other) (lives other) r past
-          (λ e l also lives_there. (dial_of_one d t lives past seat c r s there is other e l ne also lives_there, sent_misses d e l moment receiver bytes)) (s.each other)))
-          (cases_Bool (eqb other seat));
+          (λ e l also lives_there. (dial_of_one d t lives past seat c r s there is other e l ne also lives_there, sent_misses d e l moment receiver bytes)) (s.each other)));
       apart = still_apart d t new lives past seat c c' s there (steady_alike c c' st) ch;
       blank = λ other e l also lives_there waits.
           let x = was_steady t new seat c c' there st ch other e also in

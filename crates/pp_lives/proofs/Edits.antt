@@ -1,7 +1,7 @@
 -- Changes of the seats that no record goes with.
 use Rattle.std.specs.Prelude.{min, nat_lt}
 use Rattle.std.proofs.Common.{◌≡◌, ◌+◌, arith, inl, inr, ⊎_elim, ℕ, eqb, Bool, true, false, not, ◌&&◌, Option, Some, None, List, refl, sym, ◌∙◌, ap, subst}
-use Rattle.std.proofs.lemmas.Bool.{cases_Bool, cond-true, cond-false, eqb-true, eqb-false, eq-eqb, lt-ltb}
+use Rattle.std.proofs.lemmas.Bool.{cases_Bool, cond-true, cond-false, eqb-true, eqb-false, eq-eqb, ne_eqb, lt-ltb}
 use Rattle.std.proofs.lemmas.Option.{same_Some}
 use Rattle.pp_terms.specs.format.Traffic.{Record}
 use Rattle.pp_terms.specs.format.Descriptor.{Descriptor}
@@ -20,6 +20,7 @@ use Rattle.pp_lives.specs.Reading.{is_proven, is_waiting}
 use Rattle.pp_channels.specs.Seats.{Seats, channel_at}
 use Rattle.pp_lives.specs.Standing.{Stands, IsUnbegun, StandsAt, once_known, read_of, read_at, Seated}
 use Rattle.pp_lives.specs.Calls.{Changes, Steady, with_life}
+use Rattle.pp_lives.proofs.Each.{each_by}
 use Rattle.pp_lives.proofs.Own.{Alike, still_apart}
 
 -- ---- what stays
@@ -48,6 +49,7 @@ stands_steady d c new life past st begun s =
         proven = proven ∙ g.proven;
         heard = λ p. g.heard (sym proven ∙ p) ∙ ap (λ (n : ℕ). Some n) (sym st.heard);
         greeted = λ k. g.greeted (sym waits ∙ k);
+        bare = λ k. g.bare (sym waits ∙ k);
       };
     }
 
@@ -99,12 +101,10 @@ pub steady_seated : (d : Descriptor) (t new : Seats) (lives : ℕ → Option Lif
     → Seated d t lives past → channel_at t seat ≡ Some c → Steady c c' → is_begun c'.opening ≡ is_begun c.opening → AreSeats new.channels → Changes t new seat (Some c') → Seated d new lives past
 steady_seated d t new lives seat c c' past s there st begun are ch = record {
   are = are;
-  each = λ other. ⊎_elim
-      (λ same. subst (λ (k : ℕ). StandsAt d (channel_at new k) (lives k) past) (sym (eqb-true other seat same))
+  each = each_by (λ (k : ℕ). StandsAt d (channel_at new k) (lives k) past) seat
       (subst (λ (o : Option Channel). StandsAt d o (lives seat) past) (sym ch.there)
-      (at_steady d c c' (lives seat) past st begun (subst (λ (o : Option Channel). StandsAt d o (lives seat) past) there (s.each seat)))))
-      (λ apart. subst (λ (o : Option Channel). StandsAt d o (lives other) past) (sym (ch.others other (eqb-false other seat apart))) (s.each other))
-      (cases_Bool (eqb other seat));
+      (at_steady d c c' (lives seat) past st begun (subst (λ (o : Option Channel). StandsAt d o (lives seat) past) there (s.each seat))))
+      (λ other ne. subst (λ (o : Option Channel). StandsAt d o (lives other) past) (sym (ch.others other ne)) (s.each other));
   apart = still_apart d t new lives past seat c c' s there (steady_alike c c' st) ch;
   blank = λ other e l also lives_there waits remote some.
       let x = was_steady t new seat c c' there st ch other e also in
@@ -180,16 +180,11 @@ dials_seated d t new lives seat receiver moment local past s free are ch =
     let hasnt : IsUnbegun c' = record { none = refl; waits = refl } in
     record {
       are = are;
-      each = λ other. ⊎_elim
-          (λ same. subst (λ (k : ℕ). StandsAt d (channel_at new k) (lives' k) past) (sym (eqb-true other seat same))
-          (
+      each = each_by (λ (k : ℕ). StandsAt d (channel_at new k) (lives' k) past) seat
           (subst (λ (o : Option Channel). StandsAt d o (lives' seat) past) (sym ch.there)
-          (subst (λ (l : Option Life). StandsAt d (Some c') l past) (sym living_there) hasnt))))
-          (λ apart. let ne = eqb-false other seat apart in
-          subst (λ (x : Option Life). StandsAt d (channel_at new other) x past) (sym (living_else other apart))
-          (
-          (subst (λ (o : Option Channel). StandsAt d o (lives other) past) (sym (ch.others other ne)) (s.each other))))
-          (cases_Bool (eqb other seat));
+          (subst (λ (l : Option Life). StandsAt d (Some c') l past) (sym living_there) hasnt))
+          (λ other ne. subst (λ (x : Option Life). StandsAt d (channel_at new other) x past) (sym (living_else other (ne_eqb other seat ne)))
+          (subst (λ (o : Option Channel). StandsAt d o (lives other) past) (sym (ch.others other ne)) (s.each other)));
       apart = λ one other a e n at_one at_other ra re same. ⊎_elim
           (λ one_is. absurd (let x = ap (λ (z : Channel). z.remote) (is_there one a one_is at_one) ∙ ra in cc))
           (λ one_apart. ⊎_elim

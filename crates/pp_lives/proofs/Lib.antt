@@ -1,3 +1,5 @@
+pub mod Each
+pub mod Bare
 pub mod Telling
 pub mod Staying
 pub mod Own
@@ -18,5 +20,6 @@ pub mod Arrivals
 pub mod Dispatch
 pub mod Wholes
 pub mod Seated
+pub mod SeatReads
 pub mod Kept
 pub mod Openings

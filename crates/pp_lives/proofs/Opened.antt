@@ -19,6 +19,8 @@ use Rattle.pp_lives.specs.Reading.{is_waiting}
 use Rattle.pp_channels.specs.Seats.{Seats, channel_at}
 use Rattle.pp_lives.specs.Standing.{Stands, StandsAt, read_of, read_at, Seated}
 use Rattle.pp_lives.specs.Calls.{Changes, with_life, opened_life, TellsFirst}
+use Rattle.pp_lives.proofs.Each.{each_by}
+use Rattle.pp_lives.proofs.Bare.{bare_more, bare_before}
 use Rattle.pp_lives.proofs.Telling.{since_same}
 use Rattle.pp_lives.proofs.Staying.{at_apart, blank_missed}
 use Rattle.pp_lives.proofs.Own.{stands_of, at_seat_now, told_is, told_missed}
@@ -81,6 +83,7 @@ stands_opened d t seat sender remote local moment bytes past is =
         heard = λ p. absurd cc;
         greeted = λ k. or_left (leb (length past) (length past) && greets d life r) (some_since (greets d life) (length past) past)
             (and_from (leb (length past) (length past)) (greets d life r) (le-leb (length past) (length past) (omega arith)) greets_now);
+        bare = λ k. bare_more d life r past (omega arith) refl (bare_before d life past (omega arith));
       };
     }
 
@@ -104,16 +107,12 @@ opened_seated d t new lives seat sender remote local moment bytes past s is are 
     let misses = zero_misses d t lives r past s is.number in
     record {
       are = are;
-      each = λ other. ⊎_elim
-          (λ same. subst (λ (k : ℕ). StandsAt d (channel_at new k) (lives' k) (r ∷ past)) (sym (eqb-true other seat same))
+      each = each_by (λ (k : ℕ). StandsAt d (channel_at new k) (lives' k) (r ∷ past)) seat
           (at_seat_now d (channel_at new seat) (lives' seat) c' l' (r ∷ past) ch.there living_there
-          (stands_opened d t seat sender remote local moment bytes past is)))
-          (λ apart. let ne = eqb-false other seat apart in
-          subst (λ (x : Option Life). StandsAt d (channel_at new other) x (r ∷ past)) (sym (living_else other apart))
-          (
+          (stands_opened d t seat sender remote local moment bytes past is))
+          (λ other ne. subst (λ (x : Option Life). StandsAt d (channel_at new other) x (r ∷ past)) (sym (living_else other (ne_eqb other seat ne)))
           (subst (λ (x : Option Channel). StandsAt d x (lives other) (r ∷ past)) (sym (ch.others other ne))
-          (at_apart d (channel_at t other) (lives other) r past (λ e l also lives_there. (refl, misses other e l also lives_there)) (s.each other)))))
-          (cases_Bool (eqb other seat));
+          (at_apart d (channel_at t other) (lives other) r past (λ e l also lives_there. (refl, misses other e l also lives_there)) (s.each other))));
       apart = λ one other a e n at_one at_other ra re same. ⊎_elim
           (λ one_is. ⊎_elim
           (λ other_is. eqb-true one seat one_is ∙ sym (eqb-true other seat other_is))

@@ -20,6 +20,8 @@ use Rattle.pp_lives.specs.Reading.{is_waiting}
 use Rattle.pp_channels.specs.Seats.{Seats, channel_at}
 use Rattle.pp_lives.specs.Standing.{Stands, StandsAt, once_known, read_of, read_at, WaitsBlank, Seated}
 use Rattle.pp_lives.specs.Calls.{Changes, hears, looked, heard_more, TellsOne}
+use Rattle.pp_lives.proofs.Each.{each_by}
+use Rattle.pp_lives.proofs.Bare.{bare_more}
 use Rattle.pp_lives.proofs.Telling.{since_same, now_later, heard_now, no_shake, read_more, replied_stays}
 use Rattle.pp_lives.proofs.Staying.{Misses, began, at_apart, read_missed, blank_missed}
 
@@ -93,6 +95,7 @@ stands_heard d c life moment sender bytes past open_still s known on =
         proven = sym (shows_now d c life r past s known on);
         heard = λ p. heard_now d life r past lt on;
         greeted = λ k. or_right (leb life.opening (length past) && greets d life r) (some_since (greets d life) life.opening past) (g.greeted known);
+        bare = λ k. bare_more d life r past (omega (arith, lt)) (reads_on d c life r past s known) (g.bare known);
       };
     }
 
@@ -213,15 +216,13 @@ heard_seated d t new lives seat c life moment sender bytes past s are ch there l
     let like : Alike c c' = record { address = refl; remote = refl; waits = and_right (is_dialled c.opening) (is_greeted c'.state) refl ∙ sym known } in
     record {
       are = are;
-      each = λ other. ⊎_elim
-          (λ same. subst (λ (k : ℕ). StandsAt d (channel_at new k) (lives k) (r ∷ past)) (sym (eqb-true other seat same))
+      each = each_by (λ (k : ℕ). StandsAt d (channel_at new k) (lives k) (r ∷ past)) seat
           (at_seat_now d (channel_at new seat) (lives seat) c' life (r ∷ past) ch.there living
-          (stands_heard d c life moment sender bytes past open_still stands known on)))
-          (λ apart. at_others d t new seat (Some c') (lives other) (r ∷ past) other (eqb-false other seat apart) ch
+          (stands_heard d c life moment sender bytes past open_still stands known on))
+          (λ other ne. at_others d t new seat (Some c') (lives other) (r ∷ past) other ne ch
           (at_apart d (channel_at t other) (lives other) r past
-          (λ e l also lives_there. (refl, missed_by d e l r (others_apart d t lives past seat c r s there number other e l (eqb-false other seat apart) also lives_there)))
-          (s.each other)))
-          (cases_Bool (eqb other seat));
+          (λ e l also lives_there. (refl, missed_by d e l r (others_apart d t lives past seat c r s there number other e l ne also lives_there)))
+          (s.each other)));
       apart = still_apart d t new lives past seat c c' s there like ch;
       blank = λ other e l also lives_there waits. ⊎_elim
           (λ same. absurd (both_ways (is_waiting c) known (sym (like.waits) ∙ ap is_waiting (same_Some c' e (sym ch.there ∙ ap (channel_at new) (sym (eqb-true other seat same)) ∙ also)) ∙ waits)))

@@ -20,6 +20,8 @@ use Rattle.pp_lives.specs.Reading.{is_waiting}
 use Rattle.pp_channels.specs.Seats.{Seats, channel_at}
 use Rattle.pp_lives.specs.Standing.{Stands, StandsAt, once_known, read_of, read_at, Seated}
 use Rattle.pp_lives.specs.Calls.{Changes, with_life, replied, as_dial, TellsFirst}
+use Rattle.pp_lives.proofs.Each.{each_by}
+use Rattle.pp_lives.proofs.Bare.{bare_more, blank_bare}
 use Rattle.pp_lives.proofs.Telling.{since_same, now_later, heard_now, read_more, replied_read, fitting_begins}
 use Rattle.pp_lives.proofs.Staying.{Misses, began, waits_dialled, at_apart, blank_missed}
 use Rattle.pp_lives.proofs.Own.{stands_of, others_apart, missed_by, at_seat_now, at_others, told_is, told_missed}
@@ -41,11 +43,24 @@ pub dial_is : (d : Descriptor) (c : Channel) (life : Life) (past : List Record) 
 dial_is d c life past s waits remote =
     ap (λ (b : Bool). let x : Life = record { address = life.address; local = life.local; remote = remote; is_dialled = b; opening = life.opening } in x) (s.dialled ∙ waits_dialled c waits)
 
+-- until its reply nothing was said on the channel
+blank_until : (d : Descriptor) (t : Seats) (lives : ℕ → Option Life) (seat : ℕ) (c : Channel) (life : Life) (remote : ℕ) (past : List Record) (r : Record)
+    → Seated d t lives past → IsReplyFor d t seat c remote r → lives seat ≡ Some life → is_blank (read_story d (as_dial life remote) past) ≡ true
+blank_until d t lives seat c life remote past r s is living =
+    let st = stands_of d (channel_at t seat) (lives seat) c life past (s.each seat) is.there living in
+    ap (λ (x : Life). is_blank (read_story d x past)) (sym (dial_is d c life past st is.waits remote)) ∙ ⊎_elim
+    (λ blank. blank)
+    (λ elsewhere. ⊎_elim
+    (λ shadowed. absurd (both_ways c.shadowed is.unshadowed shadowed))
+    (λ source. absurd (both_ways (is_source c.address remote (channel_at t source.0)) (is.new_source source.0) source.1))
+    elsewhere)
+    (s.blank seat c life is.there living is.waits remote is.some)
+
 stands_replied : (d : Descriptor) (t : Seats) (seat : ℕ) (c : Channel) (life : Life) (remote moment : ℕ) (sender : traffic.Address) (bytes : List ℕ) (past : List Record)
     → closes (read d (Received moment sender bytes)).messages.read ≡ false
-    → IsReplyFor d t seat c remote (Received moment sender bytes) → Stands d c life past
+    → IsReplyFor d t seat c remote (Received moment sender bytes) → Stands d c life past → is_blank (read_story d (as_dial life remote) past) ≡ true
     → Stands d (replied remote (max moment (now past)) c) (as_dial life remote) (Received moment sender bytes ∷ past)
-stands_replied d t seat c life remote moment sender bytes past open_still is s =
+stands_replied d t seat c life remote moment sender bytes past open_still is s blank =
     let r = Received moment sender bytes in
     let new = as_dial life remote in
     let lt = began d c life past s in
@@ -56,6 +71,8 @@ stands_replied d t seat c life remote moment sender bytes past open_still is s =
     let on : comes_on d new r ≡ true = and_from (comes_from life.address r) (is_number life.local (read d r).channel) from (ap (is_number life.local) is.number ∙ eq-eqb c.local life.local (sym s.local)) in
     let shakes : shakes_on d new r ≡ true = and_from (comes_on d new r) (begins (read d r).messages.read) on (fitting_begins d true remote (read d r).messages.read is.fitting) in
     let here : leb life.opening (length past) ≡ true = le-leb life.opening (length past) (omega arith) in
+    let greeted : some_since (greets d new) life.opening (r ∷ past) ≡ true = or_left (leb life.opening (length past) && greets d new r) (some_since (greets d new) life.opening past)
+    (and_from (leb life.opening (length past)) (greets d new r) here (and_from (comes_from life.address r && is_number life.local (read d r).channel) (begins_fitting d true remote (read d r).messages.read) on is.fitting)) in
     record {
       address = s.address;
       local = s.local;
@@ -70,8 +87,8 @@ stands_replied d t seat c life remote moment sender bytes past open_still is s =
         has_begun = subst (λ (l : Life). is_begun c.opening ≡ some_since (answers d l) life.opening past) same g.has_begun ∙ sym (since_same (answers d new) life.opening r past refl);
         proven = sym (or_left (leb life.opening (length past) && shakes_on d new r) (some_since (shakes_on d new) life.opening past) (and_from (leb life.opening (length past)) (shakes_on d new r) here shakes));
         heard = λ p. heard_now d new r past lt on;
-        greeted = λ k. or_left (leb life.opening (length past) && greets d new r) (some_since (greets d new) life.opening past)
-            (and_from (leb life.opening (length past)) (greets d new r) here (and_from (comes_from life.address r && is_number life.local (read d r).channel) (begins_fitting d true remote (read d r).messages.read) on is.fitting));
+        greeted = λ k. greeted;
+        bare = λ k. bare_more d new r past (omega (arith, lt)) (replied_read d new (r ∷ past) greeted) (blank_bare d new past blank);
       };
     }
 
@@ -102,14 +119,12 @@ replied_seated d t new lives seat c life remote moment sender bytes past s is li
     λ other e l apart also lives_there. missed_by d e l r (others_apart d t lives past seat c r s is.there is.number other e l (eqb-false other seat apart) also lives_there) in
     record {
       are = are;
-      each = λ other. ⊎_elim
-          (λ same. subst (λ (k : ℕ). StandsAt d (channel_at new k) (lives' k) (r ∷ past)) (sym (eqb-true other seat same))
+      each = each_by (λ (k : ℕ). StandsAt d (channel_at new k) (lives' k) (r ∷ past)) seat
           (at_seat_now d (channel_at new seat) (lives' seat) c' l' (r ∷ past) ch.there living_there
-          (stands_replied d t seat c life remote moment sender bytes past open_still is st)))
-          (λ apart. subst (λ (x : Option Life). StandsAt d (channel_at new other) x (r ∷ past)) (sym (living_else other apart))
-          (at_others d t new seat (Some c') (lives other) (r ∷ past) other (eqb-false other seat apart) ch
-          (at_apart d (channel_at t other) (lives other) r past (λ e l also lives_there. (refl, misses other e l apart also lives_there)) (s.each other))))
-          (cases_Bool (eqb other seat));
+          (stands_replied d t seat c life remote moment sender bytes past open_still is st (blank_until d t lives seat c life remote past (Received moment sender bytes) s is living)))
+          (λ other ne. subst (λ (x : Option Life). StandsAt d (channel_at new other) x (r ∷ past)) (sym (living_else other (ne_eqb other seat ne)))
+          (at_others d t new seat (Some c') (lives other) (r ∷ past) other ne ch
+          (at_apart d (channel_at t other) (lives other) r past (λ e l also lives_there. (refl, misses other e l (ne_eqb other seat ne) also lives_there)) (s.each other))));
       apart = λ one other a e n at_one at_other ra re same. ⊎_elim
           (λ one_is. ⊎_elim
           (λ other_is. eqb-true one seat one_is ∙ sym (eqb-true other seat other_is))
@@ -177,13 +192,7 @@ replied_tells d t new lives seat c life remote moment sender bytes past s is liv
       none = ap (λ (o : Option Channel). read_of d o (lives seat) past) is.there ∙ ap (λ (x : Option Life). read_of d (Some c) x past) living ∙ ap (λ (b : Bool). once_known b (read_story d life past)) is.waits;
       own = record {
         before = read_story d l' past;
-        nothing = ap (λ (x : Life). is_blank (read_story d x past)) (sym (dial_is d c life past st is.waits remote)) ∙ ⊎_elim
-            (λ blank. blank)
-            (λ elsewhere. ⊎_elim
-            (λ shadowed. absurd (both_ways c.shadowed is.unshadowed shadowed))
-            (λ source. absurd (both_ways (is_source c.address remote (channel_at t source.0)) (is.new_source source.0) source.1))
-            elsewhere)
-            (s.blank seat c life is.there living is.waits remote is.some);
+        nothing = blank_until d t lives seat c life remote past r s is living;
         is = told_is d (channel_at new seat) (lives' seat) c' l' (r ∷ past) ch.there (cond-true (eqb seat seat) (Some l') (lives seat) (eq-eqb seat seat refl)) unwaits
             ∙ ap (λ (x : List Line). Some x) (read_more d l' moment sender bytes past (began d c life past st)
             (replied_read d l' (r ∷ past) greeted) on);

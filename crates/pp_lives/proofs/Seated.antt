@@ -7,7 +7,7 @@ use Rattle.std.proofs.lemmas.Bool.{cases_Bool, eqb-true, eqb-false}
 use Rattle.pp_terms.specs.format.Descriptor.{Descriptor}
 use Rattle.pp_terms.specs.format.Messages.{Messages, messages_at}
 use Rattle.pp_outside.specs.declared.link.Address.{Address}
-use Rattle.pp_channels.specs.Seats.{Seats, channel_at, AreSeats, IsUsedSeat, is_found, answered, changed, free_seat, with_channel}
+use Rattle.pp_channels.specs.Seats.{Seats, channel_at, AreSeats, IsUsedSeat, is_found, is_source, answered, unreplied, changed, free_seat, with_channel}
 use Rattle.pp_channels.specs.declared.channel.State.TheVariants.{Proven}
 use Rattle.pp_channels.specs.declared.channel.Channel.{Channel}
 use Rattle.pp_lives.specs.Arriving.{Arrives, IsNumbered, Greets, Numbered, IsSeated, Proves, IsBehind, is_proven_at, contents}
@@ -27,13 +27,27 @@ found_seat t seat number sender are found =
     let c = there_of (is_found number sender) (channel_at t seat) refl p.1 in
     record { channel = c.0; there = c.1; low = (let lt = p.0 in let is = are.seats in omega arith) }
 
--- the channel at a seat that was changed twice, and one that was made
+source_seat : (t : Seats) (seat source : ℕ) (sender : Address) → AreSeats t.channels → position (is_source sender source) t.channels ≡ Some seat → IsThere t seat
+source_seat t seat source sender are found =
+    let p = position-Some (is_source sender source) t.channels seat None found in
+    let c = there_of (is_source sender source) (channel_at t seat) refl p.1 in
+    record { channel = c.0; there = c.1; low = (let lt = p.0 in let is = are.seats in omega arith) }
+
+-- the channel at a seat that was changed once or twice, and one that was made
 record IsAt (new : Seats) (seat : ℕ) (c : Channel) : Type 0 where
   there : channel_at new seat ≡ Some c
   low : seat < 64
 
 used_at : (new : Seats) (seat : ℕ) (c : Channel) → IsAt new seat c → IsUsedSeat new seat
 used_at new seat c is = (is.low, subst (λ (o : Option Channel). IsSome o) (sym is.there) refl)
+
+used_still : (t new : Seats) (seat : ℕ) → IsThere t seat → new ≡ t → IsUsedSeat new seat
+used_still t new seat h is = subst (λ (x : Seats). IsUsedSeat x seat) (sym is) (used_at t seat h.channel (record { there = h.there; low = h.low }))
+
+once_at : (t new : Seats) (seat : ℕ) (f : Channel → Channel) → (h : IsThere t seat) → new ≡ changed t seat f → IsAt new seat (f h.channel)
+once_at t new seat f h is =
+    let one = changed_is t seat h.channel f h.there in
+    subst (λ (x : Seats). IsAt x seat (f h.channel)) (sym is) (record { there = one.there; low = h.low })
 
 twice_at : (t new : Seats) (seat : ℕ) (f g : Channel → Channel) → (h : IsThere t seat) → new ≡ changed (changed t seat f) seat g → IsAt new seat (g (f h.channel))
 twice_at t new seat f g h is =
@@ -65,6 +79,9 @@ Hear moment c = record c { heard = moment }
 abbrev Prove : Channel → Channel
 Prove c = record c { state = Proven }
 
+abbrev Unreply : Channel → Channel
+Unreply c = record c { opening = unreplied c.opening }
+
 abbrev Complete : ℕ → Channel → Channel
 Complete source c = record c { remote = Some source; state = Proven }
 
@@ -91,12 +108,27 @@ meant d t new sender moment bytes (Heard seat) are h =
 meant d t new sender moment bytes Short are h = record { seated = tt; proven = tt }
 meant d t new sender moment bytes NoGreeting are h = record { seated = tt; proven = tt }
 meant d t new sender moment bytes Unwelcome are h = record { seated = tt; proven = tt }
-meant d t new sender moment bytes (Again seat) are h = record { seated = tt; proven = tt }
-meant d t new sender moment bytes (Late seat) are h = record { seated = tt; proven = tt }
+meant d t new sender moment bytes (Again seat) are h =
+    by_number d t new sender moment bytes (Again seat) (Meant (Again seat) new) h
+    (λ g. let met = g.does.2 in
+    let here = subst (λ (k : ℕ). IsThere t k) (sym met.0) (source_seat t g.does.0 g.source sender are g.does.1) in
+    let m = once_at t new seat Unreply here (subst (λ (k : ℕ). new ≡ changed t k Unreply) (sym met.0) met.2) in
+    record { seated = used_at new seat (Unreply here.channel) m; proven = tt })
+    (λ n. absurd n.does.1.does)
+meant d t new sender moment bytes (Late seat) are h =
+    by_number d t new sender moment bytes (Late seat) (Meant (Late seat) new) h
+    (λ g. let met = g.does.2 in record { seated = used_still t new seat (subst (λ (k : ℕ). IsThere t k) (sym met.0) (source_seat t g.does.0 g.source sender are g.does.1)) met.2; proven = tt })
+    (λ n. absurd n.does.1.does)
 meant d t new sender moment bytes Unseated are h = record { seated = tt; proven = tt }
 meant d t new sender moment bytes NoChannel are h = record { seated = tt; proven = tt }
-meant d t new sender moment bytes (NoReply seat) are h = record { seated = tt; proven = tt }
-meant d t new sender moment bytes (Cut seat) are h = record { seated = tt; proven = tt }
+meant d t new sender moment bytes (NoReply seat) are h =
+    by_number d t new sender moment bytes (NoReply seat) (Meant (NoReply seat) new) h
+    (λ g. absurd g.does.2)
+    (λ n. let a = n.does.1 in record { seated = used_still t new seat (subst (λ (k : ℕ). IsThere t k) (sym a.0) (found_seat t n.seat _ sender are n.found)) a.3; proven = tt })
+meant d t new sender moment bytes (Cut seat) are h =
+    by_number d t new sender moment bytes (Cut seat) (Meant (Cut seat) new) h
+    (λ g. absurd g.does.2)
+    (λ n. let a = n.does.1 in record { seated = used_still t new seat (subst (λ (k : ℕ). IsThere t k) (sym a.0) (found_seat t n.seat _ sender are n.found)) a.2; proven = tt })
 meant d t new sender moment bytes (Differs seat) are h = record { seated = tt; proven = tt }
 meant d t new sender moment bytes (Given seat) are h = record { seated = tt; proven = tt }
 

@@ -24,7 +24,9 @@ use Rattle.pp_lives.specs.Reading.{is_proven, is_waiting}
 use Rattle.pp_channels.specs.Seats.{Seats, channel_at}
 use Rattle.pp_lives.specs.Standing.{Stands, StandsAt, once_known, read_of, read_at, WaitsBlank, Seated}
 use Rattle.pp_lives.specs.Calls.{Changes, Steady, Says, said_more}
-use Rattle.pp_lives.proofs.Telling.{since_more, since_same, now_later, heard_same, shows_none, read_sent}
+use Rattle.pp_lives.proofs.Each.{each_by}
+use Rattle.pp_lives.proofs.Bare.{bare_more}
+use Rattle.pp_lives.proofs.Telling.{since_more, since_same, now_later, heard_same, shows_none, read_sent, replied_stays}
 use Rattle.pp_lives.proofs.Staying.{Misses, began, at_apart}
 use Rattle.pp_lives.proofs.Own.{stands_of, still_apart, at_seat_now, told_is}
 use Rattle.pp_lives.proofs.Edits.{steady_waits, steady_alike, source_moves, was_steady}
@@ -132,6 +134,7 @@ stands_said d c c' life moment receiver bytes past st begun s =
         proven = proven ∙ g.proven ∙ sym (since_same (shows d life) life.opening r past (shows_none d life r refl));
         heard = λ p. heard_same d life r past refl ∙ g.heard (sym proven ∙ p) ∙ ap (λ (n : ℕ). Some n) (sym st.heard);
         greeted = λ k. or_right (leb life.opening (length past) && greets d life r) (some_since (greets d life) life.opening past) (g.greeted (sym waits ∙ k));
+        bare = λ k. bare_more d life r past (omega (arith, lt)) (replied_stays d life r past (g.greeted (sym waits ∙ k))) (g.bare (sym waits ∙ k));
       };
     }
 
@@ -174,16 +177,13 @@ said_seated d t new lives seat c c' life moment bytes past s there living known 
     let own = stands_of d (channel_at t seat) (lives seat) c life past (s.each seat) there living in
     record {
       are = are;
-      each = λ other. ⊎_elim
-          (λ same. subst (λ (k : ℕ). StandsAt d (channel_at new k) (lives k) (r ∷ past)) (sym (eqb-true other seat same))
+      each = each_by (λ (k : ℕ). StandsAt d (channel_at new k) (lives k) (r ∷ past)) seat
           (at_seat_now d (channel_at new seat) (lives seat) c' life (r ∷ past) ch.there living
-          (stands_said d c c' life moment (address_of c.address) bytes past st begun own)))
-          (λ apart. let ne = eqb-false other seat apart in
-          subst (λ (x : Option Channel). StandsAt d x (lives other) (r ∷ past)) (sym (ch.others other ne))
+          (stands_said d c c' life moment (address_of c.address) bytes past st begun own))
+          (λ other ne. subst (λ (x : Option Channel). StandsAt d x (lives other) (r ∷ past)) (sym (ch.others other ne))
           (at_apart d (channel_at t other) (lives other) r past
           (λ e l also lives_there. (others_unanswered d t lives past seat c life moment bytes s there living known number other e l ne also lives_there, sent_misses d e l moment (address_of c.address) bytes))
-          (s.each other)))
-          (cases_Bool (eqb other seat));
+          (s.each other)));
       apart = still_apart d t new lives past seat c c' s there (steady_alike c c' st) ch;
       blank = λ other e l also lives_there waits.
           let x = was_steady t new seat c c' there st ch other e also in

@@ -1,5 +1,5 @@
 -- A record that is for no seat.
-use Rattle.std.proofs.Common.{◌≡◌, ⊎_elim, ℕ, ◌<◌, max, ltb, leb, eqb, Bool, true, false, cond, not, ◌&&◌, ◌||◌, Option, Some, None, List, ◌∷◌, length, refl, sym, ◌∙◌, subst}
+use Rattle.std.proofs.Common.{◌≡◌, ⊎_elim, ℕ, ◌<◌, max, ltb, leb, eqb, Bool, true, false, cond, not, ◌&&◌, ◌||◌, Option, Some, None, List, ◌∷◌, length, refl, sym, ◌∙◌, subst, arith}
 use Rattle.std.proofs.lemmas.Bool.{and_parts, and_left, and_right, or_right, or_from, cases_Bool, not-true}
 use Rattle.pp_terms.specs.format.Traffic.{Address, Record, Received}
 use Rattle.pp_terms.specs.format.Descriptor.{Descriptor}
@@ -14,7 +14,8 @@ use Rattle.pp_lives.specs.Reading.{opens, shows}
 use Rattle.pp_promises.specs.ReadStory.{read_story}
 use Rattle.pp_lives.specs.Reading.{is_proven, is_waiting}
 use Rattle.pp_lives.specs.Standing.{Stands, StandsAt}
-use Rattle.pp_lives.proofs.Telling.{since_same, now_later, heard_same, shows_none, read_apart, read_unread, dialled_unread}
+use Rattle.pp_lives.proofs.Bare.{bare_more}
+use Rattle.pp_lives.proofs.Telling.{since_same, now_later, heard_same, shows_none, read_apart, read_unread, dialled_unread, replied_stays}
 
 -- The datagram isn't for the channel; where the channel waits, it is no handshake for it.
 pub record Misses (d : Descriptor) (c : Channel) (life : Life) (r : Record) : Type 0 where
@@ -81,6 +82,7 @@ stands_apart d c life r past none m s =
         proven = s.goes.proven ∙ sym (since_same (shows d life) life.opening r past (misses_shows d c life r past s m));
         heard = λ p. heard_same d life r past (m.known (proven_known c p)) ∙ s.goes.heard p;
         greeted = λ k. or_right (leb life.opening (length past) && greets d life r) (some_since (greets d life) life.opening past) (s.goes.greeted k);
+        bare = λ k. bare_more d life r past (omega (arith, lt)) (replied_stays d life r past (s.goes.greeted k)) (s.goes.bare k);
       };
     }
 

@@ -158,8 +158,12 @@ abbrev pub Arrives : Descriptor → Seats → Address → ℕ → List ℕ → A
 Arrives d t sender now bytes arrivals.Short new = (length bytes < 4) × (new ≡ t)
 Arrives d t sender now bytes result new = IsNumbered d t sender now bytes result new
 
--- where its messages are read, its seat is in use now, and one of the 64
+-- where a seat is named that wasn't dropped, it is in use now, and one of the 64
 abbrev pub IsSeated : Arrival → Seats → Type 0
+IsSeated (arrivals.Again seat) new = IsUsedSeat new seat
+IsSeated (arrivals.Late seat) new = IsUsedSeat new seat
+IsSeated (arrivals.NoReply seat) new = IsUsedSeat new seat
+IsSeated (arrivals.Cut seat) new = IsUsedSeat new seat
 IsSeated (arrivals.Opened seat next) new = IsUsedSeat new seat
 IsSeated (arrivals.Replied seat) new = IsUsedSeat new seat
 IsSeated (arrivals.Heard seat) new = IsUsedSeat new seat

@@ -6,6 +6,11 @@ use Rattle.pp_terms.specs.format.Traffic.{Record, Quiet, Sent}
 use Rattle.pp_terms.specs.format.Descriptor.{Descriptor}
 use Rattle.pp_traffic.specs.Past.{now, read, is_number}
 use Rattle.pp_traffic.specs.Life.{Life, IsLife, answers, begins, begins_as}
+use Rattle.pp_traffic.specs.Story.{Line, story}
+use Rattle.pp_traffic.specs.Asking.{choked, asked}
+use Rattle.pp_traffic.specs.Hashes.{is_told}
+use Rattle.pp_traffic.specs.Meter.{meter}
+use Rattle.pp_terms.specs.tree.Tree.{Node}
 use Rattle.pp_outside.specs.Outside.{address_of}
 use Rattle.pp_outside.specs.declared.link.Address.{Address}
 use Rattle.pp_channels.specs.Seats.{Seats, AreSeats, channel_at, closed, dialled, free_seat, has_address, is_begun, used_of, with_channel}
@@ -53,6 +58,18 @@ SaidStays = (d : Descriptor) (t new : Seats) (lives : ℕ → Option Life) (seat
 abbrev pub SeatsLive : Type 0
 SeatsLive = (d : Descriptor) (t : Seats) (lives : ℕ → Option Life) (seat : ℕ) (c : Channel) (life : Life) (past : List Record) → Standing d t lives past
     → channel_at t seat ≡ Some c → lives seat ≡ Some life → is_waiting c ≡ false → is_begun c.opening ≡ true → IsLife d life past
+
+-- What is read of a channel gives the window and the chokes of its whole story, and tells and asks for no more.
+pub record IsReadOf (d : Descriptor) (life : Life) (past : List Record) (lines : List Line) : Type 0 where
+  pub window : (chunk : ℕ) → meter chunk lines ≡ meter chunk (story d life past)
+  pub chokes : choked lines ≡ choked (story d life past)
+  pub tells : (chunks : ℕ) (n : Node) → is_told chunks lines n ≡ true → is_told chunks (story d life past) n ≡ true
+  pub asks : (i : ℕ) → asked i lines ≡ true → asked i (story d life past) ≡ true
+
+-- what is read of a seat is so of the life of its channel
+abbrev pub SeatsRead : Type 0
+SeatsRead = (d : Descriptor) (t : Seats) (lives : ℕ → Option Life) (seat : ℕ) (lines : List Line) (past : List Record) → Standing d t lives past
+    → read_at d t lives past seat ≡ Some lines → (life : Life) × (lives seat ≡ Some life) × IsReadOf d life past lines
 
 -- a channel is to be dialled, where none has the address: it has no life yet
 abbrev pub DialsStay : Type 0

@@ -8,6 +8,7 @@ use Rattle.pp_traffic.specs.Story.{Line}
 use Rattle.pp_traffic.specs.Plain.{heard_at, IsPlainNow}
 use Rattle.pp_traffic.specs.Awaiting.{Awaits}
 use Rattle.pp_promises.specs.ReadStory.{read_story}
+use Rattle.pp_promises.specs.Laws.{is_bare}
 use Rattle.pp_outside.specs.Outside.{address_of}
 use Rattle.pp_channels.specs.Seats.{Seats, AreSeats, channel_at, is_begun, is_dialled, is_source}
 use Rattle.pp_channels.specs.declared.channel.Channel.{Channel}
@@ -20,6 +21,8 @@ pub record Goes (d : Descriptor) (c : Channel) (life : Life) (past : List Record
   pub proven : is_proven c ≡ some_since (shows d life) life.opening past
   pub heard : is_proven c ≡ true → heard_at d life past ≡ Some c.heard
   pub greeted : is_waiting c ≡ false → some_since (greets d life) life.opening past ≡ true
+  -- no chunk was sent on it before that
+  pub bare : is_waiting c ≡ false → is_bare d life past ≡ true
 
 -- The channel has that life of the traffic. While it waits the peer's number isn't known.
 pub record Stands (d : Descriptor) (c : Channel) (life : Life) (past : List Record) : Type 0 where

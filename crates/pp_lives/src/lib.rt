@@ -5,7 +5,7 @@
 mod arriving;
 mod lives;
 
-ghost use Rattle.pp_lives.specs.Laws.{StandsAtFirst, QuietStays, ExpiredStays, SaidStays, SeatsLive, DialsStay, DialledStays, RedialledStays, SteadyStays, DialKeeps, SentKeeps, FirstKeeps, AgainKeeps, RefusedKeeps, BegunKept, SeatsOpened};
+ghost use Rattle.pp_lives.specs.Laws.{StandsAtFirst, QuietStays, ExpiredStays, SaidStays, SeatsLive, DialsStay, DialledStays, RedialledStays, SteadyStays, SeatsRead, DialKeeps, SentKeeps, FirstKeeps, AgainKeeps, RefusedKeeps, BegunKept, SeatsOpened};
 
 pub use arriving::Arrival;
 pub use lives::{Far, Lives};
@@ -21,6 +21,7 @@ pub fn laws_of_lives()
     ensures redialled { RedialledStays }
     ensures steady { SteadyStays }
     ensures live { SeatsLive }
+    ensures read { SeatsRead }
 {}
 
 /// The seats as `dial`, `sent` and `close` leave them stand for the traffic.

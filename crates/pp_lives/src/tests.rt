@@ -245,6 +245,28 @@ fn a_dial_waits_for_its_reply(rt: HostRuntime) -> Result<(), Fail> {
     Ok(())
 }
 
+// A CHOKE stands before the reply, which isn't read there. Alone in its datagram it is.
+#[test]
+fn a_reply_behind_another_message_is_none(rt: HostRuntime) -> Result<(), Fail> {
+    let swarm = swarm()?;
+    let mut lives = dialled(rt.alloc(), 5)?;
+    let reply = handshake(OURS, THEIRS, &OPTIONS);
+    let mut behind = [0; 65];
+    behind[..4].copy_from_slice(&reply[..4]);
+    behind[4] = 10;
+    behind[5..].copy_from_slice(&reply[4..]);
+    assert_eq!(rt;
+        lives.arrive(&swarm, &PEER, &behind, 6),
+        Arrival::NoReply { seat: 0 }
+    );
+    assert_eq!(rt; lives.far(0), None);
+    assert_eq!(rt;
+        lives.arrive(&swarm, &PEER, &reply, 7),
+        Arrival::Replied { seat: 0 }
+    );
+    Ok(())
+}
+
 #[test]
 fn a_reply_that_differs_or_closes_drops_the_dial(rt: HostRuntime) -> Result<(), Fail> {
     let swarm = swarm()?;
