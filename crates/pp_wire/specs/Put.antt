@@ -1,9 +1,10 @@
 -- What is put at a place of an output.
-use Rattle.std.specs.Prelude.{◌≡◌, ℕ, ◌+◌, ◌^◌, ◌<◌, ◌≤◌, List, length, Result, Ok, Err}
+use Rattle.std.specs.Prelude.{◌≡◌, ℕ, ◌+◌, ◌^◌, ◌<◌, ◌≤◌, List, ◌∷◌, ◌++◌, length, Result, Ok, Err}
+use Rattle.std.specs.Int.{w64, to_be_bytes}
 use Rattle.pp_terms.specs.Place.{placed}
 use Rattle.pp_terms.specs.format.Descriptor.{Method, Bin32, Range32, Bin64, Range64}
 use Rattle.pp_terms.specs.format.Options.{Options, IsSpelling}
-use Rattle.pp_terms.specs.format.Messages.{Message, Handshake, Data, Ack, Have, Integrity, Pex4, PexReq, Request, Cancel, Choke, Unchoke, Pex6, IsNamed, only}
+use Rattle.pp_terms.specs.format.Messages.{Message, Handshake, Data, Ack, Have, Integrity, Pex4, PexReq, Request, Cancel, Choke, Unchoke, Pex6, IsNamed, only, spell_span}
 use Rattle.pp_terms.specs.tree.Range.{Span}
 use Rattle.pp_options.specs.Views.{HasSpelling}
 use Rattle.pp_wire.specs.declared.message.PutFault.{PutFault}
@@ -49,6 +50,10 @@ NamesChunks method (Cancel span) = IsNamed method span
 NamesChunks method Choke = Unit {0}
 NamesChunks method Unchoke = Unit {0}
 NamesChunks method (Pex6 address port) = Unit {0}
+
+-- a DATA without the chunk's bytes: its type, its chunk and its moment
+abbrev pub data_head : Method → ℕ → ℕ → List ℕ
+data_head method chunk sent_at = 1 ∷ (spell_span method (only chunk) ++ to_be_bytes w64 sent_at)
 
 -- What was put, by the answer: the text, with the place behind it; or nothing, since it has no name, or no room.
 abbrev pub IsPut : Type 0 → List ℕ → List ℕ → ℕ → Result ℕ PutFault → List ℕ → Type 0

@@ -12,7 +12,7 @@ mod writing;
 pub use laws::{one_datagram, one_message, worked_messages};
 pub use message::{Message, PutFault, Span, Step, WireFault, WireKind};
 pub use reading::next;
-pub use writing::put;
+pub use writing::{put, put_head};
 
 #[cfg(test)]
 mod tests;

@@ -286,3 +286,20 @@ fn messages_come_back(rt: HostRuntime) {
     assert!(rt; chunks_come_back(Method::Range64, u64::MAX, u64::MAX));
     assert!(rt; data_comes_back(Method::Range64, u64::MAX));
 }
+
+// Of chunk 3 at the moment 258, at place 1; the bytes around it stay. At place 3 the last byte has no room.
+#[test]
+fn a_head_is_a_data_without_its_bytes(rt: HostRuntime) {
+    let mut out = [9; 19];
+    assert_eq!(rt; put_head(3, 258, Method::Range32, &mut out, 1), Ok(18));
+    let range = [9, 1, 0, 0, 0, 3, 0, 0, 0, 3, 0, 0, 0, 0, 0, 0, 1, 2, 9];
+    assert_eq!(rt; out, range);
+    assert_eq!(rt;
+        put_head(3, 258, Method::Range32, &mut out, 3),
+        Err(PutFault::NoRoom)
+    );
+    assert_eq!(rt; out, range);
+    assert_eq!(rt; put_head(3, 258, Method::Bin32, &mut out, 1), Ok(14));
+    let bin = [9, 1, 0, 0, 0, 6, 0, 0, 0, 0, 0, 0, 1, 2, 0, 0, 1, 2, 9];
+    assert_eq!(rt; out, bin);
+}

@@ -3,12 +3,12 @@
 ghost use Rattle.std.specs.Prelude.{◌≡◌, ℕ, ◌+◌, ◌^◌, ◌≤◌, ◌<◌, List, ◌∷◌, ◌++◌, length, IfOk};
 ghost use Rattle.std.specs.Int.{w16, w32, to_be_bytes};
 ghost use Rattle.pp_terms.specs.Place.{placed};
-ghost use Rattle.pp_terms.specs.format.Messages.{IsNamed, IsSpelt, spell_span, spell};
+ghost use Rattle.pp_terms.specs.format.Messages.{Data, IsNamed, IsSpelt, only, spell_span, spell};
 ghost use Rattle.pp_terms.specs.format.Options.{spelling_of};
 ghost use Rattle.pp_options.specs.Views.{options_of, HasSpelling};
 ghost use Rattle.pp_tree.specs.Method.{method_of};
 ghost use Rattle.pp_wire.specs.Views.{span_of, message_of};
-ghost use Rattle.pp_wire.specs.Put.{IsSpan, IsHandshake, CanPut, NamesChunks, IsPut};
+ghost use Rattle.pp_wire.specs.Put.{IsSpan, IsHandshake, CanPut, NamesChunks, data_head, IsPut};
 
 use crate::bins::bin_number;
 use crate::message::{Message, PutFault, Span};
@@ -160,6 +160,30 @@ fn put_handshake(
         }
         Err(_) => Err(PutFault::NoRoom),
     }
+}
+
+/// Puts a DATA at the place `at` of the output, but for the chunk's bytes, and answers the place behind it, where they are to
+/// stand (RFC 7574, section 8.6). The moment is in microseconds.
+pub fn put_head(
+    chunk: u64,
+    sent_at: u64,
+    method: Method,
+    out: &mut [u8],
+    at: usize,
+) -> Result<usize, PutFault>
+    requires within { at ≤ length out.old }
+    requires can { IsSpan (method_of method) (only chunk) }
+    // With any bytes of the chunk behind it there stands a DATA.
+    ensures spelt { IfOk result (λ end. (bytes : List ℕ) → 0 < length bytes
+        → IsSpelt (method_of method) (Data chunk sent_at bytes) (data_head (method_of method) chunk sent_at ++ bytes)) }
+    ensures exact { IsPut (IsNamed (method_of method) (only chunk)) (data_head (method_of method) chunk sent_at) out.old at result out.new }
+{
+    let span = Span {
+        first: chunk,
+        last: chunk,
+    };
+    let moment = sent_at.to_be_bytes();
+    put_chunks(out, at, types::DATA, span, method, &moment, &[])
 }
 
 /// Puts the message at the place `at` of the output, which is at most its length, and answers the place behind it. The
