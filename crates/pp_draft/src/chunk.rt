@@ -1,18 +1,19 @@
 //! The datagram of one chunk, behind the hashes of its path.
 
-ghost use Rattle.std.specs.Prelude.{◌≡◌, ◌+◌, ◌^◌, ◌<◌, ◌≤◌, length, map, take};
+ghost use Rattle.std.specs.Prelude.{◌≡◌, ◌+◌, ◌^◌, ◌<◌, ◌≤◌, ℕ, List, length, map, true, is_some, IfOk};
 ghost use Rattle.std.specs.List.{AllByRecursion};
-ghost use Rattle.pp_terms.specs.disk.Disk.{moment_of};
-ghost use Rattle.pp_terms.specs.format.Messages.{Data, spell};
+ghost use Rattle.pp_terms.specs.disk.Disk.{DiskState, moment_of};
+ghost use Rattle.pp_terms.specs.format.Descriptor.{Method};
+ghost use Rattle.pp_terms.specs.format.Messages.{spell};
 ghost use Rattle.pp_traffic.specs.Laws.{IsInBook};
 ghost use Rattle.pp_tree.specs.Book.{entry};
 ghost use Rattle.pp_tree.specs.Node.{node_of};
 ghost use Rattle.pp_outside.specs.Outside.{address_of};
 ghost use Rattle.pp_wire.specs.Views.{message_of};
 ghost use Rattle.pp_wire.specs.Put.{CanPut, NamesChunks};
-ghost use Rattle.pp_draft.specs.Datagrams.{IsDatagram, hash_of};
-ghost use Rattle.pp_draft.specs.Deliveries.{delivers, CanGo, PostsChunk};
-ghost use Rattle.pp_draft.specs.Puts.{AddsOne, Adds};
+ghost use Rattle.pp_draft.specs.Datagrams.{hash_of};
+ghost use Rattle.pp_draft.specs.Deliveries.{Answer, CanGo, AddsHead, HasFront, Fetches, Delivers, length_of};
+ghost use Rattle.pp_draft.specs.Puts.{AddsOne, Adds, IsLow};
 ghost use Rattle.pp_draft.specs.Posts.{Sends};
 
 use crate::message::put_message;
@@ -21,19 +22,57 @@ use crate::posting::Receiver;
 use crate::ranges::leaves;
 use pp_outside::{Disk, Link};
 use pp_tree::{Book, Descriptor, Node};
-use pp_wire::Message;
+use pp_wire::{Message, put_head};
 
-/// A chunk and the hashes that go before it.
+/// A chunk, the hashes that go before it, and where they go.
 #[derive(Clone, Copy)]
 pub struct Delivery<'a> {
+    pub to: Receiver,
     /// The chunk's number.
     pub chunk: u32,
     /// When it is sent, in microseconds.
     pub sent_at: u64,
-    pub bytes: &'a [u8],
     /// The nodes whose hashes go before it, in their order, at most 48; the book has each.
     pub nodes: &'a [Node],
     pub book: &'a Book,
+}
+
+/// Why the bytes of a chunk aren't there.
+#[derive(Clone, Copy, Debug, PartialEq, Eq)]
+pub enum Unread {
+    /// This peer doesn't have the chunk.
+    Absent,
+    /// The disk refused to read it.
+    Disk,
+    /// What was read has another digest than the chunk.
+    Damaged,
+}
+
+/// What reads the bytes of chunks, as a store does.
+pub trait ChunkReader<D: Disk> {
+    /// That a chunk may be read, into so many bytes.
+    ghost can_read: { Self → ℕ → ℕ → Type 0 };
+
+    /// What a read of a chunk answers, with the buffer's bytes afterwards and the disk before and after it.
+    ghost reads: { Self → ℕ → Answer → List ℕ → DiskState → DiskState → Type 0 };
+
+    /// Reads a chunk into a buffer of its length, and compares its digest.
+    fn read(&self, chunk: u32, into: &mut [u8], disk: &mut D) -> Result<(), Unread>
+        requires { can_read self.now chunk (length into.old) }
+        ensures { reads self.now chunk result into.new (D.state disk.old) (D.state disk.new) };
+}
+
+// The message of a node's hash, which the book has.
+#[tactic(auto, using(pp_terms::proofs::MessageLengths::length_integrity))]
+fn hash<'m>(node: Node, book: &Book) -> Message<'m>
+    requires given { is_some (entry book.now node.layer node.offset) ≡ true }
+    requires low { IsLow node }
+    ensures is { message_of result ≡ hash_of (entry book.now) (node_of node) }
+    ensures short { (method : Method) → length (spell method (message_of result)) ≤ 49 }
+{
+    let span = leaves(node);
+    let digest = book.get(node).unwrap();
+    Message::Integrity { span, digest }
 }
 
 // Puts a message behind the others, for which there is room.
@@ -63,58 +102,81 @@ fn put_hashes(
     let _chunks = descriptor.chunks();
     let mut end = at;
     for node in nodes {
-        let digest = book.get(*node).unwrap();
-        let span = leaves(*node);
-        end = append(&Message::Integrity { span, digest }, descriptor, out, end);
+        end = append(&hash(*node, book), descriptor, out, end);
     }
     end
 }
 
-// Puts a chunk.
-fn put_chunk(delivery: &Delivery, descriptor: &Descriptor, out: &mut [u8], at: usize) -> usize
+// Puts a DATA but for the chunk's bytes.
+fn append_head(delivery: &Delivery, descriptor: &Descriptor, out: &mut [u8], at: usize) -> usize
     requires within { delivery.now.chunk < 2 ^ 20 }
-    requires some { 0 < length delivery.now.bytes.now }
-    requires room { at + length delivery.now.bytes.now + 25 ≤ length out.old }
-    ensures { AddsOne descriptor.now (Data delivery.now.chunk delivery.now.sent_at delivery.now.bytes.now) out.old at result out.new }
+    requires room { at + 25 ≤ length out.old }
+    ensures ends { result ≤ at + 25 }
+    ensures adds { AddsHead descriptor.now delivery.now.chunk delivery.now.sent_at out.old at result out.new }
 {
-    let message = Message::Data {
-        chunk: u64::from(delivery.chunk),
-        sent_at: delivery.sent_at,
-        bytes: delivery.bytes,
-    };
-    append(&message, descriptor, out, at)
+    let chunk = u64::from(delivery.chunk);
+    put_head(chunk, delivery.sent_at, descriptor.method(), out, at).unwrap()
 }
 
-// Writes the datagram, and answers how long it is.
-fn write_chunk(delivery: &Delivery, descriptor: &Descriptor, channel: u32, out: &mut [u8]) -> usize
+// Writes the datagram but for the chunk's bytes, and answers the place where they are to stand.
+fn put_front(delivery: &Delivery, descriptor: &Descriptor, out: &mut [u8]) -> usize
     requires can { CanGo descriptor.now delivery.now }
     requires room { length out.old ≡ 16384 }
-    ensures within { result ≤ 16384 }
-    ensures written { IsDatagram descriptor.now channel (delivers delivery.now) (take result out.new) }
+    ensures ends { result ≤ 2381 }
+    ensures front { HasFront descriptor.now delivery.now result out.new }
+{
+    let _chunks = descriptor.chunks();
+    let end = begin(delivery.to.channel, out);
+    let end = put_hashes(delivery.nodes, delivery.book, descriptor, out, end);
+    append_head(delivery, descriptor, out, end)
+}
+
+// Writes the datagram, the chunk's bytes by one read straight into it, and answers how long it is.
+fn fetch<R: ChunkReader<D>, D: Disk>(
+    delivery: &Delivery,
+    reader: &R,
+    descriptor: &Descriptor,
+    out: &mut [u8],
+    disk: &mut D,
+) -> Result<usize, Unread>
+    requires can { CanGo descriptor.now delivery.now }
+    requires readable { R.can_read reader.now delivery.now.chunk (length_of descriptor.now delivery.now) }
+    requires room { length out.old ≡ 16384 }
+    ensures within { IfOk result (λ end. end ≤ 16384) }
+    ensures fetches { Fetches descriptor.now delivery.now
+        (λ answer bytes. R.reads reader.now delivery.now.chunk answer bytes (D.state disk.old) (D.state disk.new)) out.new result }
 {
     let _chunk = descriptor.chunk();
-    let _chunks = descriptor.chunks();
-    let end = begin(channel, out);
-    let end = put_hashes(delivery.nodes, delivery.book, descriptor, out, end);
-    put_chunk(delivery, descriptor, out, end)
+    let start = put_front(delivery, descriptor, out);
+    let end = start + descriptor.chunk_len(delivery.chunk) as usize;
+    match reader.read(delivery.chunk, &mut out[start..end], disk) {
+        Ok(()) => Ok(end),
+        Err(why) => Err(why),
+    }
 }
 
-/// Sends a chunk behind the hashes, in one datagram, and answers whether the link took it. The bytes are copied once, into the
-/// datagram, and are at most as many as a chunk has; the chunk is one of the content. `out` has 16,384 bytes, of which the first
-/// hold the datagram afterwards (RFC 7574, sections 5.3 and 8.6).
-pub fn post_chunk<D: Disk, L: Link>(
+/// Sends a chunk behind the hashes, in one datagram, and answers whether the link took it; where the chunk can't be read, why,
+/// and nothing is sent. The chunk is one of the content. Its bytes are read into the datagram, and copied nowhere else. `out` has
+/// 16,384 bytes, of which the first hold the datagram afterwards (RFC 7574, sections 5.3 and 8.6).
+pub fn post_chunk<R: ChunkReader<D>, D: Disk, L: Link>(
     delivery: &Delivery,
+    reader: &R,
     descriptor: &Descriptor,
-    to: &Receiver,
     out: &mut [u8],
-    disk: &D,
+    disk: &mut D,
     link: &mut L,
-) -> bool
+) -> Result<bool, Unread>
     requires can { CanGo descriptor.now delivery.now }
+    requires readable { R.can_read reader.now delivery.now.chunk (length_of descriptor.now delivery.now) }
     requires room { length out.old ≡ 16384 }
-    ensures { PostsChunk descriptor.now to.now.channel delivery.now
-        (λ bytes. Sends (address_of to.now.address) bytes (moment_of (D.state disk.now).history) (L.seen link.old) (L.seen link.new) result) }
+    ensures { Delivers descriptor.now delivery.now
+        (λ answer bytes. R.reads reader.now delivery.now.chunk answer bytes (D.state disk.old) (D.state disk.new))
+        (L.seen link.new ≡ L.seen link.old)
+        (λ datagram sent. Sends (address_of delivery.now.to.address) datagram (moment_of (D.state disk.new).history) (L.seen link.old) (L.seen link.new) sent)
+        result }
 {
-    let end = write_chunk(delivery, descriptor, to.channel, out);
-    link.send(disk, &to.address, &out[..end]).is_ok()
+    match fetch(delivery, reader, descriptor, out, disk) {
+        Ok(end) => Ok(link.send(disk, &delivery.to.address, &out[..end]).is_ok()),
+        Err(unread) => Err(unread),
+    }
 }

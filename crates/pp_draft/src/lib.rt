@@ -8,7 +8,7 @@ mod packing;
 mod posting;
 mod ranges;
 
-pub use chunk::{Delivery, post_chunk};
+pub use chunk::{ChunkReader, Delivery, Unread, post_chunk};
 pub use note::Note;
 pub use posting::{Posted, Receiver, post};
 

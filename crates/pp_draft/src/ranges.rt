@@ -2,13 +2,14 @@
 
 ghost use Rattle.std.specs.Prelude.{◌≡◌, ◌^◌, ◌<◌, ◌≤◌, map, length};
 ghost use Rattle.std.specs.List.{AllByRecursion};
-ghost use Rattle.pp_terms.specs.tree.Range.{leaves_of};
+ghost use Rattle.pp_terms.specs.tree.Range.{IsLeastCover, leaves_of};
 ghost use Rattle.pp_tree.specs.Node.{node_of};
 ghost use Rattle.pp_wire.specs.Views.{span_of, message_of};
 ghost use Rattle.pp_draft.specs.Notes.{NamesRange};
 ghost use Rattle.pp_draft.specs.Puts.{Puts, message_for, message_at, IsLow};
 
 use crate::message::put_message;
+use arrayvec::ArrayVec;
 use pp_ranges::{ChunkRange, cover};
 use pp_tree::{Descriptor, Method, Node};
 use pp_wire::{Message, Span};
@@ -74,6 +75,16 @@ fn put_cover(
     Some(end)
 }
 
+// The nodes by which bins name a range.
+#[tactic(auto, using(crate::proofs::Names::cover_low))]
+fn bins(range: ChunkRange) -> ArrayVec<Node, 64>
+    requires { range.last < 2 ^ 20 }
+    ensures cover { IsLeastCover range (map node_of result.items) }
+    ensures low { AllByRecursion IsLow result.items }
+{
+    cover(range)
+}
+
 /// Puts the messages of a range, where they have room together, and answers the place behind them.
 pub(crate) fn put_range(
     kind: Kind,
@@ -90,6 +101,6 @@ pub(crate) fn put_range(
         Method::Range32 | Method::Range64 => {
             put_message(&message(kind, span(range)), descriptor, out, at)
         }
-        Method::Bin32 | Method::Bin64 => put_cover(kind, &cover(range), descriptor, out, at),
+        Method::Bin32 | Method::Bin64 => put_cover(kind, &bins(range), descriptor, out, at),
     }
 }

@@ -3,7 +3,7 @@ ghost use Rattle.std.specs.List.{AllByRecursion};
 ghost use Rattle.pp_draft.specs.Notes.{IsInside};
 
 use super::*;
-use pp_outside::{Address, Call, MemoryLink, NullDisk};
+use pp_outside::{Address, Call, Disk, MemoryLink, NullDisk};
 use pp_ranges::ChunkRange;
 use pp_tree::{Book, Descriptor, Digest, Method, Node};
 use std::alloc::{AllocError, Global};
@@ -181,40 +181,65 @@ fn fills_a_datagram(rt: HostRuntime) -> Result<(), AllocError> {
     Ok(())
 }
 
-// The one chunk of `abc` behind the hash of its leaf, which is the root.
-#[test]
-fn posts_a_chunk(rt: HostRuntime) -> Result<(), AllocError> {
-    let Ok(descriptor) = Descriptor::new(Digest::new(ROOT), 1024, 3, Method::Range32) else {
-        assert!(rt; false);
-        return Ok(());
-    };
-    let mut book = Book::empty(rt.alloc());
-    book.prepare(rt.alloc(), &descriptor)?;
-    if book.get(Node::leaf(0)).is_none() {
-        assert!(rt; false);
-        return Ok(());
+// A reader of chunks of three bytes, which are `abc`, or that has another fault.
+#[derive(Drop)]
+struct Abc {
+    fault: Option<Unread>,
+}
+
+impl<D: Disk> ChunkReader<D> for Abc {
+    ghost can_read = { λ reader i n. n ≡ 3 };
+
+    ghost reads = { λ reader i answer bytes old new. Unit {0} };
+
+    fn read(&self, _chunk: u32, into: &mut [u8], _disk: &mut D) -> Result<(), Unread> {
+        into.copy_from_slice(b"abc");
+        match self.fault {
+            Some(why) => Err(why),
+            None => Ok(()),
+        }
     }
-    let mut link = MemoryLink::new(rt.alloc())?;
-    let to = Receiver {
-        address: ADDRESS,
-        channel: 7,
+}
+
+// Sends the one chunk of `abc` behind the hash of its leaf, which is the root.
+fn posts_abc(
+    alloc: Global,
+    fault: Option<Unread>,
+    link: &mut MemoryLink,
+) -> Result<Option<Result<bool, Unread>>, AllocError> {
+    let Ok(descriptor) = Descriptor::new(Digest::new(ROOT), 1024, 3, Method::Range32) else {
+        return Ok(None);
     };
+    let mut book = Book::empty(alloc);
+    book.prepare(alloc, &descriptor)?;
+    if book.get(Node::leaf(0)).is_none() {
+        return Ok(None);
+    }
     let delivery = Delivery {
+        to: Receiver {
+            address: ADDRESS,
+            channel: 7,
+        },
         chunk: 0,
         sent_at: 258,
-        bytes: b"abc",
         nodes: &[Node::leaf(0)],
         book: &book,
     };
-    let sent = post_chunk(
+    let posted = post_chunk(
         &delivery,
+        &Abc { fault },
         &descriptor,
-        &to,
         &mut [0; 16384],
-        &NullDisk::new(),
-        &mut link,
+        &mut NullDisk::new(),
+        link,
     );
-    assert!(rt; sent);
+    Ok(Some(posted))
+}
+
+#[test]
+fn posts_a_chunk(rt: HostRuntime) -> Result<(), AllocError> {
+    let mut link = MemoryLink::new(rt.alloc())?;
+    assert_eq!(rt; posts_abc(rt.alloc(), None, &mut link)?, Some(Ok(true)));
     let hash = [0, 0, 0, 7, 4, 0, 0, 0, 0, 0, 0, 0, 0];
     let data = [
         1, 0, 0, 0, 0, 0, 0, 0, 0, 0, 0, 0, 0, 0, 0, 1, 2, b'a', b'b', b'c',
@@ -225,5 +250,16 @@ fn posts_a_chunk(rt: HostRuntime) -> Result<(), AllocError> {
     assert_eq!(rt; bytes[..13], hash[..]);
     assert_eq!(rt; bytes[13..45], ROOT[..]);
     assert_eq!(rt; bytes[45..], data[..]);
+    Ok(())
+}
+
+#[test]
+fn sends_no_chunk_that_is_not_read(rt: HostRuntime) -> Result<(), AllocError> {
+    let mut link = MemoryLink::new(rt.alloc())?;
+    for fault in [Unread::Absent, Unread::Disk, Unread::Damaged] {
+        let posted = posts_abc(rt.alloc(), Some(fault), &mut link)?;
+        assert_eq!(rt; posted, Some(Err(fault)));
+    }
+    assert_eq!(rt; link.sent(), 0);
     Ok(())
 }

@@ -5,7 +5,7 @@ use Rattle.pp_tree.specs.Method.{method_of}
 use Rattle.pp_tree.specs.declared.node.Node.{Node}
 use Rattle.pp_draft.specs.Notes.{NamesRange}
 use Rattle.pp_draft.specs.Puts.{IsLow, message_for, message_at}
-use Rattle.pp_draft.proofs.Names.{range_name, whole_names, cover_low, cover_names, can_put, names_chunks}
+use Rattle.pp_draft.proofs.Names.{range_name, whole_names, cover_names, can_put, names_chunks}
 use Rattle.pp_draft.proofs.Putting.{one_puts, puts_as, range_short, range_may}
 use Rattle.pp_draft.proofs.ranges.put_range.Goals as goal
 
@@ -30,7 +30,7 @@ returns-in-Range32 c =
 
 pub put_cover-requires-clause-low : goal.put_cover-requires-clause-low
 put_cover-requires-clause-low c =
-    subst (λ (nodes : List Node). AllByRecursion IsLow nodes) (sym c.deref.ensures.0) (cover_low c.args.range c.cover.result.items c.requires.inside c.cover.ensures)
+    subst (λ (nodes : List Node). AllByRecursion IsLow nodes) (sym c.deref.ensures.0) c.bins.ensures.low
 
 pub returns-in-Bin32 : goal.returns-in-Bin32
 returns-in-Bin32 c =
@@ -38,4 +38,4 @@ returns-in-Bin32 c =
     puts_as c.args.descriptor.now (λ (ms : List Message). ms ≡ map (message_at c.args.kind) c.deref.result.now)
     (λ (ms : List Message). NamesRange c.args.descriptor.now.method c.args.range (message_for c.args.kind) ms) c.args.out.now c.put_cover.new.out c.args.at c.put_cover.result
     (λ ms is. subst (λ (xs : List Message). NamesRange c.args.descriptor.now.method c.args.range (message_for c.args.kind) xs) (sym is)
-    (rw c.deref.ensures.0 (cover_names c.args.descriptor.now.method c.args.range c.args.kind c.cover.result.items method c.cover.ensures))) c.put_cover.ensures
+    (rw c.deref.ensures.0 (cover_names c.args.descriptor.now.method c.args.range c.args.kind c.bins.result.items method c.bins.ensures.cover))) c.put_cover.ensures
