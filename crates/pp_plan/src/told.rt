@@ -126,7 +126,8 @@ impl Told {
         self.some
     }
 
-    pub(crate) fn chunks(&self) -> u32
+    /// How many chunks the content has.
+    pub fn chunks(&self) -> u32
         ensures value { result ≡ self.now.chunks }
         ensures most { self.now.chunks ≤ 2 ^ 20 }
     {

@@ -38,12 +38,12 @@ kept_few : (b : Bool) (xs ys : List Span) → nat_lt 64 (length ys) ≡ b → le
 kept_few true xs ys is few = few
 kept_few false xs ys is few = ltb-false 64 (length ys) is
 
-requested_runs : (range : Span) (list : List Span) → range.first ≤ range.last → IsRunsFrom 0 list → IsRunsFrom 0 (requested range list)
+pub requested_runs : (range : Span) (list : List Span) → range.first ≤ range.last → IsRunsFrom 0 list → IsRunsFrom 0 (requested range list)
 requested_runs range list order runs =
     either_holds (IsRunsFrom 0) (are_too_many (inserted (Some range) list)) list (inserted (Some range) list) runs
     (inserted_runs range list 0 (omega arith) order runs)
 
-cancelled_runs : (range : Span) (list : List Span) → range.first ≤ range.last → IsRunsFrom 0 list → IsRunsFrom 0 (cancelled range list)
+pub cancelled_runs : (range : Span) (list : List Span) → range.first ≤ range.last → IsRunsFrom 0 list → IsRunsFrom 0 (cancelled range list)
 cancelled_runs range list order runs =
     either_holds (IsRunsFrom 0) (are_too_many (removed range list)) (filter (is_apart range) list) (removed range list)
     (filter_runs (is_apart range) list 0 runs) (removed_runs range list 0 order runs)
@@ -100,7 +100,7 @@ listed_few (Drops i ∷ before) order = let few = below_few i (listed before) in
 -- ---- and which chunks
 
 -- the ranges that don't meet one have none of its numbers
-kept_has : (range : Span) (xs : List Span) (from i : ℕ) → IsRunsFrom from xs → has (filter (is_apart range) xs) i ≡ true
+pub kept_has : (range : Span) (xs : List Span) (from i : ℕ) → IsRunsFrom from xs → has (filter (is_apart range) xs) i ≡ true
     → (not (within range i) && has xs i) ≡ true
 kept_has range [] from i runs h = absurd (false≢true h)
 kept_has range (x ∷ xs) from i runs h =
@@ -113,13 +113,13 @@ kept_has range (x ∷ xs) from i runs h =
     by true apart rest here = grind (arith, nat_tests)
     by false apart rest here = grind (arith, nat_tests)
 
-requested_has : (range : Span) (list : List Span) (i : ℕ) → range.first ≤ range.last → IsRunsFrom 0 list → has (requested range list) i ≡ true
+pub requested_has : (range : Span) (list : List Span) (i : ℕ) → range.first ≤ range.last → IsRunsFrom 0 list → has (requested range list) i ≡ true
     → (within range i || has list i) ≡ true
 requested_has range list i order runs = either_holds (λ (xs : List Span). has xs i ≡ true → (within range i || has list i) ≡ true)
     (are_too_many (inserted (Some range) list)) list (inserted (Some range) list) (or_right (within range i) (has list i))
     (λ h. sym (inserted_has range list 0 i order runs) ∙ h)
 
-cancelled_has : (range : Span) (list : List Span) (i : ℕ) → range.first ≤ range.last → IsRunsFrom 0 list → has (cancelled range list) i ≡ true
+pub cancelled_has : (range : Span) (list : List Span) (i : ℕ) → range.first ≤ range.last → IsRunsFrom 0 list → has (cancelled range list) i ≡ true
     → (not (within range i) && has list i) ≡ true
 cancelled_has range list i order runs = either_holds (λ (xs : List Span). has xs i ≡ true → (not (within range i) && has list i) ≡ true)
     (are_too_many (removed range list)) (filter (is_apart range) list) (removed range list) (kept_has range list 0 i runs)

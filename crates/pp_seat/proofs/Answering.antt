@@ -1,0 +1,44 @@
+-- What a seat may send answers its peer, and what is left.
+use Rattle.std.proofs.Common.{◌≡◌, ⊎_elim, ℕ, Bool, true, List, sym, ◌∙◌, ap, subst}
+use Rattle.std.specs.List.{list_all}
+use Rattle.std.proofs.lemmas.Bool.{false≢true}
+use Rattle.pp_terms.specs.tree.Tree.{Node}
+use Rattle.pp_terms.specs.tree.Range.{Span, has}
+use Rattle.pp_traffic.specs.Hashes.{is_told, completes}
+use Rattle.pp_traffic.specs.Meter.{has_room}
+use Rattle.pp_traffic.proofs.Paths.{paths_grow}
+use Rattle.pp_plan.specs.Told.{knows}
+use Rattle.pp_seat.specs.Lines.{Tale}
+use Rattle.pp_seat.specs.Seats.{SeatState}
+use Rattle.pp_seat.specs.Follows.{Frame, Follows, IsNext, Answers}
+use Rattle.pp_seat.specs.Laws.{NoneLeft, ChokesAreDue}
+
+pub answers : (f : Frame) (lost i : ℕ) (s : SeatState) (t : Tale) → IsNext s i → Follows f lost s t → Answers f t i
+answers f lost i s t next h = record {
+  content = h.lists.inside i next.least.listed;
+  asked_for = h.lists.asked_for i next.least.listed;
+  unchoked = sym h.slot.same ∙ h.slot.unchoked next.slot;
+  in_window = ap has_room (sym h.window.same) ∙ next.room;
+}
+
+-- The hashes of its plan complete its path.
+pub whole_path : (f : Frame) (lost i chunks : ℕ) (s : SeatState) (t : Tale) (brought : Node → Bool) (nodes : List Node) → s.told.chunks ≡ chunks
+    → completes chunks brought (knows s.told) i ≡ list_all brought nodes → Follows f lost s t → list_all brought nodes ≡ true
+    → completes f.chunks brought (is_told f.chunks t.story) i ≡ true
+whole_path f lost i chunks s t brought nodes content is h all =
+    paths_grow f.chunks brought brought (knows s.told) (is_told f.chunks t.story) i (λ n e. e) h.told.known
+    (subst (λ (k : ℕ). completes k brought (knows s.told) i ≡ true) (sym content ∙ h.told.content) (is ∙ all))
+
+pub none_left : NoneLeft
+none_left f lost s t h slot none =
+    let k = h.lacks slot in (
+      k.given,
+      k.few,
+      λ i place few lt is e. ⊎_elim
+          (λ on. absurd (false≢true (ap (λ (xs : List Span). has xs i) (sym none) ∙ on)))
+          (λ gone. gone)
+          (k.listed i place few lt is e),
+    )
+
+pub chokes_are_due : ChokesAreDue
+chokes_are_due f lost s t h no_slot free = h.slot.due no_slot (h.slot.same ∙ free)

@@ -1,0 +1,10 @@
+pub mod Spans
+pub mod Listing
+pub mod Moments
+pub mod Hearing
+pub mod Saying
+pub mod Naming
+pub mod Passing
+pub mod Openings
+pub mod Answering
+pub mod Asking

@@ -1,0 +1,420 @@
+-- Lines that do nothing to a seat, and frames that grow.
+use Rattle.std.proofs.Common.{◌≡◌, ⊎_elim, ℕ, ◌+◌, ◌<◌, ◌≤◌, eqb, nat_lt, Bool, true, false, cond, not, ◌&&◌, ◌||◌, Some, None, List, [], ◌∷◌, length, take, refl, sym, ◌∙◌, ap, subst, arith}
+use Rattle.std.specs.List.{AllByRecursion}
+use Rattle.std.proofs.lemmas.Bool.{cond-true, or_left, or_right, or_from, and_right, both_ways, lt-ltb, false≢true}
+use Rattle.std.proofs.lemmas.Bool.Decides.{nat_tests}
+use Rattle.std.proofs.lemmas.List.Sums.{sum_by-cons}
+use Rattle.pp_terms.specs.format.Messages.{Message, Handshake, Data, Ack, Have, Integrity, Pex4, PexReq, Request, Cancel, Choke, Unchoke, Pex6}
+use Rattle.pp_terms.specs.tree.Tree.{Node}
+use Rattle.pp_terms.specs.tree.Range.{Span, within}
+use Rattle.pp_traffic.specs.declared.entries.Entry.{Entry}
+use Rattle.pp_traffic.specs.Story.{Line, Heard, Said, Taken}
+use Rattle.pp_traffic.specs.Asking.{choked_by, choked, asked_by, asked_after, asked, asks_in}
+use Rattle.pp_traffic.specs.Claims.{claims_in, with_claim}
+use Rattle.pp_traffic.specs.Hashes.{tells, is_told}
+use Rattle.pp_traffic.specs.Meter.{Meter, meter, covers, hits, acked, settled}
+use Rattle.pp_promises.specs.Announced.{is_told_of}
+use Rattle.pp_promises.specs.OwnSide.{is_old, has_old_request, is_choked_by_peer}
+use Rattle.pp_seat.specs.Lines.{inside, asked_since, names_at, is_named_at, Tale, with_proven}
+use Rattle.pp_seat.specs.Aspects.{Lacks}
+use Rattle.pp_seat.specs.Seats.{SeatState}
+use Rattle.pp_seat.specs.Follows.{Frame, Follows, IsIdleSaid}
+use Rattle.pp_seat.specs.Laws.{IsIdleHeard, IdleStays, AnnouncedStays, MarkStays}
+use Rattle.pp_seat.proofs.Spans.{out_within}
+use Rattle.pp_seat.proofs.Naming.{unclaimed, named_out}
+use Rattle.pp_seat.proofs.Moments.{later}
+
+-- ---- what stories say
+
+-- while a CHOKE stands nothing was asked for
+heard_barred : (i : ℕ) (is_barred : Bool) (m : Message) (before : Bool) → is_barred ≡ true → before ≡ false → asked_by i is_barred m before ≡ false
+heard_barred i is_barred (Request span) before barred none =
+    or_from (within span i && not is_barred) before (and_right (within span i) (not is_barred) (ap (λ (b : Bool). not b) barred)) none
+heard_barred i is_barred (Cancel span) before barred none = and_right (not (within span i)) before none
+heard_barred i is_barred _ before barred none = none
+
+said_none : (i : ℕ) (m : Message) (before : Bool) → before ≡ false → asked_after i m before ≡ false
+said_none i (Data chunk sent_at bytes) before none = and_right (not (eqb chunk i)) before none
+said_none i Choke before none = refl
+said_none i _ before none = none
+
+said_choked : (i : ℕ) (is_choked : Bool) (m : Message) (before : Bool) → choked_by m is_choked ≡ true → (is_choked ≡ true → before ≡ false)
+    → asked_after i m before ≡ false
+said_choked i is_choked (Data chunk sent_at bytes) before stands none = and_right (not (eqb chunk i)) before (none stands)
+said_choked i is_choked Choke before stands none = refl
+said_choked i is_choked Unchoke before stands none = absurd (false≢true stands)
+said_choked i is_choked _ before stands none = none stands
+
+pub choked_none : (place i : ℕ) (story : List Line) → choked story ≡ true → asked_since place i story ≡ false
+choked_none place i [] e = refl
+choked_none place i (Heard now m ∷ story) e =
+    heard_barred i (choked story || nat_lt (length story) place) m (asked_since place i story) (or_left (choked story) (nat_lt (length story) place) e)
+    (choked_none place i story e)
+choked_none place i (Said now m ∷ story) e = said_choked i (choked story) m (asked_since place i story) e (λ c. choked_none place i story c)
+choked_none place i (Taken now ∷ story) e = choked_none place i story e
+
+-- nothing was asked for later than now
+pub asks_none : (place i : ℕ) (story : List Line) → length story ≤ place → asked_since place i story ≡ false
+asks_none place i [] le = refl
+asks_none place i (Heard now m ∷ story) le =
+    heard_barred i (choked story || nat_lt (length story) place) m (asked_since place i story)
+    (or_right (choked story) (nat_lt (length story) place) (lt-ltb (length story) place (omega arith))) (asks_none place i story (omega arith))
+asks_none place i (Said now m ∷ story) le = said_none i m (asked_since place i story) (asks_none place i story (omega arith))
+asks_none place i (Taken now ∷ story) le = asks_none place i story (omega arith)
+
+-- a chunk that was named long ago is an old request
+pub named_old : (i moment now : ℕ) (story : List Line) → is_named_at i moment story ≡ true → moment + 10_000_000 ≤ now → has_old_request now story ≡ true
+named_old i moment now [] e old = e
+named_old i moment now (Heard at m ∷ story) e old = named_old i moment now story e old
+named_old i moment now (Said at m ∷ story) e old = by (names_at i moment at m) refl (λ x. named_old i moment now story x old) e
+  where
+    of : (m : Message) → names_at i moment at m ≡ true → is_old now at m ≡ true
+    of (Request span) here = grind (arith, nat_tests)
+    of _ here = absurd (false≢true here)
+
+    by : (b : Bool) → names_at i moment at m ≡ b → (is_named_at i moment story ≡ true → has_old_request now story ≡ true)
+        → (b || is_named_at i moment story) ≡ true → (is_old now at m || has_old_request now story) ≡ true
+    by true here rest x = or_left (is_old now at m) (has_old_request now story) (of m here)
+    by false here rest x = or_right (is_old now at m) (has_old_request now story) (rest x)
+named_old i moment now (Taken at ∷ story) e old = named_old i moment now story e old
+
+-- ---- lines that do nothing
+
+-- What a story says is as it was, as far as a seat is concerned.
+record Alike (f : Frame) (line : Line) (t : Tale) : Type 0 where
+  asked_same : (i : ℕ) → i < f.chunks → asked i (line ∷ t.story) ≡ asked i t.story
+  since_same : (place i : ℕ) → i < f.chunks → asked_since place i (line ∷ t.story) ≡ asked_since place i t.story
+  more : asks_in t.story ≤ asks_in (line ∷ t.story)
+  choked_same : choked (line ∷ t.story) ≡ choked t.story
+  meter_same : AllByRecursion (λ e. e.chunk < f.chunks) (meter f.size t.story).entries → meter f.size (line ∷ t.story) ≡ meter f.size t.story
+  told : (n : Node) → is_told f.chunks t.story n ≡ true → is_told f.chunks (line ∷ t.story) n ≡ true
+  claims : claims_in f.chunks (with_proven line f.proven t.proven) ≡ claims_in f.chunks t.proven
+  named_same : (i moment : ℕ) → is_named_at i moment (line ∷ t.story) ≡ is_named_at i moment t.story
+  chokes_same : is_choked_by_peer (line ∷ t.story) ≡ is_choked_by_peer t.story
+  told_of : (i : ℕ) → is_told_of i t.story ≡ true → is_told_of i (line ∷ t.story) ≡ true
+
+alike_follows : (f : Frame) (lost : ℕ) (s : SeatState) (line : Line) (t : Tale) → Alike f line t → Follows f lost s t
+    → Follows f lost s (record { story = line ∷ t.story; proven = with_proven line f.proven t.proven })
+alike_follows f lost s line t a h =
+    let w = h.window in
+    record {
+      lists = record {
+        runs = h.lists.runs;
+        inside = h.lists.inside;
+        asked_for = λ i e. a.asked_same i (h.lists.inside i e) ∙ h.lists.asked_for i e;
+        few = (let few = h.lists.few in let more = a.more in omega arith);
+      };
+      lacks = λ slot. lacks_by (h.lacks slot);
+      slot = record { same = h.slot.same ∙ sym a.choked_same; unchoked = h.slot.unchoked; empty = h.slot.empty; due = h.slot.due };
+      window = record {
+        same = w.same ∙ sym (a.meter_same (subst (λ (m : Meter). AllByRecursion (λ e. e.chunk < f.chunks) m.entries) w.same w.inside));
+        inside = w.inside;
+      };
+      told = record { content = h.told.content; known = λ n e. a.told n (h.told.known n e) };
+      claims = h.claims ∙ ap (take 128) (sym a.claims);
+      proven = h.proven;
+      own = later line t.story s.own s.stopped s.chokes _ _ (record {
+        named = λ i m e. a.named_same i m ∙ h.own.named i m e;
+        expired = h.own.expired;
+        choked = λ e. a.chokes_same ∙ h.own.choked e;
+      });
+      haves = λ i place lt is early. a.told_of i (h.haves i place lt is early);
+    }
+  where
+    lacks_by : Lacks f.chunks lost f.since s.list (λ place i. asked_since place i t.story) (asks_in t.story)
+        → Lacks f.chunks lost f.since s.list (λ place i. asked_since place i (line ∷ t.story)) (asks_in (line ∷ t.story))
+    lacks_by k = record {
+      given = k.given;
+      few = k.few;
+      listed = λ i place few lt is e. k.listed i place (let more = a.more in omega arith) lt is (sym (a.since_same place i lt) ∙ e);
+    }
+
+no_hits : (chunks : ℕ) (span : Span) (entries : List Entry) → inside chunks span ≡ None → AllByRecursion (λ e. e.chunk < chunks) entries
+    → hits span.first span.last entries ≡ 0
+no_hits chunks span [] is within = refl
+no_hits chunks span (e ∷ rest) is within =
+    sum_by-cons (λ (x : Entry). cond (covers span.first span.last x) 1 0) e rest
+    ∙ both (out_within chunks span e.chunk is within.0) (no_hits chunks span rest is within.1)
+  where
+    both : {b : Bool} {m : ℕ} → b ≡ false → m ≡ 0 → cond b 1 0 + m ≡ 0
+    both p q = cc
+
+no_ack : (chunks : ℕ) (span : Span) (delay now : ℕ) (m : Meter) → inside chunks span ≡ None → AllByRecursion (λ e. e.chunk < chunks) m.entries
+    → acked span.first span.last delay now m ≡ m
+no_ack chunks span delay now m is within =
+    let none = no_hits chunks span m.entries is within in
+    cond-true (eqb (hits span.first span.last m.entries) 0) m (settled span.first span.last delay now m) (ap (λ (n : ℕ). eqb n 0) none)
+
+not_asked : (chunks i : ℕ) (span : Span) (c before : Bool) → inside chunks span ≡ None → i < chunks → ((within span i && not c) || before) ≡ before
+not_asked chunks i span c before is lt = ap (λ (b : Bool). (b && not c) || before) (out_within chunks span i is lt)
+
+not_withdrawn : (chunks i : ℕ) (span : Span) (before : Bool) → inside chunks span ≡ None → i < chunks → (not (within span i) && before) ≡ before
+not_withdrawn chunks i span before is lt = ap (λ (b : Bool). not b && before) (out_within chunks span i is lt)
+
+-- a message that came
+heard_alike : (f : Frame) (now : ℕ) (m : Message) (t : Tale) → IsIdleHeard f.chunks m → Alike f (Heard now m) t
+heard_alike f now (Handshake source options) t h = record {
+  asked_same = λ i lt. refl;
+  since_same = λ place i lt. refl;
+  more = omega arith;
+  choked_same = refl;
+  meter_same = λ e. refl;
+  told = λ n e. e;
+  claims = unclaimed f.chunks now f.proven (Handshake source options) t.proven refl;
+  named_same = λ i m. refl;
+  chokes_same = refl;
+  told_of = λ i e. e;
+}
+heard_alike f now (Data chunk sent_at bytes) t h = absurd h
+heard_alike f now (Ack span delay) t h = record {
+  asked_same = λ i lt. refl;
+  since_same = λ place i lt. refl;
+  more = omega arith;
+  choked_same = refl;
+  meter_same = λ e. no_ack f.chunks span delay now (meter f.size t.story) h e;
+  told = λ n e. or_right (tells f.chunks span n) (is_told f.chunks t.story n) e;
+  claims = unclaimed f.chunks now f.proven (Ack span delay) t.proven refl;
+  named_same = λ i m. refl;
+  chokes_same = refl;
+  told_of = λ i e. e;
+}
+heard_alike f now (Have span) t h = record {
+  asked_same = λ i lt. refl;
+  since_same = λ place i lt. refl;
+  more = omega arith;
+  choked_same = refl;
+  meter_same = λ e. refl;
+  told = λ n e. or_right (tells f.chunks span n) (is_told f.chunks t.story n) e;
+  claims = unclaimed f.chunks now f.proven (Have span) t.proven refl;
+  named_same = λ i m. refl;
+  chokes_same = refl;
+  told_of = λ i e. e;
+}
+heard_alike f now (Integrity span digest) t h = record {
+  asked_same = λ i lt. refl;
+  since_same = λ place i lt. refl;
+  more = omega arith;
+  choked_same = refl;
+  meter_same = λ e. refl;
+  told = λ n e. e;
+  claims = unclaimed f.chunks now f.proven (Integrity span digest) t.proven (ap (λ o. with_claim o digest (claims_in f.chunks t.proven)) (named_out f.chunks span h));
+  named_same = λ i m. refl;
+  chokes_same = refl;
+  told_of = λ i e. e;
+}
+heard_alike f now (Pex4 address port) t h = record {
+  asked_same = λ i lt. refl;
+  since_same = λ place i lt. refl;
+  more = omega arith;
+  choked_same = refl;
+  meter_same = λ e. refl;
+  told = λ n e. e;
+  claims = unclaimed f.chunks now f.proven (Pex4 address port) t.proven refl;
+  named_same = λ i m. refl;
+  chokes_same = refl;
+  told_of = λ i e. e;
+}
+heard_alike f now PexReq t h = record {
+  asked_same = λ i lt. refl;
+  since_same = λ place i lt. refl;
+  more = omega arith;
+  choked_same = refl;
+  meter_same = λ e. refl;
+  told = λ n e. e;
+  claims = unclaimed f.chunks now f.proven PexReq t.proven refl;
+  named_same = λ i m. refl;
+  chokes_same = refl;
+  told_of = λ i e. e;
+}
+heard_alike f now (Request span) t h = record {
+  asked_same = λ i lt. not_asked f.chunks i span (choked t.story) (asked i t.story) h lt;
+  since_same = λ place i lt. not_asked f.chunks i span (choked t.story || nat_lt (length t.story) place) (asked_since place i t.story) h lt;
+  more = omega arith;
+  choked_same = refl;
+  meter_same = λ e. refl;
+  told = λ n e. e;
+  claims = unclaimed f.chunks now f.proven (Request span) t.proven refl;
+  named_same = λ i m. refl;
+  chokes_same = refl;
+  told_of = λ i e. e;
+}
+heard_alike f now (Cancel span) t h = record {
+  asked_same = λ i lt. not_withdrawn f.chunks i span (asked i t.story) h lt;
+  since_same = λ place i lt. not_withdrawn f.chunks i span (asked_since place i t.story) h lt;
+  more = omega arith;
+  choked_same = refl;
+  meter_same = λ e. refl;
+  told = λ n e. e;
+  claims = unclaimed f.chunks now f.proven (Cancel span) t.proven refl;
+  named_same = λ i m. refl;
+  chokes_same = refl;
+  told_of = λ i e. e;
+}
+heard_alike f now Choke t h = absurd h
+heard_alike f now Unchoke t h = absurd h
+heard_alike f now (Pex6 address port) t h = record {
+  asked_same = λ i lt. refl;
+  since_same = λ place i lt. refl;
+  more = omega arith;
+  choked_same = refl;
+  meter_same = λ e. refl;
+  told = λ n e. e;
+  claims = unclaimed f.chunks now f.proven (Pex6 address port) t.proven refl;
+  named_same = λ i m. refl;
+  chokes_same = refl;
+  told_of = λ i e. e;
+}
+
+-- one that was sent
+said_alike : (f : Frame) (now : ℕ) (m : Message) (t : Tale) → IsIdleSaid m → Alike f (Said now m) t
+said_alike f now (Handshake source options) t h = record {
+  asked_same = λ i lt. refl;
+  since_same = λ place i lt. refl;
+  more = omega arith;
+  choked_same = refl;
+  meter_same = λ e. refl;
+  told = λ n e. e;
+  claims = refl;
+  named_same = λ i m. refl;
+  chokes_same = refl;
+  told_of = λ i e. e;
+}
+said_alike f now (Data chunk sent_at bytes) t h = absurd h
+said_alike f now (Ack span delay) t h = record {
+  asked_same = λ i lt. refl;
+  since_same = λ place i lt. refl;
+  more = omega arith;
+  choked_same = refl;
+  meter_same = λ e. refl;
+  told = λ n e. e;
+  claims = refl;
+  named_same = λ i m. refl;
+  chokes_same = refl;
+  told_of = λ i e. e;
+}
+said_alike f now (Have span) t h = record {
+  asked_same = λ i lt. refl;
+  since_same = λ place i lt. refl;
+  more = omega arith;
+  choked_same = refl;
+  meter_same = λ e. refl;
+  told = λ n e. e;
+  claims = refl;
+  named_same = λ i m. refl;
+  chokes_same = refl;
+  told_of = λ i e. or_right (within span i) (is_told_of i t.story) e;
+}
+said_alike f now (Integrity span digest) t h = record {
+  asked_same = λ i lt. refl;
+  since_same = λ place i lt. refl;
+  more = omega arith;
+  choked_same = refl;
+  meter_same = λ e. refl;
+  told = λ n e. e;
+  claims = refl;
+  named_same = λ i m. refl;
+  chokes_same = refl;
+  told_of = λ i e. e;
+}
+said_alike f now (Pex4 address port) t h = record {
+  asked_same = λ i lt. refl;
+  since_same = λ place i lt. refl;
+  more = omega arith;
+  choked_same = refl;
+  meter_same = λ e. refl;
+  told = λ n e. e;
+  claims = refl;
+  named_same = λ i m. refl;
+  chokes_same = refl;
+  told_of = λ i e. e;
+}
+said_alike f now PexReq t h = record {
+  asked_same = λ i lt. refl;
+  since_same = λ place i lt. refl;
+  more = omega arith;
+  choked_same = refl;
+  meter_same = λ e. refl;
+  told = λ n e. e;
+  claims = refl;
+  named_same = λ i m. refl;
+  chokes_same = refl;
+  told_of = λ i e. e;
+}
+said_alike f now (Request span) t h = absurd h
+said_alike f now (Cancel span) t h = record {
+  asked_same = λ i lt. refl;
+  since_same = λ place i lt. refl;
+  more = omega arith;
+  choked_same = refl;
+  meter_same = λ e. refl;
+  told = λ n e. e;
+  claims = refl;
+  named_same = λ i m. refl;
+  chokes_same = refl;
+  told_of = λ i e. e;
+}
+said_alike f now Choke t h = absurd h
+said_alike f now Unchoke t h = absurd h
+said_alike f now (Pex6 address port) t h = record {
+  asked_same = λ i lt. refl;
+  since_same = λ place i lt. refl;
+  more = omega arith;
+  choked_same = refl;
+  meter_same = λ e. refl;
+  told = λ n e. e;
+  claims = refl;
+  named_same = λ i m. refl;
+  chokes_same = refl;
+  told_of = λ i e. e;
+}
+
+pub idle_stays : IdleStays
+idle_stays (Heard now m) s = record { follows = λ f lost t h. alike_follows f lost s (Heard now m) t (heard_alike f now m t h) }
+idle_stays (Said now m) s = record { follows = λ f lost t h. alike_follows f lost s (Said now m) t (said_alike f now m t h) }
+idle_stays (Taken now) s = record { follows = λ f lost t h. absurd h }
+
+-- ---- frames
+
+pub announced_stays : AnnouncedStays
+announced_stays f lost since s t mark each h = record {
+  lists = h.lists;
+  lacks = λ slot. lacks_by (h.lacks slot);
+  slot = h.slot;
+  window = h.window;
+  told = h.told;
+  claims = h.claims;
+  proven = h.proven;
+  own = h.own;
+  haves = λ i place lt is early. ⊎_elim
+      (λ same. h.haves i place lt (sym same ∙ is) early)
+      (λ (new : (f.since i ≡ None) × (since i ≡ Some (length t.story))). absurd (let now = place_of i place is new.1 in omega arith))
+      (each.each i);
+}
+  where
+    place_of : (i place : ℕ) → since i ≡ Some place → since i ≡ Some (length t.story) → place ≡ length t.story
+    place_of i place p q = cc
+
+    lacks_by : Lacks f.chunks lost f.since s.list (λ place i. asked_since place i t.story) (asks_in t.story)
+        → Lacks f.chunks lost since s.list (λ place i. asked_since place i t.story) (asks_in t.story)
+    lacks_by k = record {
+      given = k.given;
+      few = k.few;
+      listed = λ i place few lt is e. ⊎_elim
+          (λ same. k.listed i place few lt (sym same ∙ is) e)
+          (λ (new : (f.since i ≡ None) × (since i ≡ Some (length t.story))).
+          absurd (both_ways (asked_since place i t.story) (asks_none place i t.story (let now = place_of i place is new.1 in omega arith)) e))
+          (each.each i);
+    }
+
+pub mark_stays : MarkStays
+mark_stays f lost mark s t haves h = record {
+  lists = h.lists;
+  lacks = h.lacks;
+  slot = h.slot;
+  window = h.window;
+  told = h.told;
+  claims = h.claims;
+  proven = h.proven;
+  own = h.own;
+  haves = haves;
+}

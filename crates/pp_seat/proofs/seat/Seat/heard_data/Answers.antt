@@ -1,0 +1,5 @@
+use Rattle.pp_seat.proofs.Hearing.{data_goes}
+use Rattle.pp_seat.proofs.seat.Seat.heard_data.Goals as goal
+
+pub returns-clause-goes : goal.returns-clause-goes
+returns-clause-goes c now sent_at bytes = rw (← c.self.view_is) (data_goes _ c.answered.new.self c.args.i now sent_at bytes c.answered.ensures.taken)

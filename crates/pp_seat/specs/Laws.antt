@@ -1,0 +1,71 @@
+-- What stays of a seat while nothing is called, and what follows from the story that it follows.
+use Rattle.std.specs.Prelude.{◌≡◌, ◌⊎◌, ℕ, ◌<◌, ◌≤◌, ◌==◌, true, false, Option, Some, None, List, [], length}
+use Rattle.std.specs.List.{list_any}
+use Rattle.pp_terms.specs.format.Messages.{Message, Handshake, Data, Ack, Have, Integrity, Pex4, PexReq, Request, Cancel, Choke, Unchoke, Pex6}
+use Rattle.pp_traffic.specs.Story.{Line, Heard, Said, Taken}
+use Rattle.pp_traffic.specs.Asking.{choked, asks_in, most_asks}
+use Rattle.pp_promises.specs.Announced.{is_told_of}
+use Rattle.pp_seat.specs.Lines.{inside, asked_since, Tale}
+use Rattle.pp_seat.specs.Aspects.{Haves}
+use Rattle.pp_seat.specs.Seats.{SeatState}
+use Rattle.pp_seat.specs.Follows.{Frame, Follows, Goes, IsIdleSaid}
+
+-- ---- lines that do nothing to a seat
+
+-- A message that came does nothing: it names no chunk of the content, or it is of a kind that a seat passes over.
+abbrev pub IsIdleHeard : ℕ → Message → Type 0
+IsIdleHeard chunks (Handshake source options) = Unit {0}
+IsIdleHeard chunks (Data chunk sent_at bytes) = ⊥
+IsIdleHeard chunks (Ack span delay) = inside chunks span ≡ None
+IsIdleHeard chunks (Have span) = inside chunks span ≡ None
+IsIdleHeard chunks (Integrity span digest) = inside chunks span ≡ None
+IsIdleHeard chunks (Pex4 address port) = Unit {0}
+IsIdleHeard chunks PexReq = Unit {0}
+IsIdleHeard chunks (Request span) = inside chunks span ≡ None
+IsIdleHeard chunks (Cancel span) = inside chunks span ≡ None
+IsIdleHeard chunks Choke = ⊥
+IsIdleHeard chunks Unchoke = ⊥
+IsIdleHeard chunks (Pex6 address port) = Unit {0}
+
+abbrev pub IsIdle : Line → Frame → Tale → Type 0
+IsIdle (Heard now m) f t = IsIdleHeard f.chunks m
+IsIdle (Said now m) f t = IsIdleSaid m
+IsIdle (Taken now) f t = ⊥
+
+-- A seat that stays as it is follows such a line.
+abbrev pub IdleStays : Type 0
+IdleStays = (line : Line) (s : SeatState) → Goes (IsIdle line) line s s
+
+-- ---- frames
+
+-- Chunks that weren't announced were, when the story had so many lines.
+pub record IsLater (place : ℕ) (since later : ℕ → Option ℕ) : Type 0 where
+  pub each : (i : ℕ) → (later i ≡ since i) ⊎ ((since i ≡ None) × (later i ≡ Some place))
+
+abbrev pub with_since : (ℕ → Option ℕ) → Frame → Frame
+with_since since f = record { chunks = f.chunks; size = f.size; since = since; mark = f.mark; proven = f.proven }
+
+abbrev pub AnnouncedStays : Type 0
+AnnouncedStays = (f : Frame) (lost : ℕ) (since : ℕ → Option ℕ) (s : SeatState) (t : Tale) → f.mark ≤ length t.story
+    → IsLater (length t.story) f.since since → Follows f lost s t → Follows (with_since since f) lost s t
+
+-- A turn ended, and what had been announced below the cursor was told of on the channel.
+abbrev pub with_mark : ℕ → Frame → Frame
+with_mark mark f = record { chunks = f.chunks; size = f.size; since = f.since; mark = mark; proven = f.proven }
+
+abbrev pub MarkStays : Type 0
+MarkStays = (f : Frame) (lost mark : ℕ) (s : SeatState) (t : Tale) → Haves s.cursor f.since mark (λ i. is_told_of i t.story)
+    → Follows f lost s t → Follows (with_mark mark f) lost s t
+
+-- ---- what follows
+
+-- Where nothing is on the list of a channel with a slot, nothing is left that is asked for by a REQUEST since it was announced, but
+-- what was given up.
+abbrev pub NoneLeft : Type 0
+NoneLeft = (f : Frame) (lost : ℕ) (s : SeatState) (t : Tale) → Follows f lost s t → s.slot ≡ true → s.list ≡ []
+    → (given : List ℕ) × (length given ≤ lost) × ((i place : ℕ) → asks_in t.story ≤ most_asks → i < f.chunks → f.since i ≡ Some place
+    → asked_since place i t.story ≡ true → list_any (λ k. k == i) given ≡ true)
+
+-- On a channel without a slot a CHOKE was sent, or is to be sent.
+abbrev pub ChokesAreDue : Type 0
+ChokesAreDue = (f : Frame) (lost : ℕ) (s : SeatState) (t : Tale) → Follows f lost s t → s.slot ≡ false → choked t.story ≡ false → s.owes ≡ true

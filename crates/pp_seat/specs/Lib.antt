@@ -1,0 +1,6 @@
+pub mod Lines
+pub mod Seats
+pub mod Own
+pub mod Aspects
+pub mod Follows
+pub mod Laws

@@ -1,0 +1,24 @@
+//! What a peer keeps of one channel's messages: what it may send there, what the other peer told, claimed and asked for, and
+//! what it asks for itself (RFC 7574, sections 3, 5 and 8). Moments are in microseconds. Only a new seat takes memory.
+#![tactic(auto)]
+
+ghost use Rattle.pp_seat.specs.Laws.{IdleStays, AnnouncedStays, MarkStays, NoneLeft, ChokesAreDue};
+
+mod cursor;
+mod hashes;
+mod own;
+mod seat;
+mod service;
+
+pub use hashes::Claimed;
+pub use seat::Seat;
+pub use service::Listed;
+
+/// What stays of a seat while nothing is called, and what follows from the story that it follows. It does nothing.
+pub fn laws_of_seats()
+    ensures idle { IdleStays }
+    ensures announced { AnnouncedStays }
+    ensures marks { MarkStays }
+    ensures none_left { NoneLeft }
+    ensures chokes { ChokesAreDue }
+{}

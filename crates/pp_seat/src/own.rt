@@ -1,0 +1,95 @@
+//! What this peer asks for.
+
+ghost use Rattle.std.specs.Prelude.{◌≡◌, ◌⊎◌, ◌<◌, ◌≤◌, ◌+◌, ◌-◌, ℕ, List, [], true, false, None, Some, is_some, MatchOption, length};
+ghost use Rattle.pp_terms.specs.tree.Range.{Span, within};
+ghost use Rattle.pp_terms.specs.format.Messages.{Data, Request, Choke, Unchoke};
+ghost use Rattle.pp_traffic.specs.Story.{Heard, Said};
+ghost use Rattle.pp_requests.specs.Moments.{asked_at, Changes, IsLeastExpired, NoneExpired};
+ghost use Rattle.pp_seat.specs.Own.{HasAsked, CanAsk, AsksAll};
+ghost use Rattle.pp_seat.specs.Follows.{Goes, Stays, Always, HasCome};
+
+use crate::seat::Seat;
+use pp_ranges::ChunkRange;
+use pp_requests::Asked;
+
+impl Seat {
+    /// A CHOKE came: none of this peer's requests will be answered (RFC 7574, section 3.9).
+    pub fn heard_choke(&mut self)
+        ensures exact { self.new ≡ record self.old { chokes = true; own = [] } }
+        ensures goes { (now : ℕ) → Goes Always (Heard now Choke) self.old self.new }
+    {
+        self.chokes = true;
+        self.own.clear();
+    }
+
+    /// An UNCHOKE came.
+    pub fn heard_unchoke(&mut self)
+        ensures exact { self.new ≡ record self.old { chokes = false } }
+        ensures goes { (now : ℕ) → Goes Always (Heard now Unchoke) self.old self.new }
+    {
+        self.chokes = false;
+    }
+
+    /// A chunk came, whatever it is worth. It answers whether this peer waited for it.
+    pub fn heard_data(&mut self, i: u32) -> bool
+        ensures was { result ≡ is_some (asked_at self.old.own i) }
+        ensures rest { self.new ≡ record self.old { own = self.new.own } }
+        ensures taken { Changes i None self.old.own self.new.own }
+        ensures goes { (now sent_at : ℕ) (bytes : List ℕ) → Goes Always (Heard now (Data i sent_at bytes)) self.old self.new }
+    {
+        self.own.answered(i)
+    }
+
+    /// A REQUEST was sent. A chunk of it that this peer waits for already, or for which there is no room, isn't noted.
+    pub fn said_request(&mut self, range: ChunkRange, now: u64)
+        ensures rest { self.new ≡ record self.old { own = self.new.own } }
+        ensures exact { CanAsk range self.old.own → AsksAll range now self.old.own self.new.own }
+        ensures goes { Goes Always (Said now (Request range)) self.old self.new }
+    {
+        ask(&mut self.own, range, now);
+    }
+
+    /// Takes out the least chunk that this peer asked for 10 seconds ago or longer, and stops asking.
+    pub fn expired(&mut self, now: u64) -> Option<u32>
+        ensures least { MatchOption result (NoneExpired self.old.own now) (IsLeastExpired self.old.own now) }
+        ensures taken { MatchOption result (self.new ≡ self.old)
+            (λ i. (self.new ≡ record self.old { own = self.new.own; stopped = true }) × Changes i None self.old.own self.new.own) }
+        ensures stays { Stays (HasCome now) self.old self.new }
+    {
+        let i = self.own.expired(now)?;
+        self.stopped = true;
+        Some(i)
+    }
+
+    /// A datagram came on the channel: this peer may ask again.
+    pub fn resume(&mut self)
+        ensures exact { self.new ≡ record self.old { stopped = false } }
+        ensures stays { Stays Always self.old self.new }
+    {
+        self.stopped = false;
+    }
+}
+
+// Notes that a chunk was asked for, where there is room and this peer doesn't wait for it yet.
+fn ask_one(own: &mut Asked, i: u32, now: u64)
+    ensures named { (j m : ℕ) → asked_at own.new j ≡ Some m → (asked_at own.old j ≡ Some m) ⊎ ((j ≡ i) × (m ≡ now)) }
+    ensures exact { length own.old < 32 → asked_at own.old i ≡ None → HasAsked i now own.old own.new }
+{
+    if own.room() == 0 {
+        return;
+    }
+    if own.contains(i) {
+        return;
+    }
+    own.ask(i, now);
+}
+
+// The same of a range.
+fn ask(own: &mut Asked, range: ChunkRange, now: u64)
+    ensures named { (i m : ℕ) → asked_at own.new i ≡ Some m → (asked_at own.old i ≡ Some m) ⊎ ((within range i ≡ true) × (m ≡ now)) }
+    ensures exact { CanAsk range own.old → AsksAll range now own.old own.new }
+{
+    for i in u64::from(range.first())..u64::from(range.last()) + 1 {
+        ask_one(own, i as u32, now);
+    }
+}
