@@ -10,10 +10,10 @@ use Rattle.pp_traffic.proofs.Paths.{paths_grow}
 use Rattle.pp_plan.specs.Told.{knows}
 use Rattle.pp_seat.specs.Lines.{Tale}
 use Rattle.pp_seat.specs.Seats.{SeatState}
-use Rattle.pp_seat.specs.Follows.{Frame, Follows, IsNext, Answers}
+use Rattle.pp_seat.specs.Follows.{Frame, Lost, Follows, IsNext, Answers}
 use Rattle.pp_seat.specs.Laws.{NoneLeft, ChokesAreDue}
 
-pub answers : (f : Frame) (lost i : ℕ) (s : SeatState) (t : Tale) → IsNext s i → Follows f lost s t → Answers f t i
+pub answers : (f : Frame) (lost : Lost) (i : ℕ) (s : SeatState) (t : Tale) → IsNext s i → Follows f lost s t → Answers f t i
 answers f lost i s t next h = record {
   content = h.lists.inside i next.least.listed;
   asked_for = h.lists.asked_for i next.least.listed;
@@ -22,7 +22,7 @@ answers f lost i s t next h = record {
 }
 
 -- The hashes of its plan complete its path.
-pub whole_path : (f : Frame) (lost i chunks : ℕ) (s : SeatState) (t : Tale) (brought : Node → Bool) (nodes : List Node) → s.told.chunks ≡ chunks
+pub whole_path : (f : Frame) (lost : Lost) (i chunks : ℕ) (s : SeatState) (t : Tale) (brought : Node → Bool) (nodes : List Node) → s.told.chunks ≡ chunks
     → completes chunks brought (knows s.told) i ≡ list_all brought nodes → Follows f lost s t → list_all brought nodes ≡ true
     → completes f.chunks brought (is_told f.chunks t.story) i ≡ true
 whole_path f lost i chunks s t brought nodes content is h all =

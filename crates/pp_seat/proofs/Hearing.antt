@@ -20,7 +20,7 @@ use Rattle.pp_requests.specs.Moments.{asked_at, Changes}
 use Rattle.pp_seat.specs.Lines.{Tale, with_line}
 use Rattle.pp_seat.specs.Aspects.{Sends, Knows}
 use Rattle.pp_seat.specs.Seats.{SeatState}
-use Rattle.pp_seat.specs.Follows.{Frame, Follows, Goes, Always, IsCut}
+use Rattle.pp_seat.specs.Follows.{Frame, Lost, Follows, Goes, Always, IsCut}
 use Rattle.pp_seat.proofs.Spans.{IsPart, part_of}
 use Rattle.pp_seat.proofs.Listing.{requests_list, requests_lacks, cancels_list, cancels_lacks}
 use Rattle.pp_seat.proofs.Moments.{later}
@@ -36,7 +36,7 @@ request_goes s part list now span slot is more = record {
       let free = sym h.slot.same ∙ h.slot.unchoked slot in
       subst (λ (xs : List Span). Follows f lost (record s { list = xs }) (with_line (Heard now (Request span)) f.proven t)) (sym is) (record {
         lists = requests_list f.chunks span part s.list t.story now p free (subst (λ (xs : List Span). length xs ≤ length s.list + 1) is more) h.lists;
-        lacks = λ e. requests_lacks f.chunks lost f.since span part s.list t.story now p h.lists (h.lacks e);
+        lacks = λ e. requests_lacks f.chunks lost.chunks f.since span part s.list t.story now p h.lists (h.lacks e);
         slot = record { same = h.slot.same; unchoked = h.slot.unchoked; empty = λ e. absurd (both_ways s.slot e slot); due = h.slot.due };
         window = h.window;
         told = h.told;
@@ -44,6 +44,8 @@ request_goes s part list now span slot is more = record {
         proven = h.proven;
         own = later (Heard now (Request span)) t.story s.own s.stopped s.chokes _ _ h.own;
         haves = h.haves;
+        fresh = h.fresh;
+        exchange = h.exchange;
       });
 }
 
@@ -65,6 +67,8 @@ choked_goes s part now span no_slot = record {
     proven = h.proven;
     own = later (Heard now (Request span)) t.story s.own s.stopped s.chokes _ _ h.own;
     haves = h.haves;
+    fresh = h.fresh;
+    exchange = h.exchange;
   };
 }
 
@@ -75,7 +79,7 @@ cancel_goes s part list now span is more = record {
       let p = part_of f.chunks span part cut in
       subst (λ (xs : List Span). Follows f lost (record s { list = xs }) (with_line (Heard now (Cancel span)) f.proven t)) (sym is) (record {
         lists = cancels_list f.chunks span part s.list t.story now p (subst (λ (xs : List Span). length xs ≤ length s.list + 1) is more) h.lists;
-        lacks = λ e. cancels_lacks f.chunks lost f.since span part s.list t.story now p h.lists (h.lacks e);
+        lacks = λ e. cancels_lacks f.chunks lost.chunks f.since span part s.list t.story now p h.lists (h.lacks e);
         slot = record { same = h.slot.same; unchoked = h.slot.unchoked; empty = λ e. ap (cancelled part) (h.slot.empty e); due = h.slot.due };
         window = h.window;
         told = h.told;
@@ -83,6 +87,8 @@ cancel_goes s part list now span is more = record {
         proven = h.proven;
         own = later (Heard now (Cancel span)) t.story s.own s.stopped s.chokes _ _ h.own;
         haves = h.haves;
+        fresh = h.fresh;
+        exchange = h.exchange;
       });
 }
 
@@ -121,6 +127,8 @@ have_goes s part told now span chunks more = record {
     proven = h.proven;
     own = later (Heard now (Have span)) t.story s.own s.stopped s.chokes _ _ h.own;
     haves = h.haves;
+    fresh = h.fresh;
+    exchange = h.exchange;
   };
 }
 
@@ -154,15 +162,17 @@ ack_goes s part told window delay now span chunks more is = record {
         proven = h.proven;
         own = later (Heard now (Ack span delay)) t.story s.own s.stopped s.chokes _ _ h.own;
         haves = h.haves;
+        fresh = h.fresh;
+        exchange = h.exchange;
       };
 }
 
 -- ---- claims
 
 -- with these claims the seat follows an INTEGRITY
-integrity_follows : (f : Frame) (lost : ℕ) (s : SeatState) (t : Tale) (claims : List Claim) (now : ℕ) (span : Span) (digest : List ℕ) (proven : List Line)
+integrity_follows : (f : Frame) (lost : Lost) (s : SeatState) (t : Tale) (claims : List Claim) (now : ℕ) (span : Span) (digest : List ℕ) (proven : List Line)
     → claims ≡ take 128 (claims_in f.chunks proven) → Follows f lost s t
-    → Follows f lost (record s { claims = claims }) (record { story = Heard now (Integrity span digest) ∷ t.story; proven = proven })
+    → Follows f lost (record s { claims = claims }) (record { story = Heard now (Integrity span digest) ∷ t.story; proven = proven; told = t.told })
 integrity_follows f lost s t claims now span digest proven is h = record {
   lists = h.lists;
   lacks = h.lacks;
@@ -173,6 +183,8 @@ integrity_follows f lost s t claims now span digest proven is h = record {
   proven = h.proven;
   own = later (Heard now (Integrity span digest)) t.story s.own s.stopped s.chokes _ _ h.own;
   haves = h.haves;
+  fresh = h.fresh;
+  exchange = h.exchange;
 }
 
 -- before the channel is proven
@@ -223,6 +235,8 @@ choke_goes s own now none = subst (λ (xs : List Asking). Goes Always (Heard now
     own = later (Heard now Choke) t.story [] s.stopped true _ _
         (record { named = λ i moment e. absurd (none_some moment e); expired = h.own.expired; choked = λ e. refl });
     haves = h.haves;
+    fresh = h.fresh;
+    exchange = h.exchange;
   };
 })
   where
@@ -242,6 +256,8 @@ unchoke_goes s now = record {
     own = later (Heard now Unchoke) t.story s.own s.stopped false _ _
         (record { named = h.own.named; expired = h.own.expired; choked = λ e. absurd (false≢true e) });
     haves = h.haves;
+    fresh = h.fresh;
+    exchange = h.exchange;
   };
 }
 
@@ -267,6 +283,8 @@ data_goes s own i now sent_at bytes is = record {
     own = later (Heard now (Data i sent_at bytes)) t.story own s.stopped s.chokes _ _
         (record { named = λ j m e. h.own.named j m (fewer_asked i s.own own is j m e); expired = h.own.expired; choked = h.own.choked });
     haves = h.haves;
+    fresh = h.fresh;
+    exchange = h.exchange;
   };
 }
 
@@ -290,6 +308,8 @@ taken_goes s window now is = record {
     proven = h.proven;
     own = later (Taken now) t.story s.own s.stopped s.chokes _ _ h.own;
     haves = h.haves;
+    fresh = h.fresh;
+    exchange = h.exchange;
   };
 }
 

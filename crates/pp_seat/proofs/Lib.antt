@@ -5,6 +5,7 @@ pub mod Hearing
 pub mod Saying
 pub mod Naming
 pub mod Passing
+pub mod Telling
 pub mod Openings
 pub mod Answering
 pub mod Asking

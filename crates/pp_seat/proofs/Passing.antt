@@ -1,5 +1,6 @@
 -- Lines that do nothing to a seat, and frames that grow.
-use Rattle.std.proofs.Common.{◌≡◌, ⊎_elim, ℕ, ◌+◌, ◌<◌, ◌≤◌, eqb, nat_lt, Bool, true, false, cond, not, ◌&&◌, ◌||◌, Some, None, List, [], ◌∷◌, length, take, refl, sym, ◌∙◌, ap, subst, arith}
+use Rattle.pp_traffic.specs.Fates.{clock}
+use Rattle.std.proofs.Common.{◌≡◌, ⊎_elim, ℕ, ◌+◌, ◌<◌, ◌≤◌, eqb, nat_lt, Bool, true, false, cond, not, ◌&&◌, ◌||◌, Some, None, List, [], ◌∷◌, length, take, refl, sym, ◌∙◌, ap, subst, arith, Option, inl, inr}
 use Rattle.std.specs.List.{AllByRecursion}
 use Rattle.std.proofs.lemmas.Bool.{cond-true, or_left, or_right, or_from, and_right, both_ways, lt-ltb, false≢true}
 use Rattle.std.proofs.lemmas.Bool.Decides.{nat_tests}
@@ -14,15 +15,15 @@ use Rattle.pp_traffic.specs.Claims.{claims_in, with_claim}
 use Rattle.pp_traffic.specs.Hashes.{tells, is_told}
 use Rattle.pp_traffic.specs.Meter.{Meter, meter, covers, hits, acked, settled}
 use Rattle.pp_promises.specs.Announced.{is_told_of}
-use Rattle.pp_promises.specs.OwnSide.{is_old, has_old_request, is_choked_by_peer}
-use Rattle.pp_seat.specs.Lines.{inside, asked_since, names_at, is_named_at, Tale, with_proven}
-use Rattle.pp_seat.specs.Aspects.{Lacks}
+use Rattle.pp_promises.specs.OwnSide.{is_old, has_old_request, is_choked_by_peer, has_in}
+use Rattle.pp_seat.specs.Lines.{inside, asked_since, names_at, is_named_at, last_answer, last_question, Tale, with_line, with_said}
+use Rattle.pp_seat.specs.Aspects.{Lacks, Haves, Fresh, Exchanges}
 use Rattle.pp_seat.specs.Seats.{SeatState}
-use Rattle.pp_seat.specs.Follows.{Frame, Follows, IsIdleSaid}
+use Rattle.pp_seat.specs.Follows.{Frame, Lost, Follows, IsIdleSaid}
 use Rattle.pp_seat.specs.Laws.{IsIdleHeard, IdleStays, AnnouncedStays, MarkStays}
 use Rattle.pp_seat.proofs.Spans.{out_within}
 use Rattle.pp_seat.proofs.Naming.{unclaimed, named_out}
-use Rattle.pp_seat.proofs.Moments.{later}
+use Rattle.pp_seat.proofs.Moments.{old_stays}
 
 -- ---- what stories say
 
@@ -80,22 +81,24 @@ named_old i moment now (Taken at ∷ story) e old = named_old i moment now story
 
 -- ---- lines that do nothing
 
--- What a story says is as it was, as far as a seat is concerned.
-record Alike (f : Frame) (line : Line) (t : Tale) : Type 0 where
-  asked_same : (i : ℕ) → i < f.chunks → asked i (line ∷ t.story) ≡ asked i t.story
-  since_same : (place i : ℕ) → i < f.chunks → asked_since place i (line ∷ t.story) ≡ asked_since place i t.story
-  more : asks_in t.story ≤ asks_in (line ∷ t.story)
-  choked_same : choked (line ∷ t.story) ≡ choked t.story
-  meter_same : AllByRecursion (λ e. e.chunk < f.chunks) (meter f.size t.story).entries → meter f.size (line ∷ t.story) ≡ meter f.size t.story
-  told : (n : Node) → is_told f.chunks t.story n ≡ true → is_told f.chunks (line ∷ t.story) n ≡ true
-  claims : claims_in f.chunks (with_proven line f.proven t.proven) ≡ claims_in f.chunks t.proven
-  named_same : (i moment : ℕ) → is_named_at i moment (line ∷ t.story) ≡ is_named_at i moment t.story
-  chokes_same : is_choked_by_peer (line ∷ t.story) ≡ is_choked_by_peer t.story
-  told_of : (i : ℕ) → is_told_of i t.story ≡ true → is_told_of i (line ∷ t.story) ≡ true
+-- What two tales say is the same, as far as it concerns a seat's requests, hashes and window.
+pub record Alike (f : Frame) (t later : Tale) : Type 0 where
+  pub asked_same : (i : ℕ) → i < f.chunks → asked i later.story ≡ asked i t.story
+  pub since_same : (place i : ℕ) → i < f.chunks → asked_since place i later.story ≡ asked_since place i t.story
+  pub more : asks_in t.story ≤ asks_in later.story
+  pub choked_same : choked later.story ≡ choked t.story
+  pub meter_same : AllByRecursion (λ e. e.chunk < f.chunks) (meter f.size t.story).entries → meter f.size later.story ≡ meter f.size t.story
+  pub told : (n : Node) → is_told f.chunks t.story n ≡ true → is_told f.chunks later.story n ≡ true
+  pub claims : claims_in f.chunks later.proven ≡ claims_in f.chunks t.proven
+  pub named : (i moment : ℕ) → is_named_at i moment t.story ≡ true → is_named_at i moment later.story ≡ true
+  pub old : has_old_request (clock t.story) t.story ≡ true → has_old_request (clock later.story) later.story ≡ true
+  pub chokes_same : is_choked_by_peer later.story ≡ is_choked_by_peer t.story
 
-alike_follows : (f : Frame) (lost : ℕ) (s : SeatState) (line : Line) (t : Tale) → Alike f line t → Follows f lost s t
-    → Follows f lost s (record { story = line ∷ t.story; proven = with_proven line f.proven t.proven })
-alike_follows f lost s line t a h =
+pub alike_follows : (f : Frame) (lost : Lost) (s : SeatState) (t later : Tale) (cursor : ℕ) (answer question : Option ℕ) → Alike f t later → Follows f lost s t
+    → Haves cursor f.since f.mark (λ i. is_told_of i later.story) → Fresh cursor f.proven later.told lost.haves
+    → Exchanges answer question (last_answer later.story) (last_question later.story)
+    → Follows f lost (record s { cursor = cursor; answer = answer; question = question }) later
+alike_follows f lost s t later cursor answer question a h haves fresh exchange =
     let w = h.window in
     record {
       lists = record {
@@ -113,21 +116,51 @@ alike_follows f lost s line t a h =
       told = record { content = h.told.content; known = λ n e. a.told n (h.told.known n e) };
       claims = h.claims ∙ ap (take 128) (sym a.claims);
       proven = h.proven;
-      own = later line t.story s.own s.stopped s.chokes _ _ (record {
-        named = λ i m e. a.named_same i m ∙ h.own.named i m e;
-        expired = h.own.expired;
+      own = record {
+        named = λ i m e. a.named i m (h.own.named i m e);
+        expired = λ e. a.old (h.own.expired e);
         choked = λ e. a.chokes_same ∙ h.own.choked e;
-      });
-      haves = λ i place lt is early. a.told_of i (h.haves i place lt is early);
+      };
+      haves = haves;
+      fresh = fresh;
+      exchange = exchange;
     }
   where
-    lacks_by : Lacks f.chunks lost f.since s.list (λ place i. asked_since place i t.story) (asks_in t.story)
-        → Lacks f.chunks lost f.since s.list (λ place i. asked_since place i (line ∷ t.story)) (asks_in (line ∷ t.story))
+    lacks_by : Lacks f.chunks lost.chunks f.since s.list (λ place i. asked_since place i t.story) (asks_in t.story)
+        → Lacks f.chunks lost.chunks f.since s.list (λ place i. asked_since place i later.story) (asks_in later.story)
     lacks_by k = record {
       given = k.given;
       few = k.few;
       listed = λ i place few lt is e. k.listed i place (let more = a.more in omega arith) lt is (sym (a.since_same place i lt) ∙ e);
     }
+
+same_alike : (f : Frame) (t : Tale) → Alike f t t
+same_alike f t = record {
+  asked_same = λ i lt. refl;
+  since_same = λ place i lt. refl;
+  more = omega arith;
+  choked_same = refl;
+  meter_same = λ e. refl;
+  told = λ n e. e;
+  claims = refl;
+  named = λ i m e. e;
+  old = λ e. e;
+  chokes_same = refl;
+}
+
+twice_alike : (f : Frame) (t later last : Tale) → Alike f t later → Alike f later last → Alike f t last
+twice_alike f t later last a b = record {
+  asked_same = λ i lt. b.asked_same i lt ∙ a.asked_same i lt;
+  since_same = λ place i lt. b.since_same place i lt ∙ a.since_same place i lt;
+  more = (let one = a.more in let other = b.more in omega arith);
+  choked_same = b.choked_same ∙ a.choked_same;
+  meter_same = λ e. b.meter_same (subst (λ (m : Meter). AllByRecursion (λ e. e.chunk < f.chunks) m.entries) (sym (a.meter_same e)) e) ∙ a.meter_same e;
+  told = λ n e. b.told n (a.told n e);
+  claims = b.claims ∙ a.claims;
+  named = λ i m e. b.named i m (a.named i m e);
+  old = λ e. b.old (a.old e);
+  chokes_same = b.chokes_same ∙ a.chokes_same;
+}
 
 no_hits : (chunks : ℕ) (span : Span) (entries : List Entry) → inside chunks span ≡ None → AllByRecursion (λ e. e.chunk < chunks) entries
     → hits span.first span.last entries ≡ 0
@@ -152,7 +185,7 @@ not_withdrawn : (chunks i : ℕ) (span : Span) (before : Bool) → inside chunks
 not_withdrawn chunks i span before is lt = ap (λ (b : Bool). not b && before) (out_within chunks span i is lt)
 
 -- a message that came
-heard_alike : (f : Frame) (now : ℕ) (m : Message) (t : Tale) → IsIdleHeard f.chunks m → Alike f (Heard now m) t
+heard_alike : (f : Frame) (now : ℕ) (m : Message) (t : Tale) → IsIdleHeard f.chunks m → Alike f t (with_line (Heard now m) f.proven t)
 heard_alike f now (Handshake source options) t h = record {
   asked_same = λ i lt. refl;
   since_same = λ place i lt. refl;
@@ -161,9 +194,9 @@ heard_alike f now (Handshake source options) t h = record {
   meter_same = λ e. refl;
   told = λ n e. e;
   claims = unclaimed f.chunks now f.proven (Handshake source options) t.proven refl;
-  named_same = λ i m. refl;
+  named = λ i m e. e;
+  old = old_stays (Heard now (Handshake source options)) t.story;
   chokes_same = refl;
-  told_of = λ i e. e;
 }
 heard_alike f now (Data chunk sent_at bytes) t h = absurd h
 heard_alike f now (Ack span delay) t h = record {
@@ -174,9 +207,9 @@ heard_alike f now (Ack span delay) t h = record {
   meter_same = λ e. no_ack f.chunks span delay now (meter f.size t.story) h e;
   told = λ n e. or_right (tells f.chunks span n) (is_told f.chunks t.story n) e;
   claims = unclaimed f.chunks now f.proven (Ack span delay) t.proven refl;
-  named_same = λ i m. refl;
+  named = λ i m e. e;
+  old = old_stays (Heard now (Ack span delay)) t.story;
   chokes_same = refl;
-  told_of = λ i e. e;
 }
 heard_alike f now (Have span) t h = record {
   asked_same = λ i lt. refl;
@@ -186,9 +219,9 @@ heard_alike f now (Have span) t h = record {
   meter_same = λ e. refl;
   told = λ n e. or_right (tells f.chunks span n) (is_told f.chunks t.story n) e;
   claims = unclaimed f.chunks now f.proven (Have span) t.proven refl;
-  named_same = λ i m. refl;
+  named = λ i m e. e;
+  old = old_stays (Heard now (Have span)) t.story;
   chokes_same = refl;
-  told_of = λ i e. e;
 }
 heard_alike f now (Integrity span digest) t h = record {
   asked_same = λ i lt. refl;
@@ -198,9 +231,9 @@ heard_alike f now (Integrity span digest) t h = record {
   meter_same = λ e. refl;
   told = λ n e. e;
   claims = unclaimed f.chunks now f.proven (Integrity span digest) t.proven (ap (λ o. with_claim o digest (claims_in f.chunks t.proven)) (named_out f.chunks span h));
-  named_same = λ i m. refl;
+  named = λ i m e. e;
+  old = old_stays (Heard now (Integrity span digest)) t.story;
   chokes_same = refl;
-  told_of = λ i e. e;
 }
 heard_alike f now (Pex4 address port) t h = record {
   asked_same = λ i lt. refl;
@@ -210,9 +243,9 @@ heard_alike f now (Pex4 address port) t h = record {
   meter_same = λ e. refl;
   told = λ n e. e;
   claims = unclaimed f.chunks now f.proven (Pex4 address port) t.proven refl;
-  named_same = λ i m. refl;
+  named = λ i m e. e;
+  old = old_stays (Heard now (Pex4 address port)) t.story;
   chokes_same = refl;
-  told_of = λ i e. e;
 }
 heard_alike f now PexReq t h = record {
   asked_same = λ i lt. refl;
@@ -222,9 +255,9 @@ heard_alike f now PexReq t h = record {
   meter_same = λ e. refl;
   told = λ n e. e;
   claims = unclaimed f.chunks now f.proven PexReq t.proven refl;
-  named_same = λ i m. refl;
+  named = λ i m e. e;
+  old = old_stays (Heard now PexReq) t.story;
   chokes_same = refl;
-  told_of = λ i e. e;
 }
 heard_alike f now (Request span) t h = record {
   asked_same = λ i lt. not_asked f.chunks i span (choked t.story) (asked i t.story) h lt;
@@ -234,9 +267,9 @@ heard_alike f now (Request span) t h = record {
   meter_same = λ e. refl;
   told = λ n e. e;
   claims = unclaimed f.chunks now f.proven (Request span) t.proven refl;
-  named_same = λ i m. refl;
+  named = λ i m e. e;
+  old = old_stays (Heard now (Request span)) t.story;
   chokes_same = refl;
-  told_of = λ i e. e;
 }
 heard_alike f now (Cancel span) t h = record {
   asked_same = λ i lt. not_withdrawn f.chunks i span (asked i t.story) h lt;
@@ -246,9 +279,9 @@ heard_alike f now (Cancel span) t h = record {
   meter_same = λ e. refl;
   told = λ n e. e;
   claims = unclaimed f.chunks now f.proven (Cancel span) t.proven refl;
-  named_same = λ i m. refl;
+  named = λ i m e. e;
+  old = old_stays (Heard now (Cancel span)) t.story;
   chokes_same = refl;
-  told_of = λ i e. e;
 }
 heard_alike f now Choke t h = absurd h
 heard_alike f now Unchoke t h = absurd h
@@ -260,14 +293,24 @@ heard_alike f now (Pex6 address port) t h = record {
   meter_same = λ e. refl;
   told = λ n e. e;
   claims = unclaimed f.chunks now f.proven (Pex6 address port) t.proven refl;
-  named_same = λ i m. refl;
+  named = λ i m e. e;
+  old = old_stays (Heard now (Pex6 address port)) t.story;
   chokes_same = refl;
-  told_of = λ i e. e;
 }
 
--- one that was sent
-said_alike : (f : Frame) (now : ℕ) (m : Message) (t : Tale) → IsIdleSaid m → Alike f (Said now m) t
-said_alike f now (Handshake source options) t h = record {
+-- One that was sent: but for chunks and chokes all leave what concerns requests, hashes and the window.
+abbrev pub IsLight : Message → Type 0
+IsLight (Data chunk sent_at bytes) = ⊥
+IsLight Choke = ⊥
+IsLight Unchoke = ⊥
+IsLight _ = Unit {0}
+
+abbrev pub AreLight : List Message → Type 0
+AreLight [] = Unit {0}
+AreLight (m ∷ ms) = IsLight m × AreLight ms
+
+one_alike : (f : Frame) (now : ℕ) (m : Message) (t : Tale) → IsLight m → Alike f t (with_line (Said now m) f.proven t)
+one_alike f now (Handshake source options) t h = record {
   asked_same = λ i lt. refl;
   since_same = λ place i lt. refl;
   more = omega arith;
@@ -275,12 +318,12 @@ said_alike f now (Handshake source options) t h = record {
   meter_same = λ e. refl;
   told = λ n e. e;
   claims = refl;
-  named_same = λ i m. refl;
+  named = λ i m e. e;
+  old = old_stays (Said now (Handshake source options)) t.story;
   chokes_same = refl;
-  told_of = λ i e. e;
 }
-said_alike f now (Data chunk sent_at bytes) t h = absurd h
-said_alike f now (Ack span delay) t h = record {
+one_alike f now (Data chunk sent_at bytes) t h = absurd h
+one_alike f now (Ack span delay) t h = record {
   asked_same = λ i lt. refl;
   since_same = λ place i lt. refl;
   more = omega arith;
@@ -288,11 +331,11 @@ said_alike f now (Ack span delay) t h = record {
   meter_same = λ e. refl;
   told = λ n e. e;
   claims = refl;
-  named_same = λ i m. refl;
+  named = λ i m e. e;
+  old = old_stays (Said now (Ack span delay)) t.story;
   chokes_same = refl;
-  told_of = λ i e. e;
 }
-said_alike f now (Have span) t h = record {
+one_alike f now (Have span) t h = record {
   asked_same = λ i lt. refl;
   since_same = λ place i lt. refl;
   more = omega arith;
@@ -300,11 +343,11 @@ said_alike f now (Have span) t h = record {
   meter_same = λ e. refl;
   told = λ n e. e;
   claims = refl;
-  named_same = λ i m. refl;
+  named = λ i m e. e;
+  old = old_stays (Said now (Have span)) t.story;
   chokes_same = refl;
-  told_of = λ i e. or_right (within span i) (is_told_of i t.story) e;
 }
-said_alike f now (Integrity span digest) t h = record {
+one_alike f now (Integrity span digest) t h = record {
   asked_same = λ i lt. refl;
   since_same = λ place i lt. refl;
   more = omega arith;
@@ -312,11 +355,11 @@ said_alike f now (Integrity span digest) t h = record {
   meter_same = λ e. refl;
   told = λ n e. e;
   claims = refl;
-  named_same = λ i m. refl;
+  named = λ i m e. e;
+  old = old_stays (Said now (Integrity span digest)) t.story;
   chokes_same = refl;
-  told_of = λ i e. e;
 }
-said_alike f now (Pex4 address port) t h = record {
+one_alike f now (Pex4 address port) t h = record {
   asked_same = λ i lt. refl;
   since_same = λ place i lt. refl;
   more = omega arith;
@@ -324,11 +367,11 @@ said_alike f now (Pex4 address port) t h = record {
   meter_same = λ e. refl;
   told = λ n e. e;
   claims = refl;
-  named_same = λ i m. refl;
+  named = λ i m e. e;
+  old = old_stays (Said now (Pex4 address port)) t.story;
   chokes_same = refl;
-  told_of = λ i e. e;
 }
-said_alike f now PexReq t h = record {
+one_alike f now PexReq t h = record {
   asked_same = λ i lt. refl;
   since_same = λ place i lt. refl;
   more = omega arith;
@@ -336,12 +379,11 @@ said_alike f now PexReq t h = record {
   meter_same = λ e. refl;
   told = λ n e. e;
   claims = refl;
-  named_same = λ i m. refl;
+  named = λ i m e. e;
+  old = old_stays (Said now PexReq) t.story;
   chokes_same = refl;
-  told_of = λ i e. e;
 }
-said_alike f now (Request span) t h = absurd h
-said_alike f now (Cancel span) t h = record {
+one_alike f now (Request span) t h = record {
   asked_same = λ i lt. refl;
   since_same = λ place i lt. refl;
   more = omega arith;
@@ -349,13 +391,11 @@ said_alike f now (Cancel span) t h = record {
   meter_same = λ e. refl;
   told = λ n e. e;
   claims = refl;
-  named_same = λ i m. refl;
+  named = λ i m e. or_right (within span i && eqb now m) (is_named_at i m t.story) e;
+  old = old_stays (Said now (Request span)) t.story;
   chokes_same = refl;
-  told_of = λ i e. e;
 }
-said_alike f now Choke t h = absurd h
-said_alike f now Unchoke t h = absurd h
-said_alike f now (Pex6 address port) t h = record {
+one_alike f now (Cancel span) t h = record {
   asked_same = λ i lt. refl;
   since_same = λ place i lt. refl;
   more = omega arith;
@@ -363,14 +403,59 @@ said_alike f now (Pex6 address port) t h = record {
   meter_same = λ e. refl;
   told = λ n e. e;
   claims = refl;
-  named_same = λ i m. refl;
+  named = λ i m e. e;
+  old = old_stays (Said now (Cancel span)) t.story;
   chokes_same = refl;
-  told_of = λ i e. e;
 }
+one_alike f now Choke t h = absurd h
+one_alike f now Unchoke t h = absurd h
+one_alike f now (Pex6 address port) t h = record {
+  asked_same = λ i lt. refl;
+  since_same = λ place i lt. refl;
+  more = omega arith;
+  choked_same = refl;
+  meter_same = λ e. refl;
+  told = λ n e. e;
+  claims = refl;
+  named = λ i m e. e;
+  old = old_stays (Said now (Pex6 address port)) t.story;
+  chokes_same = refl;
+}
+
+pub said_alike : (f : Frame) (now : ℕ) (ms : List Message) (t : Tale) → AreLight ms → Alike f t (with_said now ms f.proven t)
+said_alike f now [] t light = same_alike f t
+said_alike f now (m ∷ ms) t light =
+    twice_alike f t (with_line (Said now m) f.proven t) (with_said now (m ∷ ms) f.proven t) (one_alike f now m t light.0)
+    (said_alike f now ms (with_line (Said now m) f.proven t) light.1)
+
+-- such a line of an idle message leaves the rest too
+idle_light : (m : Message) → IsIdleSaid m → IsLight m
+idle_light (Data chunk sent_at bytes) h = absurd h
+idle_light Choke h = absurd h
+idle_light Unchoke h = absurd h
+idle_light _ h = tt
+
+idle_said : (f : Frame) (lost : Lost) (s : SeatState) (now : ℕ) (m : Message) (t : Tale) → IsIdleSaid m → Alike f t (with_line (Said now m) f.proven t)
+    → Follows f lost s t → Follows f lost s (with_line (Said now m) f.proven t)
+idle_said f lost s now (Data chunk sent_at bytes) t idle a h = absurd idle
+idle_said f lost s now (Have span) t idle a h = absurd idle
+idle_said f lost s now (Request span) t idle a h = absurd idle
+idle_said f lost s now Choke t idle a h = absurd idle
+idle_said f lost s now Unchoke t idle a h = absurd idle
+idle_said f lost s now (Pex4 address port) t idle a h = absurd idle
+idle_said f lost s now PexReq t idle a h = absurd idle
+idle_said f lost s now (Pex6 address port) t idle a h = absurd idle
+idle_said f lost s now (Handshake source options) t idle a h = alike_follows f lost s t _ s.cursor s.answer s.question a h h.haves h.fresh h.exchange
+idle_said f lost s now (Ack span delay) t idle a h = alike_follows f lost s t _ s.cursor s.answer s.question a h h.haves h.fresh h.exchange
+idle_said f lost s now (Integrity span digest) t idle a h = alike_follows f lost s t _ s.cursor s.answer s.question a h h.haves h.fresh h.exchange
+idle_said f lost s now (Cancel span) t idle a h = alike_follows f lost s t _ s.cursor s.answer s.question a h h.haves h.fresh h.exchange
 
 pub idle_stays : IdleStays
-idle_stays (Heard now m) s = record { follows = λ f lost t h. alike_follows f lost s (Heard now m) t (heard_alike f now m t h) }
-idle_stays (Said now m) s = record { follows = λ f lost t h. alike_follows f lost s (Said now m) t (said_alike f now m t h) }
+idle_stays (Heard now m) s = record {
+  follows = λ f lost t idle h.
+      alike_follows f lost s t (with_line (Heard now m) f.proven t) s.cursor s.answer s.question (heard_alike f now m t idle) h h.haves h.fresh h.exchange;
+}
+idle_stays (Said now m) s = record { follows = λ f lost t idle h. idle_said f lost s now m t idle (one_alike f now m t (idle_light m idle)) h }
 idle_stays (Taken now) s = record { follows = λ f lost t h. absurd h }
 
 -- ---- frames
@@ -385,6 +470,8 @@ announced_stays f lost since s t mark each h = record {
   claims = h.claims;
   proven = h.proven;
   own = h.own;
+  fresh = h.fresh;
+  exchange = h.exchange;
   haves = λ i place lt is early. ⊎_elim
       (λ same. h.haves i place lt (sym same ∙ is) early)
       (λ (new : (f.since i ≡ None) × (since i ≡ Some (length t.story))). absurd (let now = place_of i place is new.1 in omega arith))
@@ -394,8 +481,8 @@ announced_stays f lost since s t mark each h = record {
     place_of : (i place : ℕ) → since i ≡ Some place → since i ≡ Some (length t.story) → place ≡ length t.story
     place_of i place p q = cc
 
-    lacks_by : Lacks f.chunks lost f.since s.list (λ place i. asked_since place i t.story) (asks_in t.story)
-        → Lacks f.chunks lost since s.list (λ place i. asked_since place i t.story) (asks_in t.story)
+    lacks_by : Lacks f.chunks lost.chunks f.since s.list (λ place i. asked_since place i t.story) (asks_in t.story)
+        → Lacks f.chunks lost.chunks since s.list (λ place i. asked_since place i t.story) (asks_in t.story)
     lacks_by k = record {
       given = k.given;
       few = k.few;
@@ -417,4 +504,6 @@ mark_stays f lost mark s t haves h = record {
   proven = h.proven;
   own = h.own;
   haves = haves;
+  fresh = h.fresh;
+  exchange = h.exchange;
 }

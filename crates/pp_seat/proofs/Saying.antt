@@ -1,10 +1,10 @@
 -- A seat follows one line more, of a message that was sent, and what happens between lines.
-use Rattle.std.proofs.Common.{◌≡◌, ◌⊎◌, ⊎_elim, ℕ, ◌+◌, ◌<◌, ◌≤◌, eqb, Bool, true, false, not, ◌&&◌, Some, None, List, [], ◌∷◌, length, refl, sym, ◌∙◌, ap, subst, arith}
+use Rattle.std.proofs.Common.{◌≡◌, ◌⊎◌, ⊎_elim, ℕ, ◌+◌, ◌<◌, ◌≤◌, eqb, Bool, true, false, not, ◌&&◌, Some, None, List, [], ◌∷◌, map, max, length, refl, sym, ◌∙◌, ap, subst, arith, inl, inr, Option}
 use Rattle.std.specs.List.{AllByRecursion}
-use Rattle.std.proofs.lemmas.Bool.{and_from, or_left, or_right, both_ways, false≢true, eq-eqb}
+use Rattle.std.proofs.lemmas.Bool.{cases_lt, and_from, or_left, or_right, both_ways, false≢true, eq-eqb}
 use Rattle.std.proofs.lemmas.Bool.Decides.{nat_tests}
-use Rattle.pp_terms.specs.format.Messages.{Data, Request, Choke, Unchoke}
-use Rattle.pp_terms.specs.tree.Range.{Span, within}
+use Rattle.pp_terms.specs.format.Messages.{Message, Data, Have, Request, Choke, Unchoke, PexReq}
+use Rattle.pp_terms.specs.tree.Range.{Span, within, has}
 use Rattle.pp_ranges.specs.Edits.{without_below}
 use Rattle.pp_traffic.specs.Story.{Said}
 use Rattle.pp_traffic.specs.Asking.{choked, asked, asks_in}
@@ -16,14 +16,16 @@ use Rattle.pp_ledbat.proofs.Cuts.{cuts_acknowledge_alike}
 use Rattle.pp_requests.specs.declared.asking.Asking.{Asking}
 use Rattle.pp_requests.specs.Lists.{without}
 use Rattle.pp_requests.specs.Moments.{asked_at, Changes, IsLeastExpired}
-use Rattle.pp_seat.specs.Lines.{asked_since, is_named_at, Tale, with_line}
-use Rattle.pp_seat.specs.Aspects.{HasSlot, Sends, Asks, Haves}
+use Rattle.pp_seat.specs.Lines.{asked_since, is_named_at, Tale, with_line, with_said}
+use Rattle.pp_seat.specs.Own.{AreAddresses}
+use Rattle.pp_seat.specs.Aspects.{HasSlot, Sends, Asks, Haves, Fresh, Lacks}
 use Rattle.pp_seat.specs.Seats.{SeatState}
-use Rattle.pp_seat.specs.Follows.{Frame, Follows, Goes, Stays, GivesUp, IsProved, Always, IsUnannounced, AreUnannounced, HasCome, HasTold, IsNext}
+use Rattle.pp_seat.specs.Follows.{Frame, Lost, Follows, Goes, Stays, Says, GivesUp, SetsBack, IsProved, Always, IsUnannounced, AreUnannounced, IsPassed, IsUnproven, HasCome, IsNext}
 use Rattle.pp_seat.proofs.Listing.{leaves_list, sends_lacks, gives_lacks, passes_lacks, passes_list, below_lacks}
 use Rattle.pp_seat.proofs.Moments.{later}
 use Rattle.pp_seat.proofs.Hearing.{fewer_asked}
-use Rattle.pp_seat.proofs.Passing.{choked_none, named_old}
+use Rattle.pp_seat.proofs.Passing.{choked_none, named_old, alike_follows, said_alike}
+use Rattle.pp_seat.proofs.Telling.{requests_light, requests_tell, requests_fresh, requests_exchange, requests_name, haves_light, haves_keep, haves_tell, haves_fresh, haves_exchange, addresses_light, addresses_keep, addresses_fresh, addresses_answer, addresses_question}
 
 -- ---- a chunk leaves the list
 
@@ -45,7 +47,7 @@ data_goes s i now list window sent_at bytes next is less flying = record {
         lists = leaves_list f.chunks i s.list (λ j. asked j t.story) (λ j. asked j (Said now (Data i sent_at bytes) ∷ t.story)) (asks_in t.story)
             (subst (λ (xs : List Span). length xs ≤ length s.list) is less)
             (λ j other e. and_from (not (eqb i j)) (asked j t.story) (turned i j other) e) h.lists;
-        lacks = λ e. sends_lacks f.chunks lost i now sent_at bytes f.since s.list t.story h.lists.runs (h.lacks e);
+        lacks = λ e. sends_lacks f.chunks lost.chunks i now sent_at bytes f.since s.list t.story h.lists.runs (h.lacks e);
         slot = leaves_slot s.slot s.choked s.owes (choked t.story) i s.list h.slot;
         window = flies f.chunks i now s.window window (meter f.size t.story) lt flying h.window;
         told = h.told;
@@ -53,6 +55,8 @@ data_goes s i now list window sent_at bytes next is less flying = record {
         proven = h.proven;
         own = later (Said now (Data i sent_at bytes)) t.story s.own s.stopped s.chokes _ _ h.own;
         haves = h.haves;
+        fresh = h.fresh;
+        exchange = h.exchange;
       });
 }
   where
@@ -62,9 +66,9 @@ data_goes s i now list window sent_at bytes next is less flying = record {
 pub given_stays : (s : SeatState) (i : ℕ) (list : List Span) → list ≡ without i s.list → length list ≤ length s.list → GivesUp s (record s { list = list })
 given_stays s i list is less = record {
   follows = λ f lost t h.
-      subst (λ (xs : List Span). Follows f (lost + 1) (record s { list = xs }) t) (sym is) (record {
+      subst (λ (xs : List Span). Follows f (record { chunks = lost.chunks + 1; haves = lost.haves }) (record s { list = xs }) t) (sym is) (record {
         lists = leaves_list f.chunks i s.list _ _ (asks_in t.story) (subst (λ (xs : List Span). length xs ≤ length s.list) is less) (λ j other e. e) h.lists;
-        lacks = λ e. gives_lacks f.chunks lost i f.since s.list _ (asks_in t.story) h.lists.runs (h.lacks e);
+        lacks = λ e. gives_lacks f.chunks lost.chunks i f.since s.list _ (asks_in t.story) h.lists.runs (h.lacks e);
         slot = leaves_slot s.slot s.choked s.owes (choked t.story) i s.list h.slot;
         window = h.window;
         told = h.told;
@@ -72,6 +76,8 @@ given_stays s i list is less = record {
         proven = h.proven;
         own = h.own;
         haves = h.haves;
+        fresh = h.fresh;
+        exchange = h.exchange;
       });
 }
 
@@ -80,7 +86,7 @@ passed_stays s i list is less = record {
   follows = λ f lost t none h.
       subst (λ (xs : List Span). Follows f lost (record s { list = xs }) t) (sym is) (record {
         lists = leaves_list f.chunks i s.list _ _ (asks_in t.story) (subst (λ (xs : List Span). length xs ≤ length s.list) is less) (λ j other e. e) h.lists;
-        lacks = λ e. passes_lacks f.chunks lost i f.since s.list _ (asks_in t.story) none h.lists.runs (h.lacks e);
+        lacks = λ e. passes_lacks f.chunks lost.chunks i f.since s.list _ (asks_in t.story) none h.lists.runs (h.lacks e);
         slot = leaves_slot s.slot s.choked s.owes (choked t.story) i s.list h.slot;
         window = h.window;
         told = h.told;
@@ -88,6 +94,8 @@ passed_stays s i list is less = record {
         proven = h.proven;
         own = h.own;
         haves = h.haves;
+        fresh = h.fresh;
+        exchange = h.exchange;
       });
 }
 
@@ -97,7 +105,7 @@ below_stays s i list is less = record {
   follows = λ f lost t none h.
       subst (λ (xs : List Span). Follows f lost (record s { list = xs }) t) (sym is) (record {
         lists = passes_list f.chunks i s.list _ (asks_in t.story) (subst (λ (xs : List Span). length xs ≤ length s.list) is less) h.lists;
-        lacks = λ e. below_lacks f.chunks lost i f.since s.list _ (asks_in t.story) none h.lists.runs (h.lacks e);
+        lacks = λ e. below_lacks f.chunks lost.chunks i f.since s.list _ (asks_in t.story) none h.lists.runs (h.lacks e);
         slot = record { same = h.slot.same; unchoked = h.slot.unchoked; empty = λ e. ap (without_below i) (h.slot.empty e); due = h.slot.due };
         window = h.window;
         told = h.told;
@@ -105,6 +113,8 @@ below_stays s i list is less = record {
         proven = h.proven;
         own = h.own;
         haves = h.haves;
+        fresh = h.fresh;
+        exchange = h.exchange;
       });
 }
 
@@ -124,6 +134,8 @@ choke_goes s list now none = record {
         proven = h.proven;
         own = later (Said now Choke) t.story s.own s.stopped s.chokes _ _ h.own;
         haves = h.haves;
+        fresh = h.fresh;
+        exchange = h.exchange;
       });
 }
 
@@ -143,6 +155,8 @@ unchoke_goes s now is = record {
     proven = h.proven;
     own = later (Said now Unchoke) t.story s.own s.stopped s.chokes _ _ h.own;
     haves = h.haves;
+    fresh = h.fresh;
+    exchange = h.exchange;
   };
 }
 
@@ -159,6 +173,8 @@ unchoke_again s now is = record {
     proven = h.proven;
     own = later (Said now Unchoke) t.story s.own s.stopped s.chokes _ _ h.own;
     haves = h.haves;
+    fresh = h.fresh;
+    exchange = h.exchange;
   };
 }
 
@@ -174,6 +190,8 @@ owing_stays s = record {
     proven = h.proven;
     own = h.own;
     haves = h.haves;
+    fresh = h.fresh;
+    exchange = h.exchange;
   };
 }
 
@@ -191,6 +209,8 @@ proved_follows s = record {
     proven = refl;
     own = h.own;
     haves = h.haves;
+    fresh = record { early = λ e. absurd (false≢true (sym e)); above = h.fresh.above };
+    exchange = h.exchange;
   };
 }
 
@@ -211,6 +231,8 @@ own_stays P s own stopped step = record {
     proven = h.proven;
     own = step f t so h.own;
     haves = h.haves;
+    fresh = h.fresh;
+    exchange = h.exchange;
   };
 }
 
@@ -228,52 +250,111 @@ expired_stays s i now own least is = own_stays (HasCome now) s own true (λ f t 
 pub same_stays : (P : Frame → Tale → Type 0) (s : SeatState) → Stays P s s
 same_stays P s = record { follows = λ f lost t so h. h }
 
-pub request_goes : (s : SeatState) (part : Span) (now : ℕ) (own : List Asking)
-    → ((i m : ℕ) → asked_at own i ≡ Some m → (asked_at s.own i ≡ Some m) ⊎ ((within part i ≡ true) × (m ≡ now)))
-    → Goes Always (Said now (Request part)) s (record s { own = own })
-request_goes s part now own named = record {
-  follows = λ f lost t so h. record {
-    lists = h.lists;
-    lacks = h.lacks;
-    slot = h.slot;
-    window = h.window;
-    told = h.told;
-    claims = h.claims;
-    proven = h.proven;
-    own = later (Said now (Request part)) t.story own s.stopped s.chokes (λ i m. is_named_at i m (Said now (Request part) ∷ t.story)) _ (record {
-      named = λ i m e. ⊎_elim
-          (λ was. or_right (within part i && eqb now m) (is_named_at i m t.story) (h.own.named i m was))
-          (λ (x : (within part i ≡ true) × (m ≡ now)). or_left (within part i && eqb now m) (is_named_at i m t.story)
-          (and_from (within part i) (eqb now m) x.0 (eq-eqb now m (sym x.1))))
-          (named i m e);
-      expired = h.own.expired;
-      choked = h.own.choked;
-    });
-    haves = h.haves;
-  };
+-- Chunks that are asked for are named by the REQUESTs.
+pub requests_say : (s : SeatState) (range : Span) (now : ℕ) (own : List Asking) (spans : List Span) → ((i : ℕ) → has spans i ≡ within range i)
+    → ((i m : ℕ) → asked_at own i ≡ Some m → (asked_at s.own i ≡ Some m) ⊎ ((within range i ≡ true) × (m ≡ now)))
+    → Says Always now (map Request spans) s (record s { own = own })
+requests_say s range now own spans split named = record {
+  follows = λ f lost t so h.
+      let a = said_alike f now (map Request spans) t (requests_light spans) in
+      let k = alike_follows f lost s t (with_said now (map Request spans) f.proven t) s.cursor s.answer s.question a h
+      (λ i place lt is early. requests_tell i now f.proven spans t (h.haves i place lt is early))
+      (requests_fresh s.cursor now f.proven spans t lost.haves h.fresh)
+      (requests_exchange s.answer s.question now f.proven spans t h.exchange) in
+      record {
+        lists = k.lists;
+        lacks = k.lacks;
+        slot = k.slot;
+        window = k.window;
+        told = k.told;
+        claims = k.claims;
+        proven = k.proven;
+        own = record {
+          named = λ i m e. ⊎_elim
+              (λ was. k.own.named i m was)
+              (λ (x : (within range i ≡ true) × (m ≡ now)).
+              subst (λ (moment : ℕ). is_named_at i moment (with_said now (map Request spans) f.proven t).story ≡ true) (sym x.1)
+              (requests_name i now f.proven spans t (inl (split i ∙ x.0))))
+              (named i m e);
+          expired = k.own.expired;
+          choked = k.own.choked;
+        };
+        haves = k.haves;
+        fresh = k.fresh;
+        exchange = k.exchange;
+      };
 }
 
 -- ---- the HAVE cursor
 
-cursor_stays : (P : Frame → Tale → Type 0) (s : SeatState) (cursor : ℕ)
-    → ((f : Frame) (t : Tale) → P f t → Haves s.cursor f.since f.mark (λ i. is_told_of i t.story) → Haves cursor f.since f.mark (λ i. is_told_of i t.story))
-    → Stays P s (record s { cursor = cursor })
-cursor_stays P s cursor step = record {
-  follows = λ f lost t so h. record {
-    lists = h.lists;
-    lacks = h.lacks;
-    slot = h.slot;
-    window = h.window;
-    told = h.told;
-    claims = h.claims;
-    proven = h.proven;
-    own = h.own;
-    haves = step f t so h.haves;
-  };
+pub have_says : (s : SeatState) (range : Span) (now cursor : ℕ) (spans : List Span) → ((i : ℕ) → has spans i ≡ within range i) → range.first ≤ range.last
+    → cursor ≡ max s.cursor (range.last + 1) → Says (IsPassed s.cursor range.first) now (map Have spans) s (record s { cursor = cursor })
+have_says s range now cursor spans split order is = record {
+  follows = λ f lost t passed h.
+      subst (λ (c : ℕ). Follows f lost (record s { cursor = c }) (with_said now (map Have spans) f.proven t)) (sym is)
+      (alike_follows f lost s t (with_said now (map Have spans) f.proven t) (max s.cursor (range.last + 1)) s.answer s.question
+      (said_alike f now (map Have spans) t (haves_light spans)) h
+      (λ i place lt is early. by_place f t passed h.haves i place lt is early (cases_lt i s.cursor) (cases_lt i range.first))
+      (haves_fresh s.cursor range now f.proven spans t lost.haves split h.fresh)
+      (haves_exchange s.answer s.question now f.proven spans t h.exchange));
+}
+  where
+    here : (i : ℕ) → range.first ≤ i → i ≤ range.last → within range i ≡ true
+    here i low high = grind (arith, nat_tests)
+
+    none_some : (x : ℕ) → None ≡ Some x → ⊥
+    none_some x e = cc
+
+    by_place : (f : Frame) (t : Tale) → IsPassed s.cursor range.first f t → Haves s.cursor f.since f.mark (λ i. is_told_of i t.story)
+        → (i place : ℕ) → i < max s.cursor (range.last + 1) → f.since i ≡ Some place → place < f.mark → (i < s.cursor) ⊎ (s.cursor ≤ i)
+        → (i < range.first) ⊎ (range.first ≤ i) → is_told_of i (with_said now (map Have spans) f.proven t).story ≡ true
+    by_place f t passed haves i place lt is early (inl below) other = haves_keep i now f.proven spans t (haves i place below is early)
+    by_place f t passed haves i place lt is early (inr above) (inl before) = absurd (none_some place (sym (passed i above before) ∙ is))
+    by_place f t passed haves i place lt is early (inr above) (inr from) =
+        haves_tell i now f.proven spans t (inl (split i ∙ here i from (omega arith)))
+
+cursor_follows : (f : Frame) (lost back : Lost) (s : SeatState) (cursor : ℕ) (t : Tale) → lost.chunks ≡ back.chunks → cursor ≤ s.cursor
+    → Fresh cursor f.proven t.told back.haves → Follows f lost s t → Follows f back (record s { cursor = cursor }) t
+cursor_follows f lost back s cursor t same le fresh h = record {
+  lists = h.lists;
+  lacks = λ e. subst (λ (n : ℕ). Lacks f.chunks n f.since s.list (λ place i. asked_since place i t.story) (asks_in t.story)) same (h.lacks e);
+  slot = h.slot;
+  window = h.window;
+  told = h.told;
+  claims = h.claims;
+  proven = h.proven;
+  own = h.own;
+  haves = λ i place lt is early. h.haves i place (omega arith) is early;
+  fresh = fresh;
+  exchange = h.exchange;
 }
 
-pub announced_stays : (s : SeatState) (to : ℕ) → Stays (HasTold to) s (record s { cursor = to })
-announced_stays s to = cursor_stays (HasTold to) s to (λ f t so haves. so)
+pub unproven_stays : (s : SeatState) (cursor : ℕ) → cursor ≤ s.cursor → Stays IsUnproven s (record s { cursor = cursor })
+unproven_stays s cursor le = record {
+  follows = λ f lost t unproven h. cursor_follows f lost lost s cursor t refl le
+      (record { early = h.fresh.early; above = λ none i above. h.fresh.early unproven i }) h;
+}
 
-pub rewind_stays : (s : SeatState) (to : ℕ) → to ≤ s.cursor → Stays Always s (record s { cursor = to })
-rewind_stays s to le = cursor_stays Always s to (λ f t so haves i place lt is early. haves i place (omega arith) is early)
+pub back_follows : (s : SeatState) (cursor : ℕ) → cursor ≤ s.cursor → SetsBack s (record s { cursor = cursor })
+back_follows s cursor le = record {
+  follows = λ f lost t h. cursor_follows f lost (record { chunks = lost.chunks; haves = lost.haves + 1 }) s cursor t refl le
+      (record { early = h.fresh.early; above = λ none i above. absurd (omega (arith, none)) }) h;
+}
+
+-- ---- the exchange of addresses
+
+pub addresses_say : (s : SeatState) (now : ℕ) (ms : List Message) → AreAddresses ms → Says Always now ms s (record s { answer = Some now })
+addresses_say s now ms all = record {
+  follows = λ f lost t so h.
+      alike_follows f lost s t (with_said now ms f.proven t) s.cursor (Some now) s.question (said_alike f now ms t (addresses_light ms all.1)) h
+      (λ i place lt is early. addresses_keep i now f.proven ms t all.1 (h.haves i place lt is early))
+      (addresses_fresh s.cursor now f.proven ms t lost.haves all.1 h.fresh)
+      (record { answered = sym (addresses_answer now f.proven ms t all); asked = h.exchange.asked ∙ sym (addresses_question now f.proven ms t all.1) });
+}
+
+pub question_goes : (s : SeatState) (now : ℕ) → Goes Always (Said now PexReq) s (record s { question = Some now })
+question_goes s now = record {
+  follows = λ f lost t so h.
+      alike_follows f lost s t (with_said now (PexReq ∷ []) f.proven t) s.cursor s.answer (Some now) (said_alike f now (PexReq ∷ []) t (tt, tt)) h
+      h.haves h.fresh (record { answered = h.exchange.answered; asked = refl });
+}

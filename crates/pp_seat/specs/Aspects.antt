@@ -42,7 +42,7 @@ pub record Knows (chunks : ℕ) (told : ToldNodes) (are_told : Node → Bool) : 
   pub content : told.chunks ≡ chunks
   pub known : (n : Node) → knows told n ≡ true → are_told n ≡ true
 
--- Each chunk that this peer waits for is named by a REQUEST of that moment. Where asking has stopped, some REQUEST is old;
+-- Each chunk that this peer waits for is one of the content, and is named by a REQUEST of that moment. Where asking has stopped, some REQUEST is old;
 -- where the other peer's CHOKE is noted, it stands.
 pub record Asks (own : List Asking) (stopped chokes : Bool) (were : (i moment : ℕ) → Bool) (is_old is_choked : Bool) : Type 0 where
   pub named : (i moment : ℕ) → asked_at own i ≡ Some moment → were i moment ≡ true
@@ -52,3 +52,14 @@ pub record Asks (own : List Asking) (stopped chokes : Bool) (were : (i moment : 
 -- Each chunk below the cursor that had been announced when the story had so many lines is announced on the channel too.
 abbrev pub Haves : (cursor : ℕ) → (since : ℕ → Option ℕ) → (mark : ℕ) → (are_told : ℕ → Bool) → Type 0
 Haves cursor since mark are_told = (i place : ℕ) → i < cursor → since i ≡ Some place → place < mark → are_told i ≡ true
+
+-- Of no chunk from the cursor on was a HAVE sent since the channel was proven, where none was refused; and of no chunk at all
+-- before that.
+pub record Fresh (cursor : ℕ) (is_proven : Bool) (are_told : ℕ → Bool) (refused : ℕ) : Type 0 where
+  pub early : is_proven ≡ false → (i : ℕ) → are_told i ≡ false
+  pub above : refused ≡ 0 → (i : ℕ) → cursor ≤ i → are_told i ≡ false
+
+-- The moments of the exchange of addresses.
+pub record Exchanges (answer question last_answer last_question : Option ℕ) : Type 0 where
+  pub answered : answer ≡ last_answer
+  pub asked : question ≡ last_question

@@ -8,7 +8,7 @@ use Rattle.pp_promises.specs.Announced.{is_told_of}
 use Rattle.pp_seat.specs.Lines.{inside, asked_since, Tale}
 use Rattle.pp_seat.specs.Aspects.{Haves}
 use Rattle.pp_seat.specs.Seats.{SeatState}
-use Rattle.pp_seat.specs.Follows.{Frame, Follows, Goes, IsIdleSaid}
+use Rattle.pp_seat.specs.Follows.{Frame, Lost, Follows, Goes, IsIdleSaid}
 
 -- ---- lines that do nothing to a seat
 
@@ -46,7 +46,7 @@ abbrev pub with_since : (ℕ → Option ℕ) → Frame → Frame
 with_since since f = record { chunks = f.chunks; size = f.size; since = since; mark = f.mark; proven = f.proven }
 
 abbrev pub AnnouncedStays : Type 0
-AnnouncedStays = (f : Frame) (lost : ℕ) (since : ℕ → Option ℕ) (s : SeatState) (t : Tale) → f.mark ≤ length t.story
+AnnouncedStays = (f : Frame) (lost : Lost) (since : ℕ → Option ℕ) (s : SeatState) (t : Tale) → f.mark ≤ length t.story
     → IsLater (length t.story) f.since since → Follows f lost s t → Follows (with_since since f) lost s t
 
 -- A turn ended, and what had been announced below the cursor was told of on the channel.
@@ -54,7 +54,7 @@ abbrev pub with_mark : ℕ → Frame → Frame
 with_mark mark f = record { chunks = f.chunks; size = f.size; since = f.since; mark = mark; proven = f.proven }
 
 abbrev pub MarkStays : Type 0
-MarkStays = (f : Frame) (lost mark : ℕ) (s : SeatState) (t : Tale) → Haves s.cursor f.since mark (λ i. is_told_of i t.story)
+MarkStays = (f : Frame) (lost : Lost) (mark : ℕ) (s : SeatState) (t : Tale) → Haves s.cursor f.since mark (λ i. is_told_of i t.story)
     → Follows f lost s t → Follows (with_mark mark f) lost s t
 
 -- ---- what follows
@@ -62,10 +62,10 @@ MarkStays = (f : Frame) (lost mark : ℕ) (s : SeatState) (t : Tale) → Haves s
 -- Where nothing is on the list of a channel with a slot, nothing is left that is asked for by a REQUEST since it was announced, but
 -- what was given up.
 abbrev pub NoneLeft : Type 0
-NoneLeft = (f : Frame) (lost : ℕ) (s : SeatState) (t : Tale) → Follows f lost s t → s.slot ≡ true → s.list ≡ []
-    → (given : List ℕ) × (length given ≤ lost) × ((i place : ℕ) → asks_in t.story ≤ most_asks → i < f.chunks → f.since i ≡ Some place
+NoneLeft = (f : Frame) (lost : Lost) (s : SeatState) (t : Tale) → Follows f lost s t → s.slot ≡ true → s.list ≡ []
+    → (given : List ℕ) × (length given ≤ lost.chunks) × ((i place : ℕ) → asks_in t.story ≤ most_asks → i < f.chunks → f.since i ≡ Some place
     → asked_since place i t.story ≡ true → list_any (λ k. k == i) given ≡ true)
 
 -- On a channel without a slot a CHOKE was sent, or is to be sent.
 abbrev pub ChokesAreDue : Type 0
-ChokesAreDue = (f : Frame) (lost : ℕ) (s : SeatState) (t : Tale) → Follows f lost s t → s.slot ≡ false → choked t.story ≡ false → s.owes ≡ true
+ChokesAreDue = (f : Frame) (lost : Lost) (s : SeatState) (t : Tale) → Follows f lost s t → s.slot ≡ false → choked t.story ≡ false → s.owes ≡ true

@@ -1,5 +1,5 @@
 -- What contracts see of a seat: all that a peer keeps of one channel's messages.
-use Rattle.std.specs.Prelude.{ℕ, Bool, List}
+use Rattle.std.specs.Prelude.{ℕ, Bool, Option, List}
 use Rattle.pp_terms.specs.tree.Claims.{Claim}
 use Rattle.pp_terms.specs.tree.Range.{Span}
 use Rattle.pp_traffic.specs.Meter.{Meter}
@@ -23,5 +23,8 @@ pub record SeatState : Type 0 where
   pub own : List Asking
   pub chokes : Bool
   pub stopped : Bool
-  -- the HAVE cursor: what was committed below it was announced on the channel
+  -- the HAVE cursor: what had been committed below it was told of on the channel, and since it is proven nothing else was
   pub cursor : ℕ
+  -- when addresses of other peers were last sent, and last asked for
+  pub answer : Option ℕ
+  pub question : Option ℕ

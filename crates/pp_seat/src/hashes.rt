@@ -1,18 +1,18 @@
 //! What the other peer tells and claims, and the hashes that it needs.
 
-ghost use Rattle.std.specs.Prelude.{◌≡◌, ◌↔◌, ◌⊎◌, ◌<◌, ℕ, ◌∷◌, map, take, true, false, None, Some};
+ghost use Rattle.std.specs.Prelude.{◌≡◌, ◌↔◌, ◌⊎◌, ◌<◌, ◌||◌, ℕ, ◌∷◌, map, take, true, false, None, Some};
 ghost use Rattle.std.specs.List.{list_all};
 ghost use Rattle.pp_terms.specs.tree.Tree as terms;
 ghost use Rattle.pp_terms.specs.tree.Range.{Span, leaves_of};
 ghost use Rattle.pp_terms.specs.format.Messages.{Ack, Have, Integrity};
 ghost use Rattle.pp_tree.specs.Node.{node_of};
 ghost use Rattle.pp_traffic.specs.Story.{Heard};
-ghost use Rattle.pp_traffic.specs.Hashes.{is_told, completes};
+ghost use Rattle.pp_traffic.specs.Hashes.{tells, is_told, completes};
 ghost use Rattle.pp_traffic.specs.Laws as laws;
 ghost use Rattle.pp_traffic.specs.Meter as meters;
-ghost use Rattle.pp_plan.specs.Told.{knows};
+ghost use Rattle.pp_plan.specs.Told.{knows, span_of};
 ghost use Rattle.pp_seat.specs.Lines.{Tale};
-ghost use Rattle.pp_seat.specs.Follows.{Frame, Follows, Goes, IsCut};
+ghost use Rattle.pp_seat.specs.Follows.{Frame, Lost, Follows, Goes, IsCut};
 
 use crate::seat::Seat;
 use arrayvec::ArrayVec;
@@ -35,6 +35,7 @@ impl Seat {
     /// A HAVE came, of which this range lies in the content (RFC 7574, section 3.2).
     pub fn heard_have(&mut self, range: ChunkRange)
         requires { range.last < self.old.told.chunks }
+        ensures told { (n : terms.Node) → knows self.new.told n ≡ (knows self.old.told n || tells self.old.told.chunks (span_of range) n) }
         ensures rest { self.new ≡ record self.old { told = self.new.told } }
         ensures goes { (now : ℕ) (span : Span) → Goes (IsCut range span) (Heard now (Have span)) self.old self.new }
     {
@@ -44,6 +45,7 @@ impl Seat {
     /// An ACK came, of which this range lies in the content, with its delay sample (RFC 7574, section 3.3).
     pub fn heard_ack(&mut self, range: ChunkRange, delay: u64, now: u64)
         requires { range.last < self.old.told.chunks }
+        ensures told { (n : terms.Node) → knows self.new.told n ≡ (knows self.old.told n || tells self.old.told.chunks (span_of range) n) }
         ensures rest { self.new ≡ record self.old { told = self.new.told; window = meters.acked range.first range.last delay now self.old.window } }
         ensures goes { (span : Span) → Goes (IsCut range span) (Heard now (Ack span delay)) self.old self.new }
     {
@@ -80,7 +82,7 @@ impl Seat {
         requires content { self.now.told.chunks ≡ chunks }
         requires inside { i < chunks }
         ensures nodes { map node_of result.items ≡ laws.plan chunks (knows self.now.told) i }
-        ensures whole { (f : Frame) (lost : ℕ) (t : Tale) (brought : terms.Node → _) → Follows f lost self.now t
+        ensures whole { (f : Frame) (lost : Lost) (t : Tale) (brought : terms.Node → _) → Follows f lost self.now t
             → list_all brought (map node_of result.items) ≡ true → completes f.chunks brought (is_told f.chunks t.story) i ≡ true }
     {
         plan(i, &self.told, chunks)

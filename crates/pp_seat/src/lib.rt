@@ -5,6 +5,7 @@
 ghost use Rattle.pp_seat.specs.Laws.{IdleStays, AnnouncedStays, MarkStays, NoneLeft, ChokesAreDue};
 
 mod cursor;
+mod exchange;
 mod hashes;
 mod own;
 mod seat;

@@ -1,12 +1,12 @@
 //! What this peer asks for.
 
-ghost use Rattle.std.specs.Prelude.{◌≡◌, ◌⊎◌, ◌<◌, ◌≤◌, ◌+◌, ◌-◌, ℕ, List, [], true, false, None, Some, is_some, MatchOption, length};
+ghost use Rattle.std.specs.Prelude.{◌≡◌, ◌⊎◌, ◌<◌, ◌≤◌, ◌+◌, ◌-◌, ℕ, List, [], true, false, None, Some, is_some, MatchOption, length, map};
 ghost use Rattle.pp_terms.specs.tree.Range.{Span, within};
 ghost use Rattle.pp_terms.specs.format.Messages.{Data, Request, Choke, Unchoke};
 ghost use Rattle.pp_traffic.specs.Story.{Heard, Said};
-ghost use Rattle.pp_requests.specs.Moments.{asked_at, Changes, IsLeastExpired, NoneExpired};
-ghost use Rattle.pp_seat.specs.Own.{HasAsked, CanAsk, AsksAll};
-ghost use Rattle.pp_seat.specs.Follows.{Goes, Stays, Always, HasCome};
+ghost use Rattle.pp_requests.specs.Moments.{asked_at, Changes, IsLeastAsked, IsLeastExpired, NoneExpired};
+ghost use Rattle.pp_seat.specs.Own.{IsSplit, HasAsked, CanAsk, AsksAll};
+ghost use Rattle.pp_seat.specs.Follows.{Goes, Stays, Says, Always, HasCome};
 
 use crate::seat::Seat;
 use pp_ranges::ChunkRange;
@@ -44,7 +44,7 @@ impl Seat {
     pub fn said_request(&mut self, range: ChunkRange, now: u64)
         ensures rest { self.new ≡ record self.old { own = self.new.own } }
         ensures exact { CanAsk range self.old.own → AsksAll range now self.old.own self.new.own }
-        ensures goes { Goes Always (Said now (Request range)) self.old self.new }
+        ensures says { (spans : List Span) → IsSplit range spans → Says Always now (map Request spans) self.old self.new }
     {
         ask(&mut self.own, range, now);
     }
@@ -59,6 +59,16 @@ impl Seat {
         let i = self.own.expired(now)?;
         self.stopped = true;
         Some(i)
+    }
+
+    /// Takes out the least chunk that this peer waits for: it will be asked of another peer.
+    pub fn give_back(&mut self) -> Option<u32>
+        ensures least { MatchOption result (self.old.own ≡ []) (IsLeastAsked self.old.own) }
+        ensures taken { MatchOption result (self.new ≡ self.old)
+            (λ i. (self.new ≡ record self.old { own = self.new.own }) × Changes i None self.old.own self.new.own) }
+        ensures stays { Stays Always self.old self.new }
+    {
+        self.own.drop_one()
     }
 
     /// A datagram came on the channel: this peer may ask again.

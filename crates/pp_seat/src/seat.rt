@@ -1,7 +1,7 @@
 //! The seat of one channel.
 
 ghost use Rattle.std.specs.Prelude.{◌≡◌, ◌<◌, ◌≤◌, ◌^◌, true, false, IfOk};
-ghost use Rattle.pp_seat.specs.Follows.{Frame, Begins, Follows, IsProved};
+ghost use Rattle.pp_seat.specs.Follows.{Frame, none_lost, Begins, Follows, IsProved};
 ghost use Rattle.pp_seat.specs.Lines.{Tale};
 
 use pp_ledbat::Window;
@@ -28,6 +28,9 @@ pub struct Seat {
     pub(crate) chokes: bool,
     pub(crate) stopped: bool,
     pub(crate) cursor: u32,
+    // When addresses of other peers were last sent, and last asked for.
+    pub(crate) answer: Option<u64>,
+    pub(crate) question: Option<u64>,
 }
 
 impl Model for Seat {
@@ -48,6 +51,8 @@ impl Model for Seat {
       chokes = s.chokes;
       stopped = s.stopped;
       cursor = s.cursor;
+      answer = s.answer;
+      question = s.question;
     } };
 }
 
@@ -58,7 +63,7 @@ impl Seat {
         requires most { chunks ≤ 2 ^ 20 }
         requires positive { 0 < size }
         requires size { size ≤ 8192 }
-        ensures follows { IfOk result (λ s. (f : Frame) (t : Tale) → f.chunks ≡ chunks → f.size ≡ size → Begins f t → Follows f 0 s t) }
+        ensures follows { IfOk result (λ s. (f : Frame) (t : Tale) → f.chunks ≡ chunks → f.size ≡ size → Begins f t → Follows f none_lost s t) }
         ensures slot { IfOk result (λ s. s.slot ≡ false) }
         ensures chunks { IfOk result (λ s. s.told.chunks ≡ chunks) }
     {
@@ -77,6 +82,8 @@ impl Seat {
             chokes: false,
             stopped: false,
             cursor: 0,
+            answer: None,
+            question: None,
         })
     }
 
@@ -84,7 +91,7 @@ impl Seat {
     pub fn begin(&mut self, size: u32, slot: bool)
         requires positive { 0 < size }
         requires size { size ≤ 8192 }
-        ensures follows { (f : Frame) (t : Tale) → f.chunks ≡ self.old.told.chunks → f.size ≡ size → Begins f t → Follows f 0 self.new t }
+        ensures follows { (f : Frame) (t : Tale) → f.chunks ≡ self.old.told.chunks → f.size ≡ size → Begins f t → Follows f none_lost self.new t }
         ensures slot { self.new.slot ≡ slot }
         ensures chunks { self.new.told.chunks ≡ self.old.told.chunks }
     {
@@ -100,6 +107,8 @@ impl Seat {
         self.chokes = false;
         self.stopped = false;
         self.cursor = 0;
+        self.answer = None;
+        self.question = None;
     }
 
     /// A datagram came for this peer's number, so the other peer's address is no forged one. What it claims counts from now on.

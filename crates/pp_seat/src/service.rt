@@ -8,7 +8,7 @@ ghost use Rattle.pp_traffic.specs.Meter as terms;
 ghost use Rattle.pp_traffic.specs.Story.{Heard, Said, Taken};
 ghost use Rattle.pp_requests.specs.Lists.{IsLeast, are_too_many, cancelled, without, chunk_count};
 ghost use Rattle.pp_seat.specs.Lines.{Tale};
-ghost use Rattle.pp_seat.specs.Follows.{Frame, Follows, Goes, Stays, GivesUp, Always, IsCut, IsUnannounced, AreUnannounced, IsNext, IsDone, Answers};
+ghost use Rattle.pp_seat.specs.Follows.{Frame, Lost, Follows, Goes, Stays, GivesUp, Always, IsCut, IsUnannounced, AreUnannounced, IsNext, IsDone, Answers};
 
 use crate::seat::Seat;
 use pp_ranges::ChunkRange;
@@ -66,7 +66,7 @@ impl Seat {
     #[tactic(auto, using(crate::proofs::Answering::answers))]
     pub fn next(&self) -> Option<u32>
         ensures next { MatchOption result (IsDone self.now) (IsNext self.now) }
-        ensures answers { IfSome result (λ i. (f : Frame) (lost : ℕ) (t : Tale) → Follows f lost self.now t → Answers f t i) }
+        ensures answers { IfSome result (λ i. (f : Frame) (lost : Lost) (t : Tale) → Follows f lost self.now t → Answers f t i) }
     {
         if !self.slot {
             return None;
@@ -96,7 +96,7 @@ impl Seat {
         ensures given { GivesUp self.old self.new }
         ensures passed { Stays (IsUnannounced i) self.old self.new }
     {
-        let _ = self.list.take();
+        let _least = self.list.take();
     }
 
     /// All chunks below one leave the list, since none of them is committed. It answers how many these were.
