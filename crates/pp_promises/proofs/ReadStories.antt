@@ -107,7 +107,7 @@ read_tells d life chunks (r ∷ b) n = pick (leb life.opening (length b)) (is_re
 -- ---- what is asked for
 
 -- a message that came asks no less, where more was asked for before and no choke stood that didn't
-by_asks : (i : ℕ) (m : Message) (k k' a a' : Bool) → (k ≡ false → k' ≡ false) → (a ≡ true → a' ≡ true) → asked_by i k m a ≡ true → asked_by i k' m a' ≡ true
+pub by_asks : (i : ℕ) (m : Message) (k k' a a' : Bool) → (k ≡ false → k' ≡ false) → (a ≡ true → a' ≡ true) → asked_by i k m a ≡ true → asked_by i k' m a' ≡ true
 by_asks i (Request span) k k' a a' free f e = ⊎_elim
     (λ l. or_left (within span i && not k') a' (let p = and_parts (within span i) (not k) l in and_from (within span i) (not k') p.0 (unbarred k k' free p.1)))
     (λ r. or_right (within span i && not k') a' (f r))
@@ -130,7 +130,7 @@ by_asks i Unchoke k k' a a' free f e = f e
 by_asks i (Pex6 address port) k k' a a' free f e = f e
 
 -- one that was sent
-after_asks : (i : ℕ) (m : Message) (a a' : Bool) → (a ≡ true → a' ≡ true) → asked_after i m a ≡ true → asked_after i m a' ≡ true
+pub after_asks : (i : ℕ) (m : Message) (a a' : Bool) → (a ≡ true → a' ≡ true) → asked_after i m a ≡ true → asked_after i m a' ≡ true
 after_asks i (Data chunk sent_at bytes) a a' f e = let p = and_parts (not (eqb chunk i)) a e in and_from (not (eqb chunk i)) a' p.0 (f p.1)
 after_asks i Choke a a' f e = e
 after_asks i (Handshake source options) a a' f e = f e

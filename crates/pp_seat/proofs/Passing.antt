@@ -470,16 +470,17 @@ announced_stays f lost since s t mark each h = record {
   claims = h.claims;
   proven = h.proven;
   own = h.own;
+  haves = λ i place lt is early. ⊎_elim
+      (λ (same : since i ≡ f.since i). h.haves i place lt (sym same ∙ is) early)
+      (λ (new : (f.since i ≡ None) × (at : ℕ) × (since i ≡ Some at) × (length t.story ≤ at)).
+      absurd (let same = one_place i place new.1 is new.2 in let low = new.3 in omega arith))
+      (each i);
   fresh = h.fresh;
   exchange = h.exchange;
-  haves = λ i place lt is early. ⊎_elim
-      (λ same. h.haves i place lt (sym same ∙ is) early)
-      (λ (new : (f.since i ≡ None) × (since i ≡ Some (length t.story))). absurd (let now = place_of i place is new.1 in omega arith))
-      (each.each i);
 }
   where
-    place_of : (i place : ℕ) → since i ≡ Some place → since i ≡ Some (length t.story) → place ≡ length t.story
-    place_of i place p q = cc
+    one_place : (i place at : ℕ) → since i ≡ Some place → since i ≡ Some at → place ≡ at
+    one_place i place at p q = cc
 
     lacks_by : Lacks f.chunks lost.chunks f.since s.list (λ place i. asked_since place i t.story) (asks_in t.story)
         → Lacks f.chunks lost.chunks since s.list (λ place i. asked_since place i t.story) (asks_in t.story)
@@ -487,10 +488,11 @@ announced_stays f lost since s t mark each h = record {
       given = k.given;
       few = k.few;
       listed = λ i place few lt is e. ⊎_elim
-          (λ same. k.listed i place few lt (sym same ∙ is) e)
-          (λ (new : (f.since i ≡ None) × (since i ≡ Some (length t.story))).
-          absurd (both_ways (asked_since place i t.story) (asks_none place i t.story (let now = place_of i place is new.1 in omega arith)) e))
-          (each.each i);
+          (λ (same : since i ≡ f.since i). k.listed i place few lt (sym same ∙ is) e)
+          (λ (new : (f.since i ≡ None) × (at : ℕ) × (since i ≡ Some at) × (length t.story ≤ at)).
+          absurd (both_ways (asked_since place i t.story)
+          (asks_none place i t.story (let same = one_place i place new.1 is new.2 in let low = new.3 in omega arith)) e))
+          (each i);
     }
 
 pub mark_stays : MarkStays

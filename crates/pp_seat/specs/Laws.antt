@@ -38,9 +38,9 @@ IdleStays = (line : Line) (s : SeatState) → Goes (IsIdle line) line s s
 
 -- ---- frames
 
--- Chunks that weren't announced were, when the story had so many lines.
-pub record IsLater (place : ℕ) (since later : ℕ → Option ℕ) : Type 0 where
-  pub each : (i : ℕ) → (later i ≡ since i) ⊎ ((since i ≡ None) × (later i ≡ Some place))
+-- Chunks that weren't announced were, when the story had so many lines or more.
+abbrev pub IsLater : ℕ → (since later : ℕ → Option ℕ) → Type 0
+IsLater place since later = (i : ℕ) → (later i ≡ since i) ⊎ ((since i ≡ None) × (at : ℕ) × (later i ≡ Some at) × (place ≤ at))
 
 abbrev pub with_since : (ℕ → Option ℕ) → Frame → Frame
 with_since since f = record { chunks = f.chunks; size = f.size; since = since; mark = f.mark; proven = f.proven }

@@ -4,3 +4,4 @@ pub mod Own
 pub mod Aspects
 pub mod Follows
 pub mod Laws
+pub mod Frames
