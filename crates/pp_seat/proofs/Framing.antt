@@ -82,11 +82,11 @@ none_before : (d : Descriptor) (life : Life) (past : List Record) → nat_le lif
 none_before d life [] early = refl
 none_before d life (r ∷ b) early = by (nat_le life.opening (length b)) refl
   where
+    late : (n more : ℕ) → n ≤ more → nat_le life.opening n ≡ true → nat_le life.opening more ≡ false → ⊥
+    late n more le p q = grind (arith, nat_tests)
+
     by : (x : Bool) → nat_le life.opening (length b) ≡ x → cond x (told d life (eqb life.opening (length b)) (now (r ∷ b)) r (story d life b)) [] ≡ []
-    by true le = absurd (late (length b) le early)
-      where
-        late : (n : ℕ) → nat_le life.opening n ≡ true → nat_le life.opening (n + 1) ≡ false → ⊥
-        late n p q = grind (arith, nat_tests)
+    by true le = absurd (late (length b) (length (r ∷ b)) (omega arith) le early)
     by false le = refl
 
 none_read : (d : Descriptor) (life : Life) (past : List Record) → nat_le life.opening (length past) ≡ false → length (read_story d life past) ≡ 0
@@ -129,25 +129,223 @@ since_found d life is_found i (r ∷ b) found =
     ap (λ (x : Bool). cond (x || is_announced d i b) (since_of d life is_found i b) (cond (is_announced d i (r ∷ b)) (Some (length (story d life (r ∷ b)))) None)) found
     ∙ since_found d life is_found i b found
 
+or_false : (p q : Bool) → (p || q) ≡ false → q ≡ false
+or_false true q e = absurd cc
+or_false false q e = e
+
+-- what was announced stays so
+announced_before : (d : Descriptor) (i : ℕ) (r : Record) (b : List Record) → is_announced d i (r ∷ b) ≡ false → is_announced d i b ≡ false
+announced_before d i (Received at sender bytes) b e = e
+announced_before d i (Quiet at) b e = e
+announced_before d i (Sent moment receiver bytes) b e = or_false _ (is_announced d i b) e
+
 since_none : (d : Descriptor) (life : Life) (is_found : ℕ → Bool) (i : ℕ) (past : List Record) → is_found i ≡ false → is_announced d i past ≡ false
     → since_of d life is_found i past ≡ None
 since_none d life is_found i [] unfound none = ap (λ (x : Bool). cond x (Some 0) None) unfound
-since_none d life is_found i (r ∷ b) unfound none = by (is_found i || is_announced d i b) (is_announced d i (r ∷ b)) refl none (since_none d life is_found i b unfound)
+since_none d life is_found i (r ∷ b) unfound none =
+    by (is_found i || is_announced d i b) (is_announced d i (r ∷ b)) none
+    (since_none d life is_found i b unfound (announced_before d i r b none))
   where
-    by : (x y : Bool) → (is_found i || is_announced d i b) ≡ x → y ≡ false → (is_announced d i b ≡ false → since_of d life is_found i b ≡ None)
+    by : (x y : Bool) → y ≡ false → since_of d life is_found i b ≡ None
         → cond x (since_of d life is_found i b) (cond y (Some (length (story d life (r ∷ b)))) None) ≡ None
-    by true y is last before = before (not_before (is_announced d i b) refl)
-      where
-        keeps : (r : Record) (b : List Record) → is_announced d i (r ∷ b) ≡ false → is_announced d i b ≡ false
-        keeps (Received at sender bytes) b e = e
-        keeps (Quiet at) b e = e
-        keeps (Sent moment receiver bytes) b e = (or_false _ (is_announced d i b) e)
-          where
-            or_false : (p q : Bool) → (p || q) ≡ false → q ≡ false
-            or_false true q e = absurd cc
-            or_false false q e = e
+    by true y last before = before
+    by false true last before = absurd (false≢true (sym last))
+    by false false last before = refl
 
-        not_before : (z : Bool) → is_announced d i b ≡ z → is_announced d i b ≡ false
-        not_before z e = keeps r b none
-    by false true is last before = absurd (false≢true (sym last))
-    by false false is last before = refl
+-- the place is one of the story
+since_low : (d : Descriptor) (life : Life) (is_found : ℕ → Bool) (i : ℕ) (past : List Record) (place : ℕ) → since_of d life is_found i past ≡ Some place
+    → place ≤ length (story d life past)
+since_low d life is_found i [] place is = first (is_found i) is
+  where
+    first : (x : Bool) → cond x (Some 0) None ≡ Some place → place ≤ 0
+    first true e = let same : 0 ≡ place = cc in omega arith
+    first false e = absurd cc
+since_low d life is_found i (r ∷ b) place is =
+    by (is_found i || is_announced d i b) (is_announced d i (r ∷ b)) is (since_low d life is_found i b place) (story_longer d life r b)
+  where
+    by : (x y : Bool) → cond x (since_of d life is_found i b) (cond y (Some (length (story d life (r ∷ b)))) None) ≡ Some place
+        → (since_of d life is_found i b ≡ Some place → place ≤ length (story d life b)) → length (story d life b) ≤ length (story d life (r ∷ b))
+        → place ≤ length (story d life (r ∷ b))
+    by true y e before longer = let low = before e in omega arith
+    by false true e before longer = let same : length (story d life (r ∷ b)) ≡ place = cc in omega arith
+    by false false e before longer = absurd cc
+
+-- what was announced has a place
+since_some : (d : Descriptor) (life : Life) (is_found : ℕ → Bool) (i : ℕ) (past : List Record) → is_announced d i past ≡ true
+    → (place : ℕ) × (since_of d life is_found i past ≡ Some place)
+since_some d life is_found i [] e = absurd (false≢true e)
+since_some d life is_found i (r ∷ b) e =
+    by (is_found i) (is_announced d i b) (is_announced d i (r ∷ b)) e refl refl (since_some d life is_found i b)
+  where
+    by : (f x y : Bool) → y ≡ true → is_found i ≡ f → is_announced d i b ≡ x
+        → (is_announced d i b ≡ true → (place : ℕ) × (since_of d life is_found i b ≡ Some place))
+        → (place : ℕ) × (cond (f || x) (since_of d life is_found i b) (cond y (Some (length (story d life (r ∷ b)))) None) ≡ Some place)
+    by true x y last found is before = (0, since_found d life is_found i b found)
+    by false true y last found is before = before is
+    by false false true last found is before = (length (story d life (r ∷ b)), refl)
+    by false false false last found is before = absurd (false≢true last)
+
+since_later : (d : Descriptor) (life : Life) (is_found : ℕ → Bool) (r : Record) (past : List Record)
+    → IsLater (length (read_story d life (r ∷ past))) (λ i. since_of d life is_found i past) (λ i. since_of d life is_found i (r ∷ past))
+since_later d life is_found r past i =
+    by (is_found i) (is_announced d i past) (is_announced d i (r ∷ past)) refl refl
+  where
+    by : (f x y : Bool) → is_found i ≡ f → is_announced d i past ≡ x
+        → (cond (f || x) (since_of d life is_found i past) (cond y (Some (length (story d life (r ∷ past)))) None) ≡ since_of d life is_found i past)
+        ⊎ ((since_of d life is_found i past ≡ None) × (at : ℕ)
+        × (cond (f || x) (since_of d life is_found i past) (cond y (Some (length (story d life (r ∷ past)))) None) ≡ Some at)
+        × (length (read_story d life (r ∷ past)) ≤ at))
+    by true x y found is = inl refl
+    by false true y found is = inl refl
+    by false false true found is =
+        inr (since_none d life is_found i past found is, length (story d life (r ∷ past)), refl, read_shorter d life (r ∷ past))
+    by false false false found is = inl (sym (since_none d life is_found i past found is))
+
+-- ---- what is owed
+
+-- from the start on
+since_start : (i : ℕ) (s : List Line) → asked_since 0 i s ≡ asked i s
+since_start i [] = refl
+since_start i (Heard now m ∷ s) = both (choked s) (nat_lt (length s) 0) (never (length s)) (since_start i s)
+  where
+    never : (n : ℕ) → nat_lt n 0 ≡ false
+    never n = grind (arith, nat_tests)
+
+    both : (c l : Bool) → l ≡ false → asked_since 0 i s ≡ asked i s → asked_by i (c || l) m (asked_since 0 i s) ≡ asked_by i c m (asked i s)
+    both true l e same = ap (asked_by i true m) same
+    both false l e same = ap (λ (x : Bool). asked_by i x m (asked_since 0 i s)) e ∙ ap (asked_by i false m) same
+since_start i (Said now m ∷ s) = ap (asked_after i m) (since_start i s)
+since_start i (Taken now ∷ s) = since_start i s
+
+in_keeps : (place i at : ℕ) (barred : Bool) (ms : List Message) (o : Bool) (s : List Line) → place ≤ length s → (barred ≡ false → choked s ≡ false)
+    → (o ≡ true → asked_since place i s ≡ true) → asked_after_heard i barred ms o ≡ true → asked_since place i (hear at ms s) ≡ true
+in_keeps place i at barred [] o s le free f e = f e
+in_keeps place i at barred (m ∷ ms) o s le free f e =
+    in_keeps place i at barred ms (asked_by i barred m o) (Heard at m ∷ s) (omega arith) free
+    (by_asks i m barred (choked s || nat_lt (length s) place) o (asked_since place i s) (λ b. or_from (choked s) (nat_lt (length s) place) (free b) (late (length s) le)) f) e
+  where
+    late : (n : ℕ) → place ≤ n → nat_lt n place ≡ false
+    late n le = grind (arith, nat_tests)
+
+after_keeps : (place i at : ℕ) (ms : List Message) (o : Bool) (s : List Line) → (o ≡ true → asked_since place i s ≡ true) → asked_after_said i ms o ≡ true
+    → asked_since place i (say at ms s) ≡ true
+after_keeps place i at [] o s f e = f e
+after_keeps place i at (m ∷ ms) o s f e = after_keeps place i at ms (asked_after i m o) (Said at m ∷ s) (after_asks i m o (asked_since place i s) f) e
+
+owed_keeps : (d : Descriptor) (life : Life) (place i : ℕ) (o barred : Bool) (at : ℕ) (r : Record) (owed : Bool) (s : List Line) → place ≤ length s
+    → (barred ≡ false → choked s ≡ false) → (owed ≡ true → asked_since place i s ≡ true) → owed_after d life i o barred r owed ≡ true
+    → asked_since place i (told d life o at r s) ≡ true
+owed_keeps d life place i o barred at (Received a sender bytes) owed s le free f e =
+    in_keeps place i at barred (heard_in d life o (Received a sender bytes)) owed s le free f e
+owed_keeps d life place i o barred at (Quiet a) owed s le free f e = f e
+owed_keeps d life place i o barred at (Sent moment receiver bytes) owed s le free f e =
+    after_keeps place i at (said_in d life (Sent moment receiver bytes)) owed s f e
+
+-- what isn't announced isn't owed
+barred_heard : (i : ℕ) (m : Message) (o : Bool) → o ≡ false → asked_by i true m o ≡ false
+barred_heard i (Request span) o none = nothing _ o none
+  where
+    nothing : (w o : Bool) → o ≡ false → ((w && false) || o) ≡ false
+    nothing true o e = e
+    nothing false o e = e
+barred_heard i (Cancel span) o none = nothing _ o none
+  where
+    nothing : (w o : Bool) → o ≡ false → (w && o) ≡ false
+    nothing true o e = e
+    nothing false o e = refl
+barred_heard i _ o none = none
+
+none_after : (i : ℕ) (m : Message) (o : Bool) → o ≡ false → asked_after i m o ≡ false
+none_after i (Data chunk sent_at bytes) o none = nothing _ o none
+  where
+    nothing : (w o : Bool) → o ≡ false → (w && o) ≡ false
+    nothing true o e = e
+    nothing false o e = refl
+none_after i Choke o none = refl
+none_after i _ o none = none
+
+barred_all : (i : ℕ) (ms : List Message) (o : Bool) → o ≡ false → asked_after_heard i true ms o ≡ false
+barred_all i [] o none = none
+barred_all i (m ∷ ms) o none = barred_all i ms (asked_by i true m o) (barred_heard i m o none)
+
+after_none : (i : ℕ) (ms : List Message) (o : Bool) → o ≡ false → asked_after_said i ms o ≡ false
+after_none i [] o none = none
+after_none i (m ∷ ms) o none = after_none i ms (asked_after i m o) (none_after i m o none)
+
+owed_none : (d : Descriptor) (life : Life) (i : ℕ) (o : Bool) (r : Record) (owed : Bool) → owed ≡ false → owed_after d life i o true r owed ≡ false
+owed_none d life i o (Received a sender bytes) owed none = barred_all i (heard_in d life o (Received a sender bytes)) owed none
+owed_none d life i o (Quiet a) owed none = none
+owed_none d life i o (Sent moment receiver bytes) owed none = after_none i (said_in d life (Sent moment receiver bytes)) owed none
+
+unannounced : (d : Descriptor) (life : Life) (i : ℕ) (past : List Record) → is_announced d i past ≡ false → is_owed d life i past ≡ false
+unannounced d life i [] none = refl
+unannounced d life i (r ∷ b) none =
+    let is = announced_before d i r b none in by (nat_le life.opening (length b)) is (unannounced d life i b is)
+  where
+    last : (c a : Bool) (o : Bool) → a ≡ false → is_owed d life i b ≡ false → owed_after d life i o (c || not a) r (is_owed d life i b) ≡ false
+    last true a o e before = owed_none d life i o r (is_owed d life i b) before
+    last false a o e before =
+        ap (λ (x : Bool). owed_after d life i o (not x) r (is_owed d life i b)) e ∙ owed_none d life i o r (is_owed d life i b) before
+
+    by : (x : Bool) → is_announced d i b ≡ false → is_owed d life i b ≡ false
+        → cond x (owed_after d life i (eqb life.opening (length b)) (choked (story d life b) || not (is_announced d i b)) r (is_owed d life i b)) false ≡ false
+    by true is before = last (choked (story d life b)) (is_announced d i b) (eqb life.opening (length b)) is before
+    by false is before = refl
+
+owed_since : (d : Descriptor) (life : Life) (is_found : ℕ → Bool) (i : ℕ) (past : List Record) (place : ℕ) → since_of d life is_found i past ≡ Some place
+    → is_owed d life i past ≡ true → asked_since place i (story d life past) ≡ true
+owed_since d life is_found i [] place is e = absurd (false≢true e)
+owed_since d life is_found i (r ∷ b) place is e =
+    by (nat_le life.opening (length b)) (is_found i) (is_announced d i b) (is_announced d i (r ∷ b)) refl refl is e (owed_since d life is_found i b place)
+  where
+    o : Bool
+    o = eqb life.opening (length b)
+
+    free : (c : Bool) → (c || not true) ≡ false → c ≡ false
+    free true p = absurd cc
+    free false p = refl
+
+    barred : (c x : Bool) → x ≡ true → (c || not x) ≡ false → c ≡ false
+    barred true x p q = absurd cc
+    barred false x p q = refl
+
+    on : since_of d life is_found i b ≡ Some place → (is_owed d life i b ≡ true → asked_since place i (story d life b) ≡ true)
+        → ((choked (story d life b) || not (is_announced d i b)) ≡ false → choked (story d life b) ≡ false)
+        → owed_after d life i o (choked (story d life b) || not (is_announced d i b)) r (is_owed d life i b) ≡ true
+        → asked_since place i (told d life o (now (r ∷ b)) r (story d life b)) ≡ true
+    on at before free w = owed_keeps d life place i o (choked (story d life b) || not (is_announced d i b)) (now (r ∷ b)) r (is_owed d life i b) (story d life b)
+        (since_low d life is_found i b place at) free before w
+
+    opened : (c x : Bool) → (c || x) ≡ false → c ≡ false
+    opened true x p = absurd cc
+    opened false x p = refl
+
+    by : (w f x y : Bool) → is_found i ≡ f → is_announced d i b ≡ x
+        → cond (f || x) (since_of d life is_found i b) (cond y (Some (length (story d life (r ∷ b)))) None) ≡ Some place
+        → cond w (owed_after d life i o (choked (story d life b) || not (is_announced d i b)) r (is_owed d life i b)) false ≡ true
+        → (since_of d life is_found i b ≡ Some place → is_owed d life i b ≡ true → asked_since place i (story d life b) ≡ true)
+        → asked_since place i (cond w (told d life o (now (r ∷ b)) r (story d life b)) []) ≡ true
+    by false f x y found is at e before = absurd (false≢true e)
+    by true true x y found is at e before = on at (before at) (opened (choked (story d life b)) (not (is_announced d i b))) e
+    by true false true y found is at e before = on at (before at) (opened (choked (story d life b)) (not (is_announced d i b))) e
+    by true false false y found is at e before = absurd (both_ways _ (never (choked (story d life b)) is) e)
+      where
+        never : (c : Bool) → is_announced d i b ≡ false → owed_after d life i o (c || not (is_announced d i b)) r (is_owed d life i b) ≡ false
+        never true none = owed_none d life i o r (is_owed d life i b) (unannounced d life i b none)
+        never false none =
+            ap (λ (x : Bool). owed_after d life i o (not x) r (is_owed d life i b)) none ∙ owed_none d life i o r (is_owed d life i b) (unannounced d life i b none)
+
+pub owed_is_kept : OwedIsKept
+owed_is_kept = record {
+  announced = λ d life is_found i past e. by d life is_found i past e (is_announced d i past) refl;
+  found = λ d life is_found i past found e. (0, since_found d life is_found i past found, since_start i (story d life past) ∙ e);
+}
+  where
+    by : (d : Descriptor) (life : Life) (is_found : ℕ → Bool) (i : ℕ) (past : List Record) → is_owed d life i past ≡ true → (x : Bool) → is_announced d i past ≡ x
+        → (place : ℕ) × (since_of d life is_found i past ≡ Some place) × (asked_since place i (story d life past) ≡ true)
+    by d life is_found i past e true is =
+        let some = since_some d life is_found i past is in (some.0, some.1, owed_since d life is_found i past some.0 some.1 e)
+    by d life is_found i past e false is = absurd (both_ways (is_owed d life i past) (unannounced d life i past is) e)
+
+pub frames_grow : FramesGrow
+frames_grow = record { since = since_later; mark = mark_past }

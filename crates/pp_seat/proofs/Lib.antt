@@ -9,3 +9,4 @@ pub mod Telling
 pub mod Openings
 pub mod Answering
 pub mod Asking
+pub mod Framing

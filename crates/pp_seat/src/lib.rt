@@ -2,6 +2,7 @@
 //! what it asks for itself (RFC 7574, sections 3, 5 and 8). Moments are in microseconds. Only a new seat takes memory.
 #![tactic(auto)]
 
+ghost use Rattle.pp_seat.specs.Frames.{OwedIsKept, FramesGrow};
 ghost use Rattle.pp_seat.specs.Laws.{IdleStays, AnnouncedStays, MarkStays, NoneLeft, ChokesAreDue};
 
 mod cursor;
@@ -22,4 +23,10 @@ pub fn laws_of_seats()
     ensures marks { MarkStays }
     ensures none_left { NoneLeft }
     ensures chokes { ChokesAreDue }
+{}
+
+/// The frame and the tale of a channel's seat, by what the link carried. It does nothing.
+pub fn laws_of_frames()
+    ensures owed { OwedIsKept }
+    ensures frames { FramesGrow }
 {}
