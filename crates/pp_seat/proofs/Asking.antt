@@ -1,10 +1,19 @@
 -- The chunks of a range are asked for one by one.
-use Rattle.std.proofs.Common.{◌≡◌, ◌⊎◌, inl, inr, ⊎_elim, ℕ, ◌+◌, ◌-◌, ◌<◌, ◌≤◌, nat_le, nat_lt, eqb, Bool, true, false, cond, ◌&&◌, Option, Some, None, List, length, refl, sym, ◌∙◌, ap, arith}
-use Rattle.std.proofs.lemmas.Bool.{and_from, le-leb}
+use Rattle.pp_seat.specs.Follows.{Frame, Lost, Follows}
+use Rattle.pp_seat.specs.Seats.{SeatState}
+use Rattle.pp_seat.specs.Lines.{names_at, is_named_at, Tale}
+use Rattle.pp_promises.specs.Asked.{named_count}
+use Rattle.pp_promises.specs.OwnSide.{names_in, is_named}
+use Rattle.pp_terms.specs.format.Messages.{Message, Request}
+use Rattle.pp_traffic.specs.Story.{Line, Heard, Said, Taken}
+use Rattle.std.specs.List.{count_by, range_with_len}
+use Rattle.std.proofs.lemmas.List.Sums.{sum_by-cons}
+use Rattle.std.proofs.Common.{◌≡◌, ◌⊎◌, inl, inr, ⊎_elim, ℕ, ◌+◌, ◌-◌, ◌<◌, ◌≤◌, nat_le, nat_lt, eqb, Bool, true, false, cond, ◌&&◌, Option, Some, None, List, length, refl, sym, ◌∙◌, ap, arith, zero, suc, [], ◌∷◌, subst}
+use Rattle.std.proofs.lemmas.Bool.{and_from, le-leb, and_parts, or_left, or_right, or_cases, false≢true, eq-eqb, ltb-true, cases_lt}
 use Rattle.std.proofs.lemmas.Bool.Decides.{nat_tests}
 use Rattle.pp_terms.specs.tree.Range.{Span, within}
 use Rattle.pp_requests.specs.declared.asking.Asking.{Asking}
-use Rattle.pp_requests.specs.Moments.{asked_at, Changes}
+use Rattle.pp_requests.specs.Moments.{asked_at, Changes, IsRisingFrom}
 use Rattle.pp_seat.specs.Own.{HasAsked, CanAsk, AsksAll}
 
 -- those from the first up to another were
@@ -85,3 +94,71 @@ named_within part n now old new a e i m is = ⊎_elim
     (λ was. inl was)
     (λ (x : (m ≡ now) × (part.first ≤ i) × (i < n)). let low = x.1 in let high = x.2 in inr (and_from (nat_le part.first i) (nat_le i part.last) (le-leb part.first i low) (le-leb i part.last (omega arith)), x.0))
     (a.named i m is)
+
+-- ---- room
+
+-- Chunks rise, so that one that is asked for isn't below.
+above_low : (xs : List Asking) (low j m : ℕ) → IsRisingFrom low xs → asked_at xs j ≡ Some m → low ≤ j
+above_low [] low j m rising e = absurd (none_some m e)
+  where
+    none_some : (x : ℕ) → None ≡ Some x → ⊥
+    none_some x e = cc
+above_low (x ∷ xs) low j m rising e = by (eqb x.chunk j) refl e (above_low xs (x.chunk + 1) j m rising.1)
+  where
+    by : (b : Bool) → eqb x.chunk j ≡ b → cond b (Some x.moment) (asked_at xs j) ≡ Some m → (asked_at xs j ≡ Some m → x.chunk + 1 ≤ j) → low ≤ j
+    by true same here rest = let at = rising.0 in grind (arith, nat_tests)
+    by false other there rest = let at = rising.0 in let more = rest there in omega arith
+
+-- The chunks that are waited for are no more than those of a range that pass a test which each of them passes.
+few_pass : (p : ℕ → Bool) (own : List Asking) (low n : ℕ) → IsRisingFrom low own
+    → ((i m : ℕ) → asked_at own i ≡ Some m → (i < low + n) × (p i ≡ true)) → length own ≤ count_by p (range_with_len low n)
+few_pass p [] low n rising passes = omega arith
+few_pass p (x ∷ xs) low zero rising passes = absurd (let at = rising.0 in let high = (passes x.chunk x.moment here).0 in omega arith)
+  where
+    here : cond (eqb x.chunk x.chunk) (Some x.moment) (asked_at xs x.chunk) ≡ Some x.moment
+    here = ap (λ (b : Bool). cond b (Some x.moment) (asked_at xs x.chunk)) (eq-eqb x.chunk x.chunk refl)
+few_pass p (x ∷ xs) low (suc n) rising passes =
+    let split = sum_by-cons (λ (i : ℕ). cond {A = ℕ} (p i) 1 0) low (range_with_len (low + 1) n) in
+    ⊎_elim
+    (λ (less : low < x.chunk).
+    let rest = few_pass p (x ∷ xs) (low + 1) n (omega arith, rising.1) (λ i m e. let q = passes i m e in (let high = q.0 in omega arith, q.1)) in omega arith)
+    (λ (most : x.chunk ≤ low).
+    let at = rising.0 in
+    let same : x.chunk ≡ low = omega arith in
+    let rest = few_pass p xs (low + 1) n (subst (λ (k : ℕ). IsRisingFrom (k + 1) xs) same rising.1) (later most) in
+    let one = first (passes x.chunk x.moment here).1 same in omega arith)
+    (cases_lt low x.chunk)
+  where
+    here : cond (eqb x.chunk x.chunk) (Some x.moment) (asked_at xs x.chunk) ≡ Some x.moment
+    here = ap (λ (b : Bool). cond b (Some x.moment) (asked_at xs x.chunk)) (eq-eqb x.chunk x.chunk refl)
+
+    first : p x.chunk ≡ true → x.chunk ≡ low → cond {A = ℕ} (p low) 1 0 ≡ 1
+    first passed same = ap (λ (b : Bool). cond {A = ℕ} b 1 0) (ap p (sym same) ∙ passed)
+
+    later : x.chunk ≤ low → (i m : ℕ) → asked_at xs i ≡ Some m → (i < low + 1 + n) × (p i ≡ true)
+    later most i m e =
+        let beyond = above_low xs (x.chunk + 1) i m rising.1 e in
+        let other : eqb x.chunk i ≡ false = grind (arith, nat_tests) in
+        let q = passes i m (ap (λ (b : Bool). cond b (Some x.moment) (asked_at xs i)) other ∙ e) in
+        (let high = q.0 in omega arith, q.1)
+
+named_then : (i moment : ℕ) (story : List Line) → is_named_at i moment story ≡ true → is_named i story ≡ true
+named_then i moment [] e = e
+named_then i moment (Heard now m ∷ story) e = named_then i moment story e
+named_then i moment (Said now m ∷ story) e = ⊎_elim
+    (λ here. or_left (names_in i m) (is_named i story) (of m here))
+    (λ there. or_right (names_in i m) (is_named i story) (named_then i moment story there))
+    (or_cases (names_at i moment now m) (is_named_at i moment story) e)
+  where
+    of : (m : Message) → names_at i moment now m ≡ true → names_in i m ≡ true
+    of (Request span) here = (and_parts (within span i) (eqb now moment) here).0
+    of _ here = absurd (false≢true here)
+named_then i moment (Taken now ∷ story) e = named_then i moment story e
+
+pub room_left : (f : Frame) (lost : Lost) (s : SeatState) (t : Tale) (room : ℕ) → room + length s.own ≡ 32 → IsRisingFrom 0 s.own → Follows f lost s t
+    → named_count f.chunks t.story < 32 → 0 < room
+room_left f lost s t room is rising h few =
+    let most = few_pass (λ i. is_named i t.story) s.own 0 f.chunks rising (λ i m e.
+    let p = and_parts (nat_lt i f.chunks) (is_named_at i m t.story) (h.own.named i m e) in
+    (let lt : i < f.chunks = ltb-true i f.chunks p.0 in omega arith, named_then i m t.story p.1)) in
+    omega arith

@@ -1,12 +1,12 @@
 -- The frame and the tale of a channel's seat, record by record.
 use Rattle.std.proofs.Common.{◌≡◌, ◌⊎◌, inl, inr, ⊎_elim, ℕ, ◌+◌, ◌<◌, ◌≤◌, max, nat_le, nat_lt, eqb, Bool, true, false, cond, not, ◌&&◌, ◌||◌, Option, Some, None, List, [], ◌∷◌, length, refl, sym, ◌∙◌, ap, subst, arith}
 use Rattle.std.specs.List.{list_any}
-use Rattle.std.proofs.lemmas.Bool.{le-leb, lt-leb, ne_eqb, or_left, or_right, or_cases, or_from, false_from_ne_true, both_ways, false≢true, cases_Bool}
+use Rattle.std.proofs.lemmas.Bool.{le-leb, lt-leb, ne_eqb, or_left, or_right, or_cases, or_from, false_from_ne_true, both_ways, false≢true, cases_Bool, leb-true}
 use Rattle.std.proofs.lemmas.Bool.Decides.{nat_tests}
 use Rattle.pp_terms.specs.format.Traffic.{Address, Record, Received, Quiet, Sent}
 use Rattle.pp_terms.specs.format.Descriptor.{Descriptor}
 use Rattle.pp_terms.specs.format.Messages.{Message, Handshake, Data, Ack, Have, Integrity, Pex4, PexReq, Request, Cancel, Choke, Unchoke, Pex6}
-use Rattle.pp_traffic.specs.Past.{now, some_since, is_event}
+use Rattle.pp_traffic.specs.Past.{now, some_since, is_event, read}
 use Rattle.pp_traffic.specs.Life.{Life, comes_on}
 use Rattle.pp_traffic.specs.Story.{Line, Heard, Said, Taken, hear, say, heard_in, said_in, told, story}
 use Rattle.pp_traffic.specs.Asking.{choked, asked_by, asked_after, asked, is_heard}
@@ -349,3 +349,210 @@ owed_is_kept = record {
 
 pub frames_grow : FramesGrow
 frames_grow = record { since = since_later; mark = mark_past }
+
+-- ---- tales
+
+pub same_tales : SameTales
+same_tales f lost s t other e h =
+    subst (λ (x : List Line). Follows f lost s (record { story = x; proven = other.proven; told = other.told })) (sym e.story)
+    (subst (λ (x : List Line). Follows f lost s (record { story = t.story; proven = x; told = other.told })) (sym e.proven) (record {
+      lists = h.lists;
+      lacks = h.lacks;
+      slot = h.slot;
+      window = h.window;
+      told = h.told;
+      claims = h.claims;
+      proven = h.proven;
+      own = h.own;
+      haves = h.haves;
+      fresh = record {
+        early = λ unproven i. e.told i ∙ h.fresh.early unproven i;
+        above = λ none i high. e.told i ∙ h.fresh.above none i high;
+      };
+      exchange = h.exchange;
+    }))
+
+said_story : (now : ℕ) (ms : List Message) (p : Bool) (t : Tale) → (with_said now ms p t).story ≡ say now ms t.story
+said_story now [] p t = refl
+said_story now (m ∷ ms) p t = said_story now ms p (with_line (Said now m) p t)
+
+said_proven : (now : ℕ) (ms : List Message) (p : Bool) (t : Tale) → (with_said now ms p t).proven ≡ say now ms t.proven
+said_proven now [] p t = refl
+said_proven now (m ∷ ms) p t = said_proven now ms p (with_line (Said now m) p t)
+
+said_told : (now : ℕ) (ms : List Message) (p : Bool) (t : Tale) (i : ℕ) → (with_said now ms p t).told i ≡ ((list_any (has_in i) ms && p) || t.told i)
+said_told now [] p t i = refl
+said_told now (m ∷ ms) p t i = said_told now ms p (with_line (Said now m) p t) i ∙ turned (has_in i m) (list_any (has_in i) ms) p (t.told i)
+  where
+    turned : (a b c o : Bool) → ((b && c) || ((a && c) || o)) ≡ (((a || b) && c) || o)
+    turned true true true o = refl
+    turned true true false o = refl
+    turned true false true o = refl
+    turned true false false o = refl
+    turned false true true o = refl
+    turned false true false o = refl
+    turned false false c o = refl
+
+heard_story : (now : ℕ) (ms : List Message) (p : Bool) (t : Tale) → (with_heard now ms p t).story ≡ hear now ms t.story
+heard_story now [] p t = refl
+heard_story now (m ∷ ms) p t = heard_story now ms p (with_line (Heard now m) p t)
+
+heard_proven : (now : ℕ) (ms : List Message) (t : Tale) → (with_heard now ms true t).proven ≡ hear now ms t.proven
+heard_proven now [] t = refl
+heard_proven now (m ∷ ms) t = heard_proven now ms (with_line (Heard now m) true t)
+
+heard_told : (now : ℕ) (ms : List Message) (p : Bool) (t : Tale) (i : ℕ) → (with_heard now ms p t).told i ≡ t.told i
+heard_told now [] p t i = refl
+heard_told now (m ∷ ms) p t i = heard_told now ms p (with_line (Heard now m) p t) i
+
+in_story : (life : Life) (past : List Record) → life.opening < length past → nat_le life.opening (length past) ≡ true
+in_story life past lt = le-leb life.opening (length past) (omega arith)
+
+-- what is read of a record of the channel, and of another one
+step_read : (d : Descriptor) (life : Life) (r : Record) (past : List Record) (lines : List Line) → life.opening < length past
+    → told d life false (now (r ∷ past)) r (read_story d life past) ≡ lines → with_unread d life false (now (r ∷ past)) r (read_story d life past) ≡ lines
+    → read_story d life (r ∷ past) ≡ lines
+step_read d life r past lines lt reads unread = by (is_read d life (r ∷ past)) refl
+  where
+    by : (x : Bool) → is_read d life (r ∷ past) ≡ x → read_story d life (r ∷ past) ≡ lines
+    by true is = reads_grow.read d life r past lt is ∙ reads
+    by false is = reads_grow.unread d life r past lt is ∙ unread
+
+step_proven : (d : Descriptor) (life : Life) (r : Record) (past : List Record) → life.opening < length past
+    → proven_story d life (r ∷ past) ≡ cond (comes_on d life r && is_read d life (r ∷ past))
+    (told d life false (now (r ∷ past)) r (proven_story d life past)) (with_unread d life false (now (r ∷ past)) r (proven_story d life past))
+step_proven d life r past lt = ap (λ (x : Bool). cond x (cond (comes_on d life r && is_read d life (r ∷ past))
+    (told d life false (now (r ∷ past)) r (proven_story d life past)) (with_unread d life false (now (r ∷ past)) r (proven_story d life past))) [])
+    (in_story life past lt)
+
+tale_sent : (d : Descriptor) (life : Life) (moment : ℕ) (receiver : Address) (bytes : List ℕ) (past : List Record) → life.opening < length past
+    → IsSameTale (with_said (now past) (said_in d life (Sent moment receiver bytes)) (is_heard d life past) (tale_of d life past))
+    (tale_of d life (Sent moment receiver bytes ∷ past))
+tale_sent d life moment receiver bytes past lt =
+    let ms = said_in d life (Sent moment receiver bytes) in
+    record {
+      story = step_read d life (Sent moment receiver bytes) past (say (now past) ms (read_story d life past)) lt refl refl
+          ∙ sym (said_story (now past) ms (is_heard d life past) (tale_of d life past));
+      proven = step_proven d life (Sent moment receiver bytes) past lt ∙ sym (said_proven (now past) ms (is_heard d life past) (tale_of d life past));
+      told = λ i. sym (said_told (now past) ms (is_heard d life past) (tale_of d life past) i);
+    }
+
+tale_quiet : (d : Descriptor) (life : Life) (at : ℕ) (p : Bool) (past : List Record) → life.opening < length past
+    → IsSameTale (with_line (Taken (now (Quiet at ∷ past))) p (tale_of d life past)) (tale_of d life (Quiet at ∷ past))
+tale_quiet d life at p past lt = record {
+  story = step_read d life (Quiet at) past (Taken (now (Quiet at ∷ past)) ∷ read_story d life past) lt refl refl;
+  proven = step_proven d life (Quiet at) past lt;
+  told = λ i. refl;
+}
+
+tale_heard : (d : Descriptor) (life : Life) (at : ℕ) (sender : Address) (bytes : List ℕ) (past : List Record) → life.opening < length past
+    → comes_on d life (Received at sender bytes) ≡ true → is_read d life (Received at sender bytes ∷ past) ≡ true
+    → IsSameTale (with_line (Taken (now (Received at sender bytes ∷ past))) true
+    (with_heard (now (Received at sender bytes ∷ past)) (heard_in d life false (Received at sender bytes)) true (tale_of d life past)))
+    (tale_of d life (Received at sender bytes ∷ past))
+tale_heard d life at sender bytes past lt comes reads =
+    let n = now (Received at sender bytes ∷ past) in
+    let ms = heard_in d life false (Received at sender bytes) in
+    record {
+      story = reads_grow.read d life (Received at sender bytes) past lt reads
+          ∙ ap (λ (xs : List Line). Taken n ∷ xs) (sym (heard_story n ms true (tale_of d life past)));
+      proven = step_proven d life (Received at sender bytes) past lt
+          ∙ both (comes_on d life (Received at sender bytes)) (is_read d life (Received at sender bytes ∷ past)) comes reads
+          ∙ ap (λ (xs : List Line). Taken n ∷ xs) (sym (heard_proven n ms (tale_of d life past)));
+      told = λ i. sym (heard_told n ms true (tale_of d life past) i);
+    }
+  where
+    both : (x y : Bool) → x ≡ true → y ≡ true
+        → cond (x && y) (told d life false (now (Received at sender bytes ∷ past)) (Received at sender bytes) (proven_story d life past))
+        (with_unread d life false (now (Received at sender bytes ∷ past)) (Received at sender bytes) (proven_story d life past))
+        ≡ Taken (now (Received at sender bytes ∷ past)) ∷ hear (now (Received at sender bytes ∷ past)) (heard_in d life false (Received at sender bytes)) (proven_story d life past)
+    both true true p q = refl
+    both true false p q = absurd (false≢true q)
+    both false y p q = absurd (false≢true p)
+
+none_on : (d : Descriptor) (life : Life) (r : Record) → comes_on d life r ≡ false → heard_in d life false r ≡ []
+none_on d life r none = ap (λ (x : Bool). cond x (read d r).messages.read []) none
+
+tale_unread : (d : Descriptor) (life : Life) (at : ℕ) (sender : Address) (bytes : List ℕ) (p : Bool) (past : List Record) → life.opening < length past
+    → (comes_on d life (Received at sender bytes) ≡ false) ⊎ (is_read d life (Received at sender bytes ∷ past) ≡ false)
+    → IsSameTale (with_line (Taken (now (Received at sender bytes ∷ past))) p (tale_of d life past)) (tale_of d life (Received at sender bytes ∷ past))
+tale_unread d life at sender bytes p past lt (inl none) = record {
+  story = step_read d life (Received at sender bytes) past (Taken (now (Received at sender bytes ∷ past)) ∷ read_story d life past) lt
+      (ap (λ (ms : List Message). Taken (now (Received at sender bytes ∷ past)) ∷ hear (now (Received at sender bytes ∷ past)) ms (read_story d life past))
+      (none_on d life (Received at sender bytes) none)) refl;
+  proven = step_proven d life (Received at sender bytes) past lt
+      ∙ ap (λ (x : Bool). cond (x && is_read d life (Received at sender bytes ∷ past))
+      (told d life false (now (Received at sender bytes ∷ past)) (Received at sender bytes) (proven_story d life past))
+      (with_unread d life false (now (Received at sender bytes ∷ past)) (Received at sender bytes) (proven_story d life past))) none;
+  told = λ i. refl;
+}
+tale_unread d life at sender bytes p past lt (inr unread) = record {
+  story = reads_grow.unread d life (Received at sender bytes) past lt unread;
+  proven = step_proven d life (Received at sender bytes) past lt ∙ late (comes_on d life (Received at sender bytes)) (is_read d life (Received at sender bytes ∷ past)) unread;
+  told = λ i. refl;
+}
+  where
+    late : (x y : Bool) → y ≡ false
+        → cond (x && y) (told d life false (now (Received at sender bytes ∷ past)) (Received at sender bytes) (proven_story d life past))
+        (with_unread d life false (now (Received at sender bytes ∷ past)) (Received at sender bytes) (proven_story d life past))
+        ≡ Taken (now (Received at sender bytes ∷ past)) ∷ proven_story d life past
+    late true true q = absurd (false≢true (sym q))
+    late true false q = refl
+    late false y q = refl
+
+pub tales_grow : TalesGrow
+tales_grow = record { sent = tale_sent; quiet = tale_quiet; heard = tale_heard; unread = tale_unread }
+
+-- ---- clocks
+
+since_within : (test : Record → Bool) (place : ℕ) (past : List Record) → some_since test place past ≡ true → place < length past
+since_within test place [] e = absurd (false≢true e)
+since_within test place (r ∷ b) e = by (nat_le place (length b)) (test r) refl (since_within test place b) e
+  where
+    by : (x y : Bool) → nat_le place (length b) ≡ x → (some_since test place b ≡ true → place < length b)
+        → ((x && y) || some_since test place b) ≡ true → place < length (r ∷ b)
+    by true y is rest here = let le : place ≤ length b = leb-true place (length b) is in omega arith
+    by false y is rest there = let less = rest there in omega arith
+
+say_clock : (at : ℕ) (ms : List Message) (s : List Line) → clock s ≤ clock (say at ms s)
+say_clock at [] s = omega arith
+say_clock at (m ∷ ms) s = let more = say_clock at ms (Said at m ∷ s) in omega arith
+
+in_past : (d : Descriptor) (life : Life) (r : Record) (b : List Record) → some_since is_event life.opening (r ∷ b) ≡ true → nat_le life.opening (length b) ≡ true
+in_past d life r b e = let lt = since_within is_event life.opening (r ∷ b) e in le-leb life.opening (length b) (omega arith)
+
+pub reads_come : ReadsComeToNow
+reads_come d life [] e = absurd (false≢true e)
+reads_come d life (Received at sender bytes ∷ b) e =
+    by (nat_le life.opening (length b)) (is_read d life (Received at sender bytes ∷ b)) (in_past d life (Received at sender bytes) b e)
+  where
+    by : (x y : Bool) → x ≡ true
+        → now (Received at sender bytes ∷ b)
+        ≤ clock (cond x (cond y (told d life (eqb life.opening (length b)) (now (Received at sender bytes ∷ b)) (Received at sender bytes) (read_story d life b))
+        (with_unread d life (eqb life.opening (length b)) (now (Received at sender bytes ∷ b)) (Received at sender bytes) (read_story d life b))) [])
+    by true true is = omega arith
+    by true false is = omega arith
+    by false y is = absurd (false≢true is)
+reads_come d life (Quiet at ∷ b) e = by (nat_le life.opening (length b)) (is_read d life (Quiet at ∷ b)) (in_past d life (Quiet at) b e)
+  where
+    by : (x y : Bool) → x ≡ true
+        → now (Quiet at ∷ b)
+        ≤ clock (cond x (cond y (told d life (eqb life.opening (length b)) (now (Quiet at ∷ b)) (Quiet at) (read_story d life b))
+        (with_unread d life (eqb life.opening (length b)) (now (Quiet at ∷ b)) (Quiet at) (read_story d life b))) [])
+    by true true is = omega arith
+    by true false is = omega arith
+    by false y is = absurd (false≢true is)
+reads_come d life (Sent moment receiver bytes ∷ b) e =
+    by (nat_le life.opening (length b)) (is_read d life (Sent moment receiver bytes ∷ b)) (in_past d life (Sent moment receiver bytes) b e)
+    (reads_come d life b (later (nat_le life.opening (length b)) e))
+  where
+    later : (x : Bool) → ((x && false) || some_since is_event life.opening b) ≡ true → some_since is_event life.opening b ≡ true
+    later true e = e
+    later false e = e
+
+    by : (x y : Bool) → x ≡ true → now b ≤ clock (read_story d life b)
+        → now b ≤ clock (cond x (cond y (told d life (eqb life.opening (length b)) (now b) (Sent moment receiver bytes) (read_story d life b))
+        (with_unread d life (eqb life.opening (length b)) (now b) (Sent moment receiver bytes) (read_story d life b))) [])
+    by true true is before = let more = say_clock (now b) (said_in d life (Sent moment receiver bytes)) (read_story d life b) in omega arith
+    by true false is before = let more = say_clock (now b) (said_in d life (Sent moment receiver bytes)) (read_story d life b) in omega arith
+    by false y is before = absurd (false≢true is)

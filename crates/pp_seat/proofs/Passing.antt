@@ -2,7 +2,7 @@
 use Rattle.pp_traffic.specs.Fates.{clock}
 use Rattle.std.proofs.Common.{◌≡◌, ⊎_elim, ℕ, ◌+◌, ◌<◌, ◌≤◌, eqb, nat_lt, Bool, true, false, cond, not, ◌&&◌, ◌||◌, Some, None, List, [], ◌∷◌, length, take, refl, sym, ◌∙◌, ap, subst, arith, Option, inl, inr}
 use Rattle.std.specs.List.{AllByRecursion}
-use Rattle.std.proofs.lemmas.Bool.{cond-true, or_left, or_right, or_from, and_right, both_ways, lt-ltb, false≢true}
+use Rattle.std.proofs.lemmas.Bool.{cond-true, or_left, or_right, or_from, and_right, both_ways, lt-ltb, false≢true, and_parts, and_from}
 use Rattle.std.proofs.lemmas.Bool.Decides.{nat_tests}
 use Rattle.std.proofs.lemmas.List.Sums.{sum_by-cons}
 use Rattle.pp_terms.specs.format.Messages.{Message, Handshake, Data, Ack, Have, Integrity, Pex4, PexReq, Request, Cancel, Choke, Unchoke, Pex6}
@@ -117,7 +117,9 @@ alike_follows f lost s t later cursor answer question a h haves fresh exchange =
       claims = h.claims ∙ ap (take 128) (sym a.claims);
       proven = h.proven;
       own = record {
-        named = λ i m e. a.named i m (h.own.named i m e);
+        named = λ i m e.
+            let p = and_parts (nat_lt i f.chunks) (is_named_at i m t.story) (h.own.named i m e) in
+            and_from (nat_lt i f.chunks) (is_named_at i m later.story) p.0 (a.named i m p.1);
         expired = λ e. a.old (h.own.expired e);
         choked = λ e. a.chokes_same ∙ h.own.choked e;
       };

@@ -1,9 +1,9 @@
 -- A seat follows one line more, of a message that was sent, and what happens between lines.
-use Rattle.std.proofs.Common.{◌≡◌, ◌⊎◌, ⊎_elim, ℕ, ◌+◌, ◌<◌, ◌≤◌, eqb, Bool, true, false, not, ◌&&◌, Some, None, List, [], ◌∷◌, map, max, length, refl, sym, ◌∙◌, ap, subst, arith, inl, inr, Option}
+use Rattle.std.proofs.Common.{◌≡◌, ◌⊎◌, ⊎_elim, ℕ, ◌+◌, ◌<◌, ◌≤◌, eqb, Bool, true, false, not, ◌&&◌, Some, None, List, [], ◌∷◌, map, max, length, refl, sym, ◌∙◌, ap, subst, arith, inl, inr, Option, nat_lt}
 use Rattle.std.specs.List.{AllByRecursion}
-use Rattle.std.proofs.lemmas.Bool.{cases_lt, and_from, or_left, or_right, both_ways, false≢true, eq-eqb}
+use Rattle.std.proofs.lemmas.Bool.{cases_lt, and_from, or_left, or_right, both_ways, false≢true, eq-eqb, and_parts}
 use Rattle.std.proofs.lemmas.Bool.Decides.{nat_tests}
-use Rattle.pp_terms.specs.format.Messages.{Message, Data, Have, Request, Choke, Unchoke, PexReq}
+use Rattle.pp_terms.specs.format.Messages.{Message, Data, Have, Request, Choke, Unchoke, PexReq, Cancel}
 use Rattle.pp_terms.specs.tree.Range.{Span, within, has}
 use Rattle.pp_ranges.specs.Edits.{without_below}
 use Rattle.pp_traffic.specs.Story.{Said}
@@ -16,7 +16,7 @@ use Rattle.pp_ledbat.proofs.Cuts.{cuts_acknowledge_alike}
 use Rattle.pp_requests.specs.declared.asking.Asking.{Asking}
 use Rattle.pp_requests.specs.Lists.{without}
 use Rattle.pp_requests.specs.Moments.{asked_at, Changes, IsLeastExpired}
-use Rattle.pp_seat.specs.Lines.{asked_since, is_named_at, Tale, with_line, with_said}
+use Rattle.pp_seat.specs.Lines.{asked_since, is_named_at, Tale, with_line, with_said, is_asked_at}
 use Rattle.pp_seat.specs.Own.{AreAddresses}
 use Rattle.pp_seat.specs.Aspects.{HasSlot, Sends, Asks, Haves, Fresh, Lacks}
 use Rattle.pp_seat.specs.Seats.{SeatState}
@@ -24,7 +24,7 @@ use Rattle.pp_seat.specs.Follows.{Frame, Lost, Follows, Goes, Stays, Says, Gives
 use Rattle.pp_seat.proofs.Listing.{leaves_list, sends_lacks, gives_lacks, passes_lacks, passes_list, below_lacks}
 use Rattle.pp_seat.proofs.Moments.{later}
 use Rattle.pp_seat.proofs.Hearing.{fewer_asked}
-use Rattle.pp_seat.proofs.Passing.{choked_none, named_old, alike_follows, said_alike}
+use Rattle.pp_seat.proofs.Passing.{choked_none, named_old, alike_follows, said_alike, idle_stays}
 use Rattle.pp_seat.proofs.Telling.{requests_light, requests_tell, requests_fresh, requests_exchange, requests_name, haves_light, haves_keep, haves_tell, haves_fresh, haves_exchange, addresses_light, addresses_keep, addresses_fresh, addresses_answer, addresses_question}
 
 -- ---- a chunk leaves the list
@@ -217,8 +217,8 @@ proved_follows s = record {
 -- ---- own requests
 
 own_stays : (P : Frame → Tale → Type 0) (s : SeatState) (own : List Asking) (stopped : Bool)
-    → ((f : Frame) (t : Tale) → P f t → Asks s.own s.stopped s.chokes (λ i moment. is_named_at i moment t.story) (has_old_request (clock t.story) t.story) (is_choked_by_peer t.story)
-    → Asks own stopped s.chokes (λ i moment. is_named_at i moment t.story) (has_old_request (clock t.story) t.story) (is_choked_by_peer t.story))
+    → ((f : Frame) (t : Tale) → P f t → Asks s.own s.stopped s.chokes (λ i moment. is_asked_at f.chunks i moment t.story) (has_old_request (clock t.story) t.story) (is_choked_by_peer t.story)
+    → Asks own stopped s.chokes (λ i moment. is_asked_at f.chunks i moment t.story) (has_old_request (clock t.story) t.story) (is_choked_by_peer t.story))
     → Stays P s (record s { own = own; stopped = stopped })
 own_stays P s own stopped step = record {
   follows = λ f lost t so h. record {
@@ -243,18 +243,30 @@ pub expired_stays : (s : SeatState) (i now : ℕ) (own : List Asking) → IsLeas
     → Stays (HasCome now) s (record s { own = own; stopped = true })
 expired_stays s i now own least is = own_stays (HasCome now) s own true (λ f t come a. record {
   named = λ j m e. a.named j m (fewer_asked i s.own own is j m e);
-  expired = λ e. named_old i least.moment (clock t.story) t.story (a.named i least.moment least.asked) (let old = least.expired in omega arith);
+  expired = λ e. named_old i least.moment (clock t.story) t.story (and_parts (nat_lt i f.chunks) (is_named_at i least.moment t.story) (a.named i least.moment least.asked)).1 (let old = least.expired in omega arith);
   choked = a.choked;
 })
+
+pub cancel_goes : (s : SeatState) (own : List Asking) (i now : ℕ) (span : Span) → Changes i None s.own own
+    → Goes Always (Said now (Cancel span)) s (record s { own = own })
+cancel_goes s own i now span is = record {
+  follows = λ f lost t so h.
+      (idle_stays (Said now (Cancel span)) (record s { own = own })).follows f lost t tt
+      ((own_stays Always s own s.stopped (λ f t so a. record {
+        named = λ j m e. a.named j m (fewer_asked i s.own own is j m e);
+        expired = a.expired;
+        choked = a.choked;
+      })).follows f lost t tt h);
+}
 
 pub same_stays : (P : Frame → Tale → Type 0) (s : SeatState) → Stays P s s
 same_stays P s = record { follows = λ f lost t so h. h }
 
 -- Chunks that are asked for are named by the REQUESTs.
-pub requests_say : (s : SeatState) (range : Span) (now : ℕ) (own : List Asking) (spans : List Span) → ((i : ℕ) → has spans i ≡ within range i)
+pub requests_say : (s : SeatState) (range : Span) (now : ℕ) (own : List Asking) (spans : List Span) → range.last < s.told.chunks → ((i : ℕ) → has spans i ≡ within range i)
     → ((i m : ℕ) → asked_at own i ≡ Some m → (asked_at s.own i ≡ Some m) ⊎ ((within range i ≡ true) × (m ≡ now)))
     → Says Always now (map Request spans) s (record s { own = own })
-requests_say s range now own spans split named = record {
+requests_say s range now own spans inside split named = record {
   follows = λ f lost t so h.
       let a = said_alike f now (map Request spans) t (requests_light spans) in
       let k = alike_follows f lost s t (with_said now (map Request spans) f.proven t) s.cursor s.answer s.question a h
@@ -273,8 +285,9 @@ requests_say s range now own spans split named = record {
           named = λ i m e. ⊎_elim
               (λ was. k.own.named i m was)
               (λ (x : (within range i ≡ true) × (m ≡ now)).
-              subst (λ (moment : ℕ). is_named_at i moment (with_said now (map Request spans) f.proven t).story ≡ true) (sym x.1)
-              (requests_name i now f.proven spans t (inl (split i ∙ x.0))))
+              subst (λ (moment : ℕ). is_asked_at f.chunks i moment (with_said now (map Request spans) f.proven t).story ≡ true) (sym x.1)
+              (and_from (nat_lt i f.chunks) (is_named_at i now (with_said now (map Request spans) f.proven t).story) (low f.chunks i h.told.content x.0)
+              (requests_name i now f.proven spans t (inl (split i ∙ x.0)))))
               (named i m e);
           expired = k.own.expired;
           choked = k.own.choked;
@@ -284,6 +297,9 @@ requests_say s range now own spans split named = record {
         exchange = k.exchange;
       };
 }
+  where
+    low : (chunks i : ℕ) → s.told.chunks ≡ chunks → within range i ≡ true → nat_lt i chunks ≡ true
+    low chunks i same here = grind (arith, nat_tests)
 
 -- ---- the HAVE cursor
 

@@ -11,7 +11,7 @@ use Rattle.pp_traffic.specs.Meter.{meter, has_room, lets_send}
 use Rattle.pp_promises.specs.OwnSide.{is_choked_by_peer, has_old_request}
 use Rattle.pp_promises.specs.Announced.{is_told_of}
 use Rattle.pp_requests.specs.Lists.{IsLeast}
-use Rattle.pp_seat.specs.Lines.{inside, asked_since, is_named_at, last_answer, last_question, Tale, with_line, with_said}
+use Rattle.pp_seat.specs.Lines.{inside, asked_since, is_asked_at, last_answer, last_question, Tale, with_line, with_said}
 use Rattle.pp_seat.specs.Aspects.{Lists, Lacks, HasSlot, Sends, Knows, Asks, Haves, Fresh, Exchanges}
 use Rattle.pp_seat.specs.Seats.{SeatState}
 
@@ -40,7 +40,7 @@ pub record Follows (f : Frame) (lost : Lost) (s : SeatState) (t : Tale) : Type 0
   pub told : Knows f.chunks s.told (is_told f.chunks t.story)
   pub claims : s.claims ≡ take 128 (claims_in f.chunks t.proven)
   pub proven : s.proven ≡ f.proven
-  pub own : Asks s.own s.stopped s.chokes (λ i moment. is_named_at i moment t.story) (has_old_request (clock t.story) t.story) (is_choked_by_peer t.story)
+  pub own : Asks s.own s.stopped s.chokes (λ i moment. is_asked_at f.chunks i moment t.story) (has_old_request (clock t.story) t.story) (is_choked_by_peer t.story)
   pub haves : Haves s.cursor f.since f.mark (λ i. is_told_of i t.story)
   pub fresh : Fresh s.cursor f.proven t.told lost.haves
   pub exchange : Exchanges s.answer s.question (last_answer t.story) (last_question t.story)

@@ -29,6 +29,10 @@ is_named_at i moment (Heard now m ∷ before) = is_named_at i moment before
 is_named_at i moment (Said now m ∷ before) = names_at i moment now m || is_named_at i moment before
 is_named_at i moment (Taken now ∷ before) = is_named_at i moment before
 
+-- and it is a chunk of the content
+abbrev pub is_asked_at : (chunks i moment : ℕ) → List Line → Bool
+is_asked_at chunks i moment story = nat_lt i chunks && is_named_at i moment story
+
 -- when addresses of other peers were last sent, and last asked for
 abbrev pub answer_of : (now : ℕ) → Message → Option ℕ → Option ℕ
 answer_of now (Pex4 address port) before = Some now

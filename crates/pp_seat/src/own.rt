@@ -1,12 +1,16 @@
 //! What this peer asks for.
 
-ghost use Rattle.std.specs.Prelude.{◌≡◌, ◌⊎◌, ◌<◌, ◌≤◌, ◌+◌, ◌-◌, ℕ, List, [], true, false, None, Some, is_some, MatchOption, length, map};
+ghost use Rattle.std.specs.Prelude.{◌≡◌, ◌↔◌, ◌⊎◌, IsTrue, ◌<◌, ◌≤◌, ◌+◌, ◌-◌, ℕ, List, [], true, false, None, Some, is_some, MatchOption, length, map};
 ghost use Rattle.pp_terms.specs.tree.Range.{Span, within};
-ghost use Rattle.pp_terms.specs.format.Messages.{Data, Request, Choke, Unchoke};
+ghost use Rattle.pp_terms.specs.format.Messages.{Data, Request, Cancel, Choke, Unchoke};
 ghost use Rattle.pp_traffic.specs.Story.{Heard, Said};
 ghost use Rattle.pp_requests.specs.Moments.{asked_at, Changes, IsLeastAsked, IsLeastExpired, NoneExpired};
+ghost use Rattle.pp_traffic.specs.Fates.{clock};
+ghost use Rattle.pp_promises.specs.OwnSide.{most_outstanding, is_choked_by_peer, has_old_request};
+ghost use Rattle.pp_promises.specs.Asked.{named_count};
+ghost use Rattle.pp_seat.specs.Lines.{Tale};
 ghost use Rattle.pp_seat.specs.Own.{IsSplit, HasAsked, CanAsk, AsksAll};
-ghost use Rattle.pp_seat.specs.Follows.{Goes, Stays, Says, Always, HasCome};
+ghost use Rattle.pp_seat.specs.Follows.{Frame, Lost, Follows, Goes, Stays, Says, Always, HasCome};
 
 use crate::seat::Seat;
 use pp_ranges::ChunkRange;
@@ -42,11 +46,46 @@ impl Seat {
 
     /// A REQUEST was sent. A chunk of it that this peer waits for already, or for which there is no room, isn't noted.
     pub fn said_request(&mut self, range: ChunkRange, now: u64)
+        requires { range.last < self.old.told.chunks }
         ensures rest { self.new ≡ record self.old { own = self.new.own } }
         ensures exact { CanAsk range self.old.own → AsksAll range now self.old.own self.new.own }
         ensures says { (spans : List Span) → IsSplit range spans → Says Always now (map Request spans) self.old self.new }
     {
         ask(&mut self.own, range, now);
+    }
+
+    /// A CANCEL of the chunk was sent (RFC 7574, section 3.8).
+    pub fn said_cancel(&mut self, i: u32)
+        ensures rest { self.new ≡ record self.old { own = self.new.own } }
+        ensures taken { Changes i None self.old.own self.new.own }
+        ensures goes { (now : ℕ) (span : Span) → Goes Always (Said now (Cancel span)) self.old self.new }
+    {
+        self.own.answered(i);
+    }
+
+    /// How many chunks more this peer may ask for.
+    pub fn room(&self) -> u32
+        ensures room { result + length self.now.own ≡ 32 }
+        ensures some { (f : Frame) (lost : Lost) (t : Tale) → Follows f lost self.now t
+            → named_count f.chunks t.story < most_outstanding → 0 < result }
+    {
+        self.own.room()
+    }
+
+    /// Whether the other peer may be asked: it doesn't choke, and no request expired since a datagram came.
+    pub fn may_ask(&self) -> bool
+        ensures exact { IsTrue result ↔ (self.now.chokes ≡ false) × (self.now.stopped ≡ false) }
+        ensures asks { (f : Frame) (lost : Lost) (t : Tale) → Follows f lost self.now t → is_choked_by_peer t.story ≡ false
+            → has_old_request (clock t.story) t.story ≡ false → IsTrue result }
+    {
+        !self.chokes && !self.stopped
+    }
+
+    /// Whether this peer waits for the chunk.
+    pub fn awaits(&self, i: u32) -> bool
+        ensures { result ≡ is_some (asked_at self.now.own i) }
+    {
+        self.own.contains(i)
     }
 
     /// Takes out the least chunk that this peer asked for 10 seconds ago or longer, and stops asking.

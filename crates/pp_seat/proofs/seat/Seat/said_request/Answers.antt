@@ -2,4 +2,5 @@ use Rattle.pp_seat.proofs.Saying.{requests_say}
 use Rattle.pp_seat.proofs.seat.Seat.said_request.Goals as goal
 
 pub returns-clause-says : goal.returns-clause-says
-returns-clause-says c spans split = rw (← c.self.view_is) (requests_say _ c.args.range c.args.now c.ask.new.own spans split c.ask.ensures.named)
+returns-clause-says c spans split =
+    rw (← c.self.view_is) (requests_say _ c.args.range c.args.now c.ask.new.own spans (rw (← c.self.view_is) at c.requires) split c.ask.ensures.named)

@@ -1,0 +1,5 @@
+use Rattle.pp_seat.proofs.Saying.{cancel_goes}
+use Rattle.pp_seat.proofs.seat.Seat.said_cancel.Goals as goal
+
+pub returns-clause-goes : goal.returns-clause-goes
+returns-clause-goes c now span = rw (← c.self.view_is) (cancel_goes _ c.answered.new.self c.args.i now span c.answered.ensures.taken)
