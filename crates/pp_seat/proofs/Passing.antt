@@ -20,8 +20,8 @@ use Rattle.pp_seat.specs.Lines.{inside, asked_since, names_at, is_named_at, last
 use Rattle.pp_seat.specs.Aspects.{Lacks, Haves, Fresh, Exchanges}
 use Rattle.pp_seat.specs.Seats.{SeatState}
 use Rattle.pp_seat.specs.Follows.{Frame, Lost, Follows, IsIdleSaid}
-use Rattle.pp_seat.specs.Laws.{IsIdleHeard, IdleStays, AnnouncedStays, MarkStays}
-use Rattle.pp_seat.proofs.Spans.{out_within}
+use Rattle.pp_seat.specs.Laws.{IsIdleHeard, IdleStays, AnnouncedStays, MarkStays, IdleSays, CutsNameAlike}
+use Rattle.pp_seat.proofs.Spans.{out_within, part_of, part_within, ordered}
 use Rattle.pp_seat.proofs.Naming.{unclaimed, named_out}
 use Rattle.pp_seat.proofs.Moments.{old_stays}
 
@@ -459,6 +459,24 @@ idle_stays (Heard now m) s = record {
 }
 idle_stays (Said now m) s = record { follows = λ f lost t idle h. idle_said f lost s now m t idle (one_alike f now m t (idle_light m idle)) h }
 idle_stays (Taken now) s = record { follows = λ f lost t h. absurd h }
+
+pub idle_says : IdleSays
+idle_says now [] s idle = record { follows = λ f lost t so h. h }
+idle_says now (m ∷ ms) s idle = record {
+  follows = λ f lost t so h.
+      (idle_says now ms s idle.1).follows f lost (with_line (Said now m) f.proven t) tt ((idle_stays (Said now m) s).follows f lost t idle.0 h);
+}
+
+pub cuts_name_alike : CutsNameAlike
+cuts_name_alike = record {
+  some = λ chunks span range i is lt. part_within chunks span range i (part_of chunks span range is) lt;
+  content = λ chunks span range is.
+      let p = part_of chunks span range is in
+      let low = p.low in
+      let last = p.last in
+      (ordered chunks span range p, omega arith);
+  none = out_within;
+}
 
 -- ---- frames
 

@@ -1,6 +1,6 @@
 -- What a seat keeps is what the story of its channel says, and how it stays so.
 use Rattle.std.specs.Prelude.{◌≡◌, ◌⊎◌, ℕ, ◌+◌, ◌<◌, ◌≤◌, Bool, true, false, Option, Some, None, List, [], ◌∷◌, length, take}
-use Rattle.pp_terms.specs.tree.Range.{Span}
+use Rattle.pp_terms.specs.tree.Range.{Span, has}
 use Rattle.pp_terms.specs.format.Messages.{Message, Data, Request, Choke, Unchoke, Handshake, Ack, Have, Integrity, Pex4, PexReq, Cancel, Pex6}
 use Rattle.pp_traffic.specs.Story.{Line, Heard, Said, Taken}
 use Rattle.pp_traffic.specs.Asking.{choked, asked, asks_in}
@@ -111,9 +111,13 @@ pub record IsNext (s : SeatState) (i : ℕ) : Type 0 where
   pub room : has_room s.window ≡ true
   pub least : IsLeast s.list i
 
--- Nothing may be sent now: there is no slot, no room, or nothing on the list.
+-- No chunk of the content is on the list.
+abbrev pub HasNone : SeatState → Type 0
+HasNone s = (i : ℕ) → i < s.told.chunks → has s.list i ≡ false
+
+-- Nothing may be sent now: there is no slot, no room, or no chunk on the list.
 abbrev pub IsDone : SeatState → Type 0
-IsDone s = (s.slot ≡ false) ⊎ ((has_room s.window ≡ false) ⊎ (s.list ≡ []))
+IsDone s = (s.slot ≡ false) ⊎ ((has_room s.window ≡ false) ⊎ HasNone s)
 
 -- A chunk answers the peer, but for its hashes.
 pub record Answers (f : Frame) (t : Tale) (i : ℕ) : Type 0 where

@@ -1,14 +1,15 @@
 -- What stays of a seat while nothing is called, and what follows from the story that it follows.
-use Rattle.std.specs.Prelude.{◌≡◌, ◌⊎◌, ℕ, ◌<◌, ◌≤◌, ◌==◌, true, false, Option, Some, None, List, [], length}
+use Rattle.std.specs.Prelude.{◌≡◌, ◌⊎◌, ℕ, ◌<◌, ◌≤◌, ◌==◌, true, false, Option, Some, None, List, [], ◌∷◌, length}
 use Rattle.std.specs.List.{list_any}
 use Rattle.pp_terms.specs.format.Messages.{Message, Handshake, Data, Ack, Have, Integrity, Pex4, PexReq, Request, Cancel, Choke, Unchoke, Pex6}
+use Rattle.pp_terms.specs.tree.Range.{Span, within}
 use Rattle.pp_traffic.specs.Story.{Line, Heard, Said, Taken}
 use Rattle.pp_traffic.specs.Asking.{choked, asks_in, most_asks}
 use Rattle.pp_promises.specs.Announced.{is_told_of}
 use Rattle.pp_seat.specs.Lines.{inside, asked_since, Tale}
 use Rattle.pp_seat.specs.Aspects.{Haves}
 use Rattle.pp_seat.specs.Seats.{SeatState}
-use Rattle.pp_seat.specs.Follows.{Frame, Lost, Follows, Goes, IsIdleSaid}
+use Rattle.pp_seat.specs.Follows.{Frame, Lost, Follows, Goes, Says, Always, IsIdleSaid, HasNone}
 
 -- ---- lines that do nothing to a seat
 
@@ -36,6 +37,20 @@ IsIdle (Taken now) f t = ⊥
 abbrev pub IdleStays : Type 0
 IdleStays = (line : Line) (s : SeatState) → Goes (IsIdle line) line s s
 
+-- So it is with several that were sent.
+abbrev pub AreIdleSaid : List Message → Type 0
+AreIdleSaid [] = Unit {0}
+AreIdleSaid (m ∷ ms) = IsIdleSaid m × AreIdleSaid ms
+
+abbrev pub IdleSays : Type 0
+IdleSays = (now : ℕ) (ms : List Message) (s : SeatState) → AreIdleSaid ms → Says Always now ms s s
+
+-- What of a span lies in the content names the same chunks of it.
+pub record CutsNameAlike : Type 0 where
+  pub some : (chunks : ℕ) (span range : Span) (i : ℕ) → inside chunks span ≡ Some range → i < chunks → within range i ≡ within span i
+  pub content : (chunks : ℕ) (span range : Span) → inside chunks span ≡ Some range → (range.first ≤ range.last) × (range.last < chunks)
+  pub none : (chunks : ℕ) (span : Span) (i : ℕ) → inside chunks span ≡ None → i < chunks → within span i ≡ false
+
 -- ---- frames
 
 -- Chunks that weren't announced were, when the story had so many lines or more.
@@ -59,10 +74,10 @@ MarkStays = (f : Frame) (lost : Lost) (mark : ℕ) (s : SeatState) (t : Tale) �
 
 -- ---- what follows
 
--- Where nothing is on the list of a channel with a slot, nothing is left that is asked for by a REQUEST since it was announced, but
+-- Where no chunk is on the list of a channel with a slot, nothing is left that is asked for by a REQUEST since it was announced, but
 -- what was given up.
 abbrev pub NoneLeft : Type 0
-NoneLeft = (f : Frame) (lost : Lost) (s : SeatState) (t : Tale) → Follows f lost s t → s.slot ≡ true → s.list ≡ []
+NoneLeft = (f : Frame) (lost : Lost) (s : SeatState) (t : Tale) → Follows f lost s t → s.slot ≡ true → HasNone s
     → (given : List ℕ) × (length given ≤ lost.chunks) × ((i place : ℕ) → asks_in t.story ≤ most_asks → i < f.chunks → f.since i ≡ Some place
     → asked_since place i t.story ≡ true → list_any (λ k. k == i) given ≡ true)
 

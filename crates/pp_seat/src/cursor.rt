@@ -1,10 +1,11 @@
 //! How far this peer has told what it has.
 
-ghost use Rattle.std.specs.Prelude.{◌≡◌, ◌+◌, ◌<◌, ◌≤◌, ℕ, List, true, false, map, max, min, length, slice_index_or, MatchOption};
-ghost use Rattle.pp_terms.specs.tree.Range.{Span};
+ghost use Rattle.std.specs.Prelude.{◌≡◌, ◌+◌, ◌<◌, ◌≤◌, ℕ, List, true, false, map, max, min, length, slice_index_or, MatchOption, IfSome};
+ghost use Rattle.pp_terms.specs.tree.Range.{Span, within};
 ghost use Rattle.pp_terms.specs.format.Messages.{Have};
+ghost use Rattle.pp_seat.specs.Lines.{Tale};
 ghost use Rattle.pp_seat.specs.Own.{IsSplit, IsNextRow};
-ghost use Rattle.pp_seat.specs.Follows.{Stays, Says, SetsBack, IsUnproven, IsPassed};
+ghost use Rattle.pp_seat.specs.Follows.{Frame, Lost, Follows, Stays, Says, SetsBack, IsUnproven, IsPassed};
 
 use crate::seat::Seat;
 use pp_ranges::ChunkRange;
@@ -17,11 +18,15 @@ impl Seat {
         self.cursor
     }
 
-    /// The next range of committed chunks from the cursor on.
+    /// The next range of committed chunks from the cursor on. Where no HAVE was refused, none of them was told of since the channel
+    /// was proven.
+    #[tactic(auto, using(crate::proofs::Answering::rows_are_fresh))]
     pub fn next_have(&self, committed: &ChunkSet) -> Option<ChunkRange>
         requires { length committed.now ≡ self.now.told.chunks }
-        ensures { MatchOption result ((i : ℕ) → self.now.cursor ≤ i → slice_index_or committed.now i false ≡ false)
+        ensures next { MatchOption result ((i : ℕ) → self.now.cursor ≤ i → slice_index_or committed.now i false ≡ false)
             (IsNextRow self.now.cursor committed.now) }
+        ensures fresh { (f : Frame) (lost : Lost) (t : Tale) → Follows f lost self.now t → lost.haves ≡ 0
+            → IfSome result (λ range. (i : ℕ) → within range i ≡ true → t.told i ≡ false) }
     {
         let first = committed.first_from(self.cursor)?;
         let end = committed

@@ -78,13 +78,12 @@ impl Seat {
     }
 
     /// The nodes whose hashes go before a chunk (RFC 7574, section 5.3).
-    pub fn plan(&self, i: u32, chunks: u32) -> ArrayVec<Node, 48>
-        requires content { self.now.told.chunks ≡ chunks }
-        requires inside { i < chunks }
-        ensures nodes { map node_of result.items ≡ laws.plan chunks (knows self.now.told) i }
+    pub fn plan(&self, i: u32) -> ArrayVec<Node, 48>
+        requires { i < self.now.told.chunks }
+        ensures nodes { map node_of result.items ≡ laws.plan self.now.told.chunks (knows self.now.told) i }
         ensures whole { (f : Frame) (lost : Lost) (t : Tale) (brought : terms.Node → _) → Follows f lost self.now t
             → list_all brought (map node_of result.items) ≡ true → completes f.chunks brought (is_told f.chunks t.story) i ≡ true }
     {
-        plan(i, &self.told, chunks)
+        plan(i, &self.told, self.told.chunks())
     }
 }

@@ -3,7 +3,7 @@
 #![tactic(auto)]
 
 ghost use Rattle.pp_seat.specs.Frames.{SameTales, TalesGrow, OwedIsKept, FramesGrow, ReadsComeToNow};
-ghost use Rattle.pp_seat.specs.Laws.{IdleStays, AnnouncedStays, MarkStays, NoneLeft, ChokesAreDue};
+ghost use Rattle.pp_seat.specs.Laws.{IdleStays, IdleSays, CutsNameAlike, AnnouncedStays, MarkStays, NoneLeft, ChokesAreDue};
 
 mod cursor;
 mod exchange;
@@ -19,6 +19,8 @@ pub use service::Listed;
 /// What stays of a seat while nothing is called, and what follows from the story that it follows. It does nothing.
 pub fn laws_of_seats()
     ensures idle { IdleStays }
+    ensures says { IdleSays }
+    ensures cuts { CutsNameAlike }
     ensures announced { AnnouncedStays }
     ensures marks { MarkStays }
     ensures none_left { NoneLeft }

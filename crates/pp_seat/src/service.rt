@@ -63,9 +63,10 @@ impl Seat {
     }
 
     /// The least chunk that may be sent now: one that is asked for, on a channel with a slot, whose window has room.
-    #[tactic(auto, using(crate::proofs::Answering::answers))]
+    #[tactic(auto, using(crate::proofs::Answering::answers, crate::proofs::Answering::none_listed, crate::proofs::Answering::empty_list))]
     pub fn next(&self) -> Option<u32>
         ensures next { MatchOption result (IsDone self.now) (IsNext self.now) }
+        ensures content { IfSome result (λ i. i < self.now.told.chunks) }
         ensures answers { IfSome result (λ i. (f : Frame) (lost : Lost) (t : Tale) → Follows f lost self.now t → Answers f t i) }
     {
         if !self.slot {
@@ -74,7 +75,11 @@ impl Seat {
         if !self.window.may_send() {
             return None;
         }
-        self.list.peek()
+        let i = self.list.peek()?;
+        if i >= self.told.chunks() {
+            return None;
+        }
+        Some(i)
     }
 
     /// The chunk was sent.
