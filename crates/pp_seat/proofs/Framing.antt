@@ -1,28 +1,28 @@
 -- The frame and the tale of a channel's seat, record by record.
-use Rattle.std.proofs.Common.{◌≡◌, ◌⊎◌, inl, inr, ⊎_elim, ℕ, ◌+◌, ◌<◌, ◌≤◌, max, nat_le, nat_lt, eqb, Bool, true, false, cond, not, ◌&&◌, ◌||◌, Option, Some, None, List, [], ◌∷◌, length, refl, sym, ◌∙◌, ap, subst, arith}
+use Rattle.pp_traffic.proofs.OneMore.{story_opening}
+use Rattle.std.proofs.Common.{◌≡◌, ◌⊎◌, inl, inr, ℕ, ◌+◌, ◌<◌, ◌≤◌, nat_le, nat_lt, eqb, Bool, true, false, cond, not, ◌&&◌, ◌||◌, Some, None, List, [], ◌∷◌, length, refl, sym, ◌∙◌, ap, subst, arith}
 use Rattle.std.specs.List.{list_any}
-use Rattle.std.proofs.lemmas.Bool.{le-leb, lt-leb, ne_eqb, or_left, or_right, or_cases, or_from, false_from_ne_true, both_ways, false≢true, cases_Bool, leb-true}
+use Rattle.std.proofs.lemmas.Bool.{le-leb, or_from, false_from_ne_true, both_ways, false≢true, leb-true, and_right}
 use Rattle.std.proofs.lemmas.Bool.Decides.{nat_tests}
 use Rattle.pp_terms.specs.format.Traffic.{Address, Record, Received, Quiet, Sent}
 use Rattle.pp_terms.specs.format.Descriptor.{Descriptor}
-use Rattle.pp_terms.specs.format.Messages.{Message, Handshake, Data, Ack, Have, Integrity, Pex4, PexReq, Request, Cancel, Choke, Unchoke, Pex6}
+use Rattle.pp_terms.specs.format.Messages.{Message, Data, Request, Cancel, Choke}
 use Rattle.pp_traffic.specs.Past.{now, some_since, is_event, read}
 use Rattle.pp_traffic.specs.Life.{Life, comes_on}
 use Rattle.pp_traffic.specs.Story.{Line, Heard, Said, Taken, hear, say, heard_in, said_in, told, story}
 use Rattle.pp_traffic.specs.Asking.{choked, asked_by, asked_after, asked, is_heard}
-use Rattle.pp_traffic.specs.Fates.{now_of, clock}
+use Rattle.pp_traffic.specs.Fates.{clock}
 use Rattle.pp_promises.specs.LastTurn.{earlier}
 use Rattle.pp_promises.specs.OwnSide.{has_in}
 use Rattle.pp_promises.specs.ReadStory.{with_unread, is_read, read_story, proven_story}
 use Rattle.pp_promises.specs.Served.{is_announced, asked_after_heard, asked_after_said, owed_after, is_owed}
 use Rattle.pp_promises.specs.Announced.{was_told_of}
-use Rattle.pp_promises.proofs.ReadStories.{by_asks, after_asks}
+use Rattle.pp_promises.proofs.ReadStories.{by_asks, after_asks, answers_are_read}
 use Rattle.pp_promises.proofs.Growth.{reads_grow}
 use Rattle.pp_seat.specs.Lines.{asked_since, Tale, with_line, with_said}
 use Rattle.pp_seat.specs.Laws.{IsLater}
-use Rattle.pp_seat.specs.Frames.{since_of, tale_of, IsSameTale, SameTales, with_heard, TalesGrow, OwedIsKept, FramesGrow, ReadsComeToNow}
-use Rattle.pp_seat.specs.Seats.{SeatState}
-use Rattle.pp_seat.specs.Follows.{Frame, Lost, Follows}
+use Rattle.pp_seat.specs.Frames.{since_of, tale_of, IsSameTale, SameTales, with_heard, TalesGrow, OwedIsKept, FramesGrow, ReadsComeToNow, no_tale, NoneBegins}
+use Rattle.pp_seat.specs.Follows.{Follows}
 
 -- ---- lengths
 
@@ -500,9 +500,6 @@ tale_unread d life at sender bytes p past lt (inr unread) = record {
     late true false q = refl
     late false y q = refl
 
-pub tales_grow : TalesGrow
-tales_grow = record { sent = tale_sent; quiet = tale_quiet; heard = tale_heard; unread = tale_unread }
-
 -- ---- clocks
 
 since_within : (test : Record → Bool) (place : ℕ) (past : List Record) → some_since test place past ≡ true → place < length past
@@ -556,3 +553,60 @@ reads_come d life (Sent moment receiver bytes ∷ b) e =
     by true true is before = let more = say_clock (now b) (said_in d life (Sent moment receiver bytes)) (read_story d life b) in omega arith
     by true false is before = let more = say_clock (now b) (said_in d life (Sent moment receiver bytes)) (read_story d life b) in omega arith
     by false y is before = absurd (false≢true is)
+
+-- ---- where a life begins
+
+none_since : (test : Record → Bool) (place : ℕ) (past : List Record) → length past ≤ place → some_since test place past ≡ false
+none_since test place past le = false_from_ne_true (some_since test place past) (λ e. let lt = since_within test place past e in omega arith)
+
+none_proven : (d : Descriptor) (life : Life) (past : List Record) → length past ≤ life.opening → proven_story d life past ≡ []
+none_proven d life [] le = refl
+none_proven d life (r ∷ b) le = by (nat_le life.opening (length b)) refl
+  where
+    by : (x : Bool) → nat_le life.opening (length b) ≡ x
+        → cond x (cond (comes_on d life r && is_read d life (r ∷ b)) (told d life false (now (r ∷ b)) r (proven_story d life b))
+        (with_unread d life false (now (r ∷ b)) r (proven_story d life b))) [] ≡ []
+    by true is = absurd (let low : life.opening ≤ length b = leb-true life.opening (length b) is in omega arith)
+    by false is = refl
+
+heard_unproven : (now : ℕ) (ms : List Message) (t : Tale) → (with_heard now ms false t).proven ≡ t.proven
+heard_unproven now [] t = refl
+heard_unproven now (m ∷ ms) t = heard_unproven now ms (with_line (Heard now m) false t)
+
+untold_before : (d : Descriptor) (life : Life) (i : ℕ) (past : List Record) → length past ≤ life.opening + 1 → was_told_of d life i past ≡ false
+untold_before d life i [] le = refl
+untold_before d life i (r ∷ b) le =
+    or_from (list_any (has_in i) (said_in d life r) && is_heard d life b) (was_told_of d life i b)
+    (and_right (list_any (has_in i) (said_in d life r)) (is_heard d life b) (none_since (comes_on d life) life.opening b (omega arith)))
+    (untold_before d life i b (omega arith))
+
+tale_opened : (d : Descriptor) (life : Life) (at : ℕ) (sender : Address) (bytes : List ℕ) (past : List Record) → life.opening ≡ length past
+    → life.is_dialled ≡ false → comes_on d life (Received at sender bytes) ≡ false
+    → IsSameTale (with_line (Taken (now (Received at sender bytes ∷ past))) false
+    (with_heard (now (Received at sender bytes ∷ past)) (heard_in d life true (Received at sender bytes)) false no_tale))
+    (tale_of d life (Received at sender bytes ∷ past))
+tale_opened d life at sender bytes past opens answered elsewhere =
+    let n = now (Received at sender bytes ∷ past) in
+    let ms = heard_in d life true (Received at sender bytes) in
+    record {
+      story = answers_are_read d life (Received at sender bytes ∷ past) answered ∙ story_opening d life (Received at sender bytes) past opens
+          ∙ ap (λ (xs : List Line). Taken n ∷ xs) (sym (heard_story n ms false no_tale));
+      proven = first (nat_le life.opening (length past)) (comes_on d life (Received at sender bytes)) (le-leb life.opening (length past) (omega arith)) elsewhere
+          ∙ ap (λ (xs : List Line). Taken n ∷ xs) (none_proven d life past (omega arith) ∙ sym (heard_unproven n ms no_tale));
+      told = λ i. untold_before d life i (Received at sender bytes ∷ past) (omega arith) ∙ sym (heard_told n ms false no_tale i);
+    }
+  where
+    first : (x y : Bool) → x ≡ true → y ≡ false
+        → cond x (cond (y && is_read d life (Received at sender bytes ∷ past))
+        (told d life false (now (Received at sender bytes ∷ past)) (Received at sender bytes) (proven_story d life past))
+        (with_unread d life false (now (Received at sender bytes ∷ past)) (Received at sender bytes) (proven_story d life past))) []
+        ≡ Taken (now (Received at sender bytes ∷ past)) ∷ proven_story d life past
+    first true true p q = absurd (false≢true (sym q))
+    first true false p q = refl
+    first false y p q = absurd (false≢true p)
+
+pub tales_grow : TalesGrow
+tales_grow = record { opened = tale_opened; sent = tale_sent; quiet = tale_quiet; heard = tale_heard; unread = tale_unread }
+
+pub none_begins : NoneBegins
+none_begins f unproven = record { unsaid = tt; unproven = unproven; unclaimed = refl; untold = λ i. refl; unasked = λ i place is. inl (omega arith) }

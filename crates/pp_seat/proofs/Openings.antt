@@ -2,7 +2,7 @@
 use Rattle.std.proofs.Common.{◌≡◌, ⊎_elim, ℕ, Bool, false, not, Some, None, List, [], ◌∷◌, take, refl, sym, ◌∙◌, ap, arith, Option}
 use Rattle.std.proofs.lemmas.Bool.{false≢true, both_ways}
 use Rattle.pp_terms.specs.tree.Tree.{Node}
-use Rattle.pp_terms.specs.format.Messages.{Message, Data, Ack, Request, Choke, Unchoke, Pex4, PexReq, Pex6, Have}
+use Rattle.pp_terms.specs.format.Messages.{Message, Data, Ack, Choke, Unchoke, Pex4, PexReq, Pex6}
 use Rattle.pp_traffic.specs.Story.{Line, Heard, Said, Taken}
 use Rattle.pp_traffic.specs.Asking.{choked}
 use Rattle.pp_traffic.specs.Meter.{meter, new_meter, heard_by, ended}

@@ -1,6 +1,6 @@
 -- Lines that do nothing to a seat, and frames that grow.
 use Rattle.pp_traffic.specs.Fates.{clock}
-use Rattle.std.proofs.Common.{◌≡◌, ⊎_elim, ℕ, ◌+◌, ◌<◌, ◌≤◌, eqb, nat_lt, Bool, true, false, cond, not, ◌&&◌, ◌||◌, Some, None, List, [], ◌∷◌, length, take, refl, sym, ◌∙◌, ap, subst, arith, Option, inl, inr}
+use Rattle.std.proofs.Common.{◌≡◌, ⊎_elim, ℕ, ◌+◌, ◌<◌, ◌≤◌, eqb, nat_lt, Bool, true, false, cond, not, ◌&&◌, ◌||◌, Some, None, List, [], ◌∷◌, length, take, refl, sym, ◌∙◌, ap, subst, arith, Option}
 use Rattle.std.specs.List.{AllByRecursion}
 use Rattle.std.proofs.lemmas.Bool.{cond-true, or_left, or_right, or_from, and_right, both_ways, lt-ltb, false≢true, and_parts, and_from}
 use Rattle.std.proofs.lemmas.Bool.Decides.{nat_tests}
@@ -15,12 +15,12 @@ use Rattle.pp_traffic.specs.Claims.{claims_in, with_claim}
 use Rattle.pp_traffic.specs.Hashes.{tells, is_told}
 use Rattle.pp_traffic.specs.Meter.{Meter, meter, covers, hits, acked, settled}
 use Rattle.pp_promises.specs.Announced.{is_told_of}
-use Rattle.pp_promises.specs.OwnSide.{is_old, has_old_request, is_choked_by_peer, has_in}
+use Rattle.pp_promises.specs.OwnSide.{is_old, has_old_request, is_choked_by_peer, is_offered}
 use Rattle.pp_seat.specs.Lines.{inside, asked_since, names_at, is_named_at, last_answer, last_question, Tale, with_line, with_said}
 use Rattle.pp_seat.specs.Aspects.{Lacks, Haves, Fresh, Exchanges}
 use Rattle.pp_seat.specs.Seats.{SeatState}
 use Rattle.pp_seat.specs.Follows.{Frame, Lost, Follows, IsIdleSaid}
-use Rattle.pp_seat.specs.Laws.{IsIdleHeard, IdleStays, AnnouncedStays, MarkStays, IdleSays, CutsNameAlike}
+use Rattle.pp_seat.specs.Laws.{IsIdleHeard, IdleStays, AnnouncedStays, MarkStays, IdleSays, CutsNameAlike, OffersGrow}
 use Rattle.pp_seat.proofs.Spans.{out_within, part_of, part_within, ordered}
 use Rattle.pp_seat.proofs.Naming.{unclaimed, named_out}
 use Rattle.pp_seat.proofs.Moments.{old_stays}
@@ -476,6 +476,14 @@ cuts_name_alike = record {
       let last = p.last in
       (ordered chunks span range p, omega arith);
   none = out_within;
+}
+
+pub offers_grow : OffersGrow
+offers_grow = record {
+  some = λ chunks now span range i story is lt.
+      ap (λ (b : Bool). b || is_offered i story) (sym (part_within chunks span range i (part_of chunks span range is) lt));
+  none = λ chunks now span i story is lt. ap (λ (b : Bool). b || is_offered i story) (out_within chunks span i is lt);
+  others = λ now i m story none. ap (λ (b : Bool). b || is_offered i story) none;
 }
 
 -- ---- frames

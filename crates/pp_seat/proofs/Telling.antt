@@ -1,13 +1,13 @@
 -- What a story says once several REQUESTs, HAVEs or addresses were sent.
-use Rattle.std.proofs.Common.{◌≡◌, ◌⊎◌, inl, inr, ⊎_elim, ℕ, ◌+◌, ◌<◌, ◌≤◌, max, nat_le, eqb, Bool, true, false, ◌&&◌, ◌||◌, Option, Some, None, List, [], ◌∷◌, map, length, refl, sym, ◌∙◌, ap, arith}
-use Rattle.std.proofs.lemmas.Bool.{and_from, and_right, or_cases, or_left, or_right, or_from, false_from_ne_true, false≢true, eq-eqb}
+use Rattle.std.proofs.Common.{◌≡◌, ◌⊎◌, inl, inr, ⊎_elim, ℕ, ◌+◌, ◌≤◌, max, eqb, Bool, true, false, ◌&&◌, ◌||◌, Option, Some, List, [], ◌∷◌, map, refl, ◌∙◌, ap, arith}
+use Rattle.std.proofs.lemmas.Bool.{and_from, and_right, or_cases, or_left, or_right, or_from, false≢true, eq-eqb}
 use Rattle.std.proofs.lemmas.Bool.Decides.{nat_tests}
-use Rattle.pp_terms.specs.format.Messages.{Message, Have, Request, Pex4, PexReq, Pex6}
+use Rattle.pp_terms.specs.format.Messages.{Message, Have, Request, Pex4, Pex6}
 use Rattle.pp_terms.specs.tree.Range.{Span, within, has}
-use Rattle.pp_traffic.specs.Story.{Line, Said}
+use Rattle.pp_traffic.specs.Story.{Said}
 use Rattle.pp_promises.specs.Announced.{is_told_of}
 use Rattle.pp_seat.specs.Lines.{is_named_at, last_answer, last_question, Tale, with_line, with_said}
-use Rattle.pp_seat.specs.Own.{IsAddress, EachAddress, AreAddresses}
+use Rattle.pp_seat.specs.Own.{EachAddress, AreAddresses}
 use Rattle.pp_seat.specs.Aspects.{Fresh, Exchanges}
 use Rattle.pp_seat.proofs.Passing.{AreLight}
 

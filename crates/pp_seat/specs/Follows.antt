@@ -1,7 +1,7 @@
 -- What a seat keeps is what the story of its channel says, and how it stays so.
 use Rattle.std.specs.Prelude.{◌≡◌, ◌⊎◌, ℕ, ◌+◌, ◌<◌, ◌≤◌, Bool, true, false, Option, Some, None, List, [], ◌∷◌, length, take}
 use Rattle.pp_terms.specs.tree.Range.{Span, has}
-use Rattle.pp_terms.specs.format.Messages.{Message, Data, Request, Choke, Unchoke, Handshake, Ack, Have, Integrity, Pex4, PexReq, Cancel, Pex6}
+use Rattle.pp_terms.specs.format.Messages.{Message, Data, Request, Choke, Unchoke, Have, Pex4, PexReq, Pex6}
 use Rattle.pp_traffic.specs.Story.{Line, Heard, Said, Taken}
 use Rattle.pp_traffic.specs.Asking.{choked, asked, asks_in}
 use Rattle.pp_traffic.specs.Claims.{claims_in}

@@ -1,5 +1,5 @@
 -- The frame and the tale of a channel's seat, by what the link carried.
-use Rattle.std.specs.Prelude.{◌≡◌, ◌⊎◌, ℕ, ◌<◌, ◌≤◌, max, Bool, true, false, ◌||◌, if◌then◌else◌, Option, Some, None, List, [], ◌∷◌, length}
+use Rattle.std.specs.Prelude.{◌≡◌, ◌⊎◌, ℕ, ◌<◌, ◌≤◌, Bool, true, false, ◌||◌, if◌then◌else◌, Option, Some, None, List, [], ◌∷◌, length}
 use Rattle.pp_terms.specs.format.Traffic.{Address, Record, Received, Quiet, Sent}
 use Rattle.pp_terms.specs.format.Descriptor.{Descriptor, chunks_of}
 use Rattle.pp_terms.specs.format.Messages.{Message}
@@ -14,7 +14,7 @@ use Rattle.pp_promises.specs.Served.{is_announced, is_owed}
 use Rattle.pp_promises.specs.Announced.{was_told_of}
 use Rattle.pp_seat.specs.Lines.{asked_since, Tale, with_line, with_said}
 use Rattle.pp_seat.specs.Seats.{SeatState}
-use Rattle.pp_seat.specs.Follows.{Frame, Lost, Follows}
+use Rattle.pp_seat.specs.Follows.{Frame, Lost, Begins, Follows}
 use Rattle.pp_seat.specs.Laws.{IsLater}
 
 -- How long the story was when the chunk was first announced, on whatever channel: 0 where it was found at the start.
@@ -51,8 +51,16 @@ abbrev pub with_heard : ℕ → List Message → Bool → Tale → Tale
 with_heard now [] is_proven t = t
 with_heard now (m ∷ ms) is_proven t = with_heard now ms is_proven (with_line (Heard now m) is_proven t)
 
--- What one record more does to the tale of a life that has begun.
+-- nothing yet
+abbrev pub no_tale : Tale
+no_tale = record { story = []; proven = []; told = λ i. false }
+
+-- What one record more does to the tale of a life that has begun, or that begins with it because the other peer opens it.
 pub record TalesGrow : Type 0 where
+  pub opened : (d : Descriptor) (life : Life) (at : ℕ) (sender : Address) (bytes : List ℕ) (past : List Record) → life.opening ≡ length past
+      → life.is_dialled ≡ false → let r = Received at sender bytes in comes_on d life r ≡ false
+      → IsSameTale (with_line (Taken (now (r ∷ past))) false (with_heard (now (r ∷ past)) (heard_in d life true r) false no_tale))
+      (tale_of d life (r ∷ past))
   pub sent : (d : Descriptor) (life : Life) (moment : ℕ) (receiver : Address) (bytes : List ℕ) (past : List Record) → life.opening < length past
       → let r = Sent moment receiver bytes in
       IsSameTale (with_said (now past) (said_in d life r) (is_heard d life past) (tale_of d life past)) (tale_of d life (r ∷ past))
@@ -67,6 +75,10 @@ pub record TalesGrow : Type 0 where
   pub unread : (d : Descriptor) (life : Life) (at : ℕ) (sender : Address) (bytes : List ℕ) (is_proven : Bool) (past : List Record) → life.opening < length past
       → let r = Received at sender bytes in (comes_on d life r ≡ false) ⊎ (is_read d life (r ∷ past) ≡ false)
       → IsSameTale (with_line (Taken (now (r ∷ past))) is_proven (tale_of d life past)) (tale_of d life (r ∷ past))
+
+-- A seat of a channel that isn't proven begins with no tale.
+abbrev pub NoneBegins : Type 0
+NoneBegins = (f : Frame) → f.proven ≡ false → Begins f no_tale
 
 -- ---- frames
 

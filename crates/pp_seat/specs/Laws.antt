@@ -1,11 +1,12 @@
 -- What stays of a seat while nothing is called, and what follows from the story that it follows.
-use Rattle.std.specs.Prelude.{◌≡◌, ◌⊎◌, ℕ, ◌<◌, ◌≤◌, ◌==◌, true, false, Option, Some, None, List, [], ◌∷◌, length}
+use Rattle.std.specs.Prelude.{◌≡◌, ◌⊎◌, ℕ, ◌<◌, ◌≤◌, ◌==◌, ◌||◌, true, false, Option, Some, None, List, [], ◌∷◌, length}
 use Rattle.std.specs.List.{list_any}
 use Rattle.pp_terms.specs.format.Messages.{Message, Handshake, Data, Ack, Have, Integrity, Pex4, PexReq, Request, Cancel, Choke, Unchoke, Pex6}
 use Rattle.pp_terms.specs.tree.Range.{Span, within}
 use Rattle.pp_traffic.specs.Story.{Line, Heard, Said, Taken}
 use Rattle.pp_traffic.specs.Asking.{choked, asks_in, most_asks}
 use Rattle.pp_promises.specs.Announced.{is_told_of}
+use Rattle.pp_promises.specs.OwnSide.{has_in, is_offered}
 use Rattle.pp_seat.specs.Lines.{inside, asked_since, Tale}
 use Rattle.pp_seat.specs.Aspects.{Haves}
 use Rattle.pp_seat.specs.Seats.{SeatState}
@@ -50,6 +51,14 @@ pub record CutsNameAlike : Type 0 where
   pub some : (chunks : ℕ) (span range : Span) (i : ℕ) → inside chunks span ≡ Some range → i < chunks → within range i ≡ within span i
   pub content : (chunks : ℕ) (span range : Span) → inside chunks span ≡ Some range → (range.first ≤ range.last) × (range.last < chunks)
   pub none : (chunks : ℕ) (span : Span) (i : ℕ) → inside chunks span ≡ None → i < chunks → within span i ≡ false
+
+-- What the other peer offers of the content, once a HAVE came, and once another message did.
+pub record OffersGrow : Type 0 where
+  pub some : (chunks now : ℕ) (span range : Span) (i : ℕ) (story : List Line) → inside chunks span ≡ Some range → i < chunks
+      → is_offered i (Heard now (Have span) ∷ story) ≡ (within range i || is_offered i story)
+  pub none : (chunks now : ℕ) (span : Span) (i : ℕ) (story : List Line) → inside chunks span ≡ None → i < chunks
+      → is_offered i (Heard now (Have span) ∷ story) ≡ is_offered i story
+  pub others : (now i : ℕ) (m : Message) (story : List Line) → has_in i m ≡ false → is_offered i (Heard now m ∷ story) ≡ is_offered i story
 
 -- ---- frames
 

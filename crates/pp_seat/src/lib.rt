@@ -2,8 +2,8 @@
 //! what it asks for itself (RFC 7574, sections 3, 5 and 8). Moments are in microseconds. Only a new seat takes memory.
 #![tactic(auto)]
 
-ghost use Rattle.pp_seat.specs.Frames.{SameTales, TalesGrow, OwedIsKept, FramesGrow, ReadsComeToNow};
-ghost use Rattle.pp_seat.specs.Laws.{IdleStays, IdleSays, CutsNameAlike, AnnouncedStays, MarkStays, NoneLeft, ChokesAreDue};
+ghost use Rattle.pp_seat.specs.Frames.{SameTales, TalesGrow, NoneBegins, OwedIsKept, FramesGrow, ReadsComeToNow};
+ghost use Rattle.pp_seat.specs.Laws.{IdleStays, IdleSays, CutsNameAlike, OffersGrow, AnnouncedStays, MarkStays, NoneLeft, ChokesAreDue};
 
 mod cursor;
 mod exchange;
@@ -11,6 +11,8 @@ mod hashes;
 mod own;
 mod seat;
 mod service;
+#[cfg(test)]
+mod tests;
 
 pub use hashes::Claimed;
 pub use seat::Seat;
@@ -21,6 +23,7 @@ pub fn laws_of_seats()
     ensures idle { IdleStays }
     ensures says { IdleSays }
     ensures cuts { CutsNameAlike }
+    ensures offers { OffersGrow }
     ensures announced { AnnouncedStays }
     ensures marks { MarkStays }
     ensures none_left { NoneLeft }
@@ -33,5 +36,6 @@ pub fn laws_of_frames()
     ensures frames { FramesGrow }
     ensures same { SameTales }
     ensures tales { TalesGrow }
+    ensures begins { NoneBegins }
     ensures clocks { ReadsComeToNow }
 {}

@@ -1,8 +1,5 @@
-use Rattle.std.proofs.Common.{◌≡◌, subst, ap, map, sym, refl, ◌∙◌}
-use Rattle.std.specs.List.{list_all}
-use Rattle.pp_tree.specs.Node.{node_of}
-use Rattle.pp_traffic.specs.Hashes.{completes}
-use Rattle.pp_plan.specs.Told.{ToldNodes, knows}
+use Rattle.std.proofs.Common.{sym}
+use Rattle.pp_plan.specs.Told.{knows}
 use Rattle.pp_seat.proofs.Answering.{whole_path, plan_at}
 use Rattle.pp_seat.proofs.seat.Seat.plan.Goals as goal
 
