@@ -3,8 +3,8 @@ use Rattle.std.proofs.Common.{◌≡◌, inl, inr, ⊎_elim, ℕ, zero, suc, ◌
 use Rattle.std.specs.Prelude.{◌||◌, count_by}
 use Rattle.std.proofs.Math.ListN.{set, length-set}
 use Rattle.std.proofs.lemmas.List.Sums.{sum_by-cons}
-use Rattle.std.proofs.lemmas.Bool.{cases_lt, cases_eq}
-use Rattle.std.proofs.lemmas.List.{length-append}
+use Rattle.std.proofs.lemmas.Bool.{cases_lt, cases_eq, false≢true}
+use Rattle.std.proofs.lemmas.List.{length-append, length-replicate}
 use Rattle.std.proofs.Math.Bool.{or-false, or-true}
 use Rattle.pp_terms.specs.tree.Book.{LookUp, IsRooted, has_peaks}
 use Rattle.pp_terms.specs.format.Descriptor.{Descriptor, chunks_of, IsDescriptor}
@@ -177,6 +177,19 @@ committed_is d committed pending pairs committed' pending' live sized size none 
   size = size;
   each = each;
 }
+
+pub sized_committed : (d : Descriptor) (committed pending pairs committed' pending' : List Bool) → IsSized d committed pending pairs
+    → length committed' ≡ length committed → pending' ≡ replicate (length committed) false
+    → ((i : ℕ) → get_or committed' i false ≡ in_either committed pending i) → IsSized d committed' pending' pairs
+sized_committed d committed pending pairs committed' pending' sized size none each =
+    let out : (i : ℕ) → get_or pending' i false ≡ false = λ i. ap (λ (ps : List Bool). get_or ps i false) none ∙ none_in (length committed) i in
+    record {
+      committed_size = size ∙ sized.committed_size;
+      pending_size = ap (λ (ps : List Bool). length ps) none ∙ length-replicate (length committed) false ∙ sized.committed_size;
+      pairs_size = sized.pairs_size;
+      supported = λ i held. sized.supported i (sym (ap (λ (b : Bool). get_or committed' i false || b) (out i) ∙ or-false (get_or committed' i false) ∙ each i) ∙ held);
+      apart = λ i two. absurd (false≢true (sym (out i) ∙ two));
+    }
 
 pub agrees_dead : (s : StoreState) (d : Descriptor) (committed pending pairs : List Bool) (live live' : Bool) (book : LookUp) (reads : List ℕ)
     → record { descriptor = d; committed = committed; pending = pending; pairs = pairs; live = live } ≡ s → AgreesWith s book reads

@@ -1,19 +1,21 @@
 -- Gates that are opened one after the other: what they leave, and which chunks go on standing.
-use Rattle.std.proofs.Common.{◌≡◌, ◌⊎◌, inl, inr, ⊎_elim, ℕ, zero, suc, ◌+◌, ◌<◌, ◌≤◌, ◌==◌, Bool, true, false, cond, List, [], ◌∷◌, ◌++◌, length, get_or, take, refl, sym, ◌∙◌, ap, subst, arith}
+use Rattle.std.proofs.Common.{◌≡◌, ◌⊎◌, inl, inr, ⊎_elim, ℕ, zero, suc, ◌+◌, ◌<◌, ◌≤◌, ◌==◌, Bool, true, false, cond, List, [], ◌∷◌, ◌++◌, length, get_or, take, drop, refl, sym, ◌∙◌, ap, subst, arith}
 use Rattle.std.proofs.lemmas.Bool.{cases_eq, false≢true, false_from_ne_true}
 use Rattle.std.proofs.lemmas.List.{take_all}
-use Rattle.pp_terms.specs.format.Descriptor.{Descriptor, IsDescriptor}
+use Rattle.pp_terms.specs.format.Descriptor.{Descriptor, chunks_of, IsDescriptor}
 use Rattle.pp_terms.specs.disk.Store.{gate_place, open_gate}
-use Rattle.pp_terms.specs.disk.Image.{is_open, StandsIn}
-use Rattle.pp_terms.specs.disk.Disk.{History, Write, IsImage, IsTorn, IsOver, IsRefusedWrite, Throughout, moment_of, written, after_write}
-use Rattle.pp_terms.proofs.Images.{length-written, written_inside, written_outside, moment-settled, throughout_write, throughout_settled}
+use Rattle.pp_terms.specs.disk.Image.{holds, is_open, StandsIn}
+use Rattle.pp_terms.specs.disk.Disk.{History, Write, IsImage, WasImage, IsTorn, IsOver, IsRefusedWrite, Throughout, moment_of, written, pends, after_write}
+use Rattle.pp_terms.proofs.Images.{length-written, written_inside, written_outside, sole_image, since_now, over_image, moment-settled, throughout_write, throughout_settled}
 use Rattle.pp_scan.specs.Look.{synced}
+use Rattle.pp_store.specs.Sound.{IsGated}
 use Rattle.pp_store.specs.Store.{HoldsIn}
 use Rattle.pp_store.specs.Writes.{after_writes}
 use Rattle.pp_store.specs.Gates.{gate_write, gate_writes_from, gate_writes, gates_opened, made_durable, IsRefusedCommit}
 use Rattle.pp_store.specs.Pairs.{GoesOnSince}
+use Rattle.pp_store.proofs.Gated.{gated_more, begins_over, open_under, held_over}
 use Rattle.pp_store.proofs.PairWrites.{gates_clear, gate_clear}
-use Rattle.pp_store.proofs.Surviving.{open_over, stands_over, holds_over}
+use Rattle.pp_store.proofs.Surviving.{some_chunks, open_over, stands_over, holds_over}
 
 after_more : (ws vs : List Write) (h : History) → after_writes h (ws ++ vs) ≡ after_writes (after_writes h ws) vs
 after_more [] vs h = refl
@@ -219,3 +221,110 @@ module _ (d : Descriptor) (set : List Bool) (old new : History) (valid : IsDescr
     refused_keeps (inr (inl gate)) here =
         gate_refused_keeps (gates_opened d (take gate.chunk set) (synced old)) gate.chunk gate.refused (gates_keep d P survives 0 (take gate.chunk set) (synced old) here)
     refused_keeps (inr (inr is)) here = subst (λ (h : History). P h.reads) (sym is) (gates_keep d P survives 0 set (synced old) here)
+
+-- ---- gates that are opened where the chunks are held
+
+-- The image is sound, only members have open gates, and it holds every member.
+record IsReady (d : Descriptor) (member : ℕ → Bool) (image : List ℕ) : Type 0 where
+  pub gated : IsGated d member image
+  pub holding : (i : ℕ) → member i ≡ true → HoldsIn d image i
+
+module _ (d : Descriptor) (member : ℕ → Bool) (valid : IsDescriptor d) where
+  some : 0 < chunks_of d
+  some = (some_chunks d valid).0
+
+  -- another byte in a member's gate
+  ready_over : (j : ℕ) (under image : List ℕ) → member j ≡ true → IsOver (gate_place d.chunk j) 1 under image → IsReady d member under → IsReady d member image
+  ready_over j under image there over ready = record {
+    gated = record {
+      begins = begins_over d member (gate_place d.chunk j) 1 under image valid (omega arith) over ready.gated some;
+      long = omega (arith, ready.gated.long, over.no_shorter);
+      gates = λ i lt is. ⊎_elim
+          (λ same. ap member same ∙ there)
+          (λ other. ready.gated.gates i lt (open_under d member (gate_place d.chunk j) 1 under image valid (omega arith) over ready.gated i lt (gates_clear d.chunk i j other) is))
+          (cases_eq i j);
+      held = λ i lt is. ⊎_elim
+          (λ same. held i lt (sym (sym (ready.holding i (ap member same ∙ there)).held)))
+          (λ other. held i lt (ready.gated.held i lt (open_under d member (gate_place d.chunk j) 1 under image valid (omega arith) over ready.gated i lt (gates_clear d.chunk i j other) is)))
+          (cases_eq i j);
+    };
+    holding = λ i at. holds_over d i (gate_place d.chunk j) 1 under image valid (gate_clear d i j) over (ready.holding i at);
+  }
+    where
+      held : (i : ℕ) → i < chunks_of d → holds d under i ≡ true → holds d image i ≡ true
+      held i lt = held_over d member (gate_place d.chunk j) 1 under image valid (omega arith) over ready.gated i lt (gate_clear d i j)
+
+  gates_ready : (n : ℕ) (bs : List Bool) (h : History) (moment : ℕ) → ((k : ℕ) → get_or bs k false ≡ true → member (n + k) ≡ true)
+      → Throughout h moment (IsReady d member) → Throughout (after_writes h (gate_writes_from d n bs)) moment (IsReady d member)
+  gates_ready n [] h moment all ready = ready
+  gates_ready n (true ∷ bs) h moment all ready =
+      let here : member n ≡ true = ap member (let z : n ≡ n + 0 = omega arith in z) ∙ all 0 refl in
+      gates_ready (suc n) bs (after_write h (gate_place d.chunk n) open_gate) moment (λ k at. ap member (let z : suc n + k ≡ n + suc k = omega arith in z) ∙ all (suc k) at)
+      (throughout_write h moment (gate_place d.chunk n) open_gate (IsReady d member) (λ under image over. ready_over n under image here over) ready)
+  gates_ready n (false ∷ bs) h moment all ready =
+      gates_ready (suc n) bs h moment (λ k at. ap member (let z : suc n + k ≡ n + suc k = omega arith in z) ∙ all (suc k) at) ready
+
+  reads_ready : (n : ℕ) (bs : List Bool) (h : History) → ((k : ℕ) → get_or bs k false ≡ true → member (n + k) ≡ true)
+      → IsReady d member h.reads → IsReady d member (after_writes h (gate_writes_from d n bs)).reads
+  reads_ready n [] h all ready = ready
+  reads_ready n (true ∷ bs) h all ready =
+      let here : member n ≡ true = ap member (let z : n ≡ n + 0 = omega arith in z) ∙ all 0 refl in
+      reads_ready (suc n) bs (after_write h (gate_place d.chunk n) open_gate) (λ k at. ap member (let z : suc n + k ≡ n + suc k = omega arith in z) ∙ all (suc k) at)
+      (ready_over n h.reads (written h.reads (gate_place d.chunk n) open_gate) here (over_torn _ _ _ _ (torn_written h.reads (gate_place d.chunk n) open_gate)) ready)
+  reads_ready n (false ∷ bs) h all ready =
+      reads_ready (suc n) bs h (λ k at. ap member (let z : suc n + k ≡ n + suc k = omega arith in z) ∙ all (suc k) at) ready
+
+  -- a commit, done or refused
+  module _ (before : ℕ → Bool) (set : List Bool) (old new : History) (whole : IsImage old.epoch old.reads) (wider : (i : ℕ) → before i ≡ true → member i ≡ true)
+      (inner : (i : ℕ) → get_or set i false ≡ true → member i ≡ true) (holding : (i : ℕ) → member i ≡ true → HoldsIn d old.reads i)
+      (moment : ℕ) (within : moment ≤ moment_of old) (all : Throughout old moment (IsGated d before)) where
+    ready_read : IsReady d member old.reads
+    ready_read = record { gated = gated_more d before member old.reads wider (all old.reads (inl whole)); holding = holding }
+
+    all_synced : Throughout (synced old) moment (IsGated d member)
+    all_synced = throughout_settled old moment old.reads (IsGated d member) within (λ image since. gated_more d before member image wider (all image since)) ready_read.gated
+
+    ready_synced : Throughout (synced old) (moment_of (synced old)) (IsReady d member)
+    ready_synced image since = subst (IsReady d member) (sym (sole_image old.reads image (since_now (synced old) image since))) ready_read
+
+    from_zero_inner : (bs : List Bool) → ((i : ℕ) → get_or bs i false ≡ true → get_or set i false ≡ true) → (k : ℕ) → get_or bs k false ≡ true → member (0 + k) ≡ true
+    from_zero_inner bs few k at = ap member (from_zero k) ∙ inner k (few k at)
+
+    -- the gates of some of them are open
+    ready_opened : (bs : List Bool) → ((i : ℕ) → get_or bs i false ≡ true → get_or set i false ≡ true) → Throughout (gates_opened d bs (synced old)) (moment_of (synced old)) (IsReady d member)
+    ready_opened bs few = gates_ready 0 bs (synced old) (moment_of (synced old)) (from_zero_inner bs few) ready_synced
+
+    -- what was before, and what a crash may leave now
+    beside : (h : History) → h.past ≡ (synced old).past → ((image : List ℕ) → IsImage h.epoch image → IsGated d member image) → Throughout h moment (IsGated d member)
+    beside h same now image (inl is) = now image is
+    beside h same now image (inr was) = all_synced image (inr (subst (λ past. WasImage (drop moment past) image) same was))
+
+    all_opened : (bs : List Bool) → ((i : ℕ) → get_or bs i false ≡ true → get_or set i false ≡ true) → Throughout (gates_opened d bs (synced old)) moment (IsGated d member)
+    all_opened bs few = beside (gates_opened d bs (synced old)) (past_opened d bs (synced old)) (λ image is. (ready_opened bs few image (inl is)).gated)
+
+    pub durable_gated : new ≡ made_durable d set old → Throughout new moment (IsGated d member)
+    durable_gated is =
+        let opened = gates_opened d set (synced old) in
+        let later : moment_of opened ≡ suc (moment_of old) = ap (λ past. length past) (past_opened d set (synced old)) ∙ moment-settled old old.reads in
+        subst (λ (h : History). Throughout h moment (IsGated d member)) (sym is)
+        (throughout_settled opened moment opened.reads (IsGated d member) (omega (arith, later)) (all_opened set (λ i at. at))
+        (reads_ready 0 set (synced old) (from_zero_inner set (λ i at. at)) ready_read).gated)
+
+    pub refused_gated : IsRefusedCommit d set old new → Throughout new moment (IsGated d member)
+    refused_gated (inl same) = subst (λ (h : History). Throughout h moment (IsGated d member)) (sym same) (λ image since. gated_more d before member image wider (all image since))
+    refused_gated (inr (inl gate)) = by gate.refused
+      where
+        few : (i : ℕ) → get_or (take gate.chunk set) i false ≡ true → get_or set i false ≡ true
+        few i at = get_or_take gate.chunk set i at
+
+        mid : History
+        mid = gates_opened d (take gate.chunk set) (synced old)
+
+        by : IsRefusedWrite mid (gate_place d.chunk gate.chunk) open_gate new → Throughout new moment (IsGated d member)
+        by (inl same) = subst (λ (h : History). Throughout h moment (IsGated d member)) (sym same) (all_opened (take gate.chunk set) few)
+        by (inr (torn, is, same)) = subst (λ (h : History). Throughout h moment (IsGated d member)) (sym same)
+            (beside (record mid { reads = torn; epoch = pends mid.epoch (gate_place d.chunk gate.chunk) open_gate }) (past_opened d (take gate.chunk set) (synced old))
+            (λ image now.
+            let from = over_image mid.epoch (gate_place d.chunk gate.chunk) open_gate image now in
+            (ready_over gate.chunk from.0 image (inner gate.chunk gate.among) from.2 (ready_opened (take gate.chunk set) few from.0 (inl from.1))).gated))
+    refused_gated (inr (inr is)) = subst (λ (h : History). Throughout h moment (IsGated d member)) (sym is) (all_opened set (λ i at. at))

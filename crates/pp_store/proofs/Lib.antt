@@ -15,6 +15,7 @@ pub mod Opening
 pub mod Rereading
 pub mod Surviving
 pub mod KnownPairs
+pub mod Gated
 pub mod PairWrites
 pub mod GateWrites
 pub mod Marking

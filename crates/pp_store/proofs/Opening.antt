@@ -2,18 +2,18 @@
 use Rattle.std.proofs.Common.{◌≡◌, ◌⊎◌, inl, inr, ⊎_elim, ℕ, ◌+◌, ◌-◌, ◌<◌, ◌≤◌, ◌==◌, nat_eq, Bool, true, false, Option, Some, List, [], ◌∷◌, ◌++◌, length, get_or, take, drop, replicate, Result, Ok, Err, IfOk, IfErr, refl, sym, ◌∙◌, ap, subst, arith}
 use Rattle.std.specs.Prelude.{◌&&◌}
 use Rattle.std.specs.Cmp.Lexicographic.{pointwise, same_text, other_text}
-use Rattle.std.proofs.lemmas.Bool.{cases_lt, false≢true, eqb-true, and_parts}
-use Rattle.std.proofs.lemmas.List.{length-take, length-drop, take_at}
+use Rattle.std.proofs.lemmas.Bool.{cases_lt, cases_eq, false≢true, eqb-true, and_parts}
+use Rattle.std.proofs.lemmas.List.{length-take, length-drop, take_at, get_or_past}
 use Rattle.sha2.specs.Sha256.{sha256}
 use Rattle.pp_terms.specs.Count.{HasRisen}
 use Rattle.pp_terms.specs.tree.Content.{chunk_length}
 use Rattle.pp_terms.specs.tree.Book.{LookUp, has_peaks}
 use Rattle.pp_terms.specs.format.Descriptor.{Descriptor, chunks_of, IsDescriptor}
-use Rattle.pp_terms.specs.disk.Store.{header, chunk_place, file_size, Has}
+use Rattle.pp_terms.specs.disk.Store.{header, chunk_place, gate_place, file_size, Has}
 use Rattle.pp_terms.specs.disk.Image.{slice, known, matches, holds, is_open, StandsIn}
 use Rattle.pp_terms.specs.disk.Disk.{DiskState, History, IsImage, IsKnown, IsRead, DoesLen, MayLeave, MayLeaveSince, Throughout, moment_of, written}
 use Rattle.pp_terms.proofs.Headers.{length-header}
-use Rattle.pp_terms.proofs.Images.{written_inside, sole_image, since_now, since_settled}
+use Rattle.pp_terms.proofs.Images.{length-written, written_inside, written_outside, sole_image, since_now, since_settled}
 use Rattle.pp_terms.proofs.Facts.{member_below}
 use Rattle.pp_tree.specs.Book.{HasRootAlone}
 use Rattle.pp_scan.specs.declared.scanning.ScanFault.{ScanFault}
@@ -184,3 +184,33 @@ pub goes_on_empty : (d : Descriptor) (old new : DiskState) (n : ℕ) {E : Type 0
 goes_on_empty d old new n mid valid whole counts none known i all =
     let stood = all old.history.reads (inl whole) in
     absurd (let long = stood.begins.inside in omega (arith, long, length-header d valid.root_length, counts.counted known))
+
+-- ---- soundness
+
+-- the file that was made is as long as the store, and none of its gates is open
+module _ (d : Descriptor) (old : History) (valid : IsDescriptor d) (empty : old.reads ≡ []) where
+  abbrev cleared_bytes : List ℕ
+  cleared_bytes = written old.reads 0 (replicate 8 0)
+
+  abbrev stretched_bytes : List ℕ
+  stretched_bytes = written cleared_bytes (file_size d - 1) (0 ∷ [])
+
+  none : length old.reads ≡ 0
+  none = ap (λ (r : List ℕ). length r) empty
+
+  pub made_long : 64 < file_size d → file_size d ≤ length (made_reads d old)
+  made_long large = omega (arith, length-written stretched_bytes 0 (header d), length-written cleared_bytes (file_size d - 1) (0 ∷ []), large)
+
+  stretched_gate : (i : ℕ) → get_or stretched_bytes (gate_place d.chunk i) 0 ≡ 0
+  stretched_gate i = ⊎_elim
+      (λ last. let at : file_size d - 1 + 0 ≡ gate_place d.chunk i = omega (arith, last) in
+      ap (λ (n : ℕ). get_or stretched_bytes n 0) (sym at) ∙ written_inside cleared_bytes (file_size d - 1) (0 ∷ []) 0 (omega arith))
+      (λ other. written_outside cleared_bytes (file_size d - 1) (0 ∷ []) (gate_place d.chunk i) (λ w. other (omega (arith, w.0, w.1)))
+      ∙ get_or_past cleared_bytes (gate_place d.chunk i) 0 (omega (arith, length-written old.reads 0 (replicate 8 0), none)))
+      (cases_eq (gate_place d.chunk i) (file_size d - 1))
+
+  pub made_closed : (i : ℕ) → is_open d (made_reads d old) i ≡ false
+  made_closed i =
+      let zero_there : get_or (made_reads d old) (gate_place d.chunk i) 0 ≡ 0 =
+      written_outside stretched_bytes 0 (header d) (gate_place d.chunk i) (λ w. omega (arith, w.1, length-header d valid.root_length)) ∙ stretched_gate i in
+      ap (λ (b : ℕ). b == 0x4f) zero_there

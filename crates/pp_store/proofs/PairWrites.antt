@@ -22,7 +22,9 @@ use Rattle.pp_store.proofs.Rereading.{has_slice, text_itself}
 use Rattle.pp_store.proofs.Writings.{keeps_same, keeps_more, does_done, write_puts}
 use Rattle.pp_store.specs.Behind.{DoesBehind}
 use Rattle.pp_store.proofs.Pieces.{IsInSlot, slots_apart, same_slot, has_written}
-use Rattle.pp_store.proofs.Surviving.{IsOverOrSame, write_over, throughout_over, reads_over, past_over, there_over, IsClear, stands_over}
+use Rattle.pp_store.specs.Sound.{IsGated}
+use Rattle.pp_store.proofs.Gated.{gated_over}
+use Rattle.pp_store.proofs.Surviving.{some_chunks, IsOverOrSame, write_over, throughout_over, reads_over, past_over, there_over, IsClear, stands_over}
 
 -- ---- ranges
 
@@ -138,6 +140,11 @@ module _ (d : Descriptor) (book : LookUp) (pairs : List Bool) (k j place : ℕ) 
         (λ under image is. stands_over d i place (length bytes) under image valid (clear i has)
         (subst (λ (p : ℕ). AreApart (gate_place d.chunk i) 1 p (length bytes)) (sym place_is)
         (subst (λ (n : ℕ). AreApart (gate_place d.chunk i) 1 (pair_place d.chunk k j) n) (sym size_is) (gate_pair_clear d.chunk i k j))) is) over;
+    gated = λ member has moment within. throughout_over old new place moment bytes (IsGated d member)
+        (λ under image is gated. gated_over d member place (length bytes) under image valid (omega (arith, place_is)) is gated (some_chunks d valid).0
+        (λ i. subst (λ (p : ℕ). AreApart (gate_place d.chunk i) 1 p (length bytes)) (sym place_is)
+        (subst (λ (n : ℕ). AreApart (gate_place d.chunk i) 1 (pair_place d.chunk k j) n) (sym size_is) (gate_pair_clear d.chunk i k j)))
+        (λ i at. clear i (has i at))) over;
   }
 
   -- a refused one
@@ -172,6 +179,7 @@ pairs_same d book pairs pairs' old new pairs_is same =
       chunks_kept = λ i some there. there;
       pairs_stand = λ stand. stand;
       goes_on = λ i has moment within all. all;
+      gated = λ member has moment within all. all;
     }))
 
 pub has_on : (d : Descriptor) (pairs pairs' : List Bool) (i : ℕ) → KeepsPairs pairs pairs' → HasItsPairs d pairs i → HasItsPairs d pairs' i
@@ -189,6 +197,8 @@ pairs_more d book one two three old mid new keeps first second = record {
   pairs_stand = λ stand. second.pairs_stand (first.pairs_stand stand);
   goes_on = λ i has moment within all.
       second.goes_on i (has_on d one two i keeps has) moment (let same = ap length first.past in omega arith) (first.goes_on i has moment within all);
+  gated = λ member has moment within all.
+      second.gated member (λ i at. has_on d one two i keeps (has i at)) moment (let same = ap length first.past in omega arith) (first.gated member has moment within all);
 }
 
 -- ---- a chunk, and then its pairs
@@ -206,6 +216,11 @@ chunk_over d book pairs at place bytes old new valid rooted place_is size_is ove
       (λ under image is. stands_over d i place (length bytes) under image valid (clear i ne)
       (subst (λ (p : ℕ). AreApart (gate_place d.chunk i) 1 p (length bytes)) (sym place_is)
       (subst (λ (n : ℕ). AreApart (gate_place d.chunk i) 1 (chunk_place d.chunk at) n) (sym size_is) (gate_chunk_clear d i at))) is) over;
+  gated = λ member out has moment within. throughout_over old new place moment bytes (IsGated d member)
+      (λ under image is gated. gated_over d member place (length bytes) under image valid (omega (arith, place_is)) is gated (some_chunks d valid).0
+      (λ i. subst (λ (p : ℕ). AreApart (gate_place d.chunk i) 1 p (length bytes)) (sym place_is)
+      (subst (λ (n : ℕ). AreApart (gate_place d.chunk i) 1 (chunk_place d.chunk at) n) (sym size_is) (gate_chunk_clear d i at)))
+      (λ i there. clear i (λ e. false≢true (sym out ∙ ap member (sym e) ∙ there)))) over;
 }
   where
     clear : (i : ℕ) → (i ≡ at → ⊥) → IsClear d i place (length bytes)
@@ -219,6 +234,8 @@ chunk_more d book at one two old mid new first second = record {
   pairs_stand = λ stand. second.pairs_stand (first.pairs_stand stand);
   goes_on = λ i ne has moment within all.
       second.goes_on i has moment (let same = ap length first.past in omega arith) (first.goes_on i ne has moment within all);
+  gated = λ member out has moment within all.
+      second.gated member has moment (let same = ap length first.past in omega arith) (first.gated member out has moment within all);
 }
 
 -- ---- over any disk

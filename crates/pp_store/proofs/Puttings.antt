@@ -2,6 +2,7 @@
 use Rattle.std.proofs.Common.{◌≡◌, ◌⊎◌, inl, inr, ⊎_elim, ℕ, ◌-◌, ◌<◌, Bool, true, false, Option, Some, None, List, get_or, Result, Ok, Err, refl, sym, ◌∙◌, ap, subst, arith, get_or-set_other}
 use Rattle.std.specs.Prelude.{◌||◌, ◌&&◌, OnErr, IfOk, IsOk, is_some}
 use Rattle.std.proofs.Math.ListN.{set, length-set}
+use Rattle.std.proofs.Math.Bool.{or-true}
 use Rattle.std.proofs.lemmas.Bool.{cases_eq, false≢true, and_parts}
 use Rattle.sha2.specs.Sha256.{sha256}
 use Rattle.pp_terms.specs.Count.{HasCause}
@@ -23,7 +24,8 @@ use Rattle.pp_store.specs.declared.admitting.Put.{Put}
 use Rattle.pp_store.specs.declared.admitting.Put.TheVariants.{Stored, Held, Missing, Wrong, Length}
 use Rattle.pp_store.specs.Answer.{admitted, learned, put_answer, put_learned}
 use Rattle.pp_store.specs.Pairs.{HasItsPairs, PairsStand, GoesOnSince, PutsChunk}
-use Rattle.pp_store.specs.Store.{StoreState, IsSized, in_either, is_held, AgreesWith, HoldsAll, KnowsHeld, after_put}
+use Rattle.pp_store.specs.Store.{StoreState, IsSized, in_either, is_committed, is_held, AgreesWith, HoldsAll, KnowsHeld, after_put}
+use Rattle.pp_store.specs.Sound.{StaysGated}
 use Rattle.pp_store.proofs.KnownPairs.{holds_there}
 use Rattle.pp_store.proofs.PairWrites.{has_on}
 use Rattle.pp_store.proofs.Surviving.{peak_in, peaks_in}
@@ -35,6 +37,9 @@ either_case a b e = elim a as (λ v. (v || b) ≡ true → (v ≡ true) ⊎ (b �
 
 pub either_left : (a b : Bool) → a ≡ true → (a || b) ≡ true
 either_left a b e = ap (λ (v : Bool). v || b) e
+
+pub either_right : (a b : Bool) → b ≡ true → (a || b) ≡ true
+either_right a b e = ap (λ (v : Bool). a || v) e ∙ or-true a
 
 left_out : (a b : Bool) → (a || b) ≡ false → a ≡ false
 left_out a b e = elim a as (λ v. (v || b) ≡ false → v ≡ false) [ true ↦ λ h. h | false ↦ λ h. refl ] e
@@ -89,6 +94,11 @@ module _ (d : Descriptor) (committed pending pairs pairs' : List Bool) (book : L
         let held : in_either committed pending l ≡ true = either_left (get_or committed l false) (get_or pending l false) at' in
         subst (λ (t : StoreState). GoesOnSince t.descriptor l old.history new.history) view
         ((puts.writes known).goes_on l (held_other committed pending i l absent' held) (sized.supported l held))
+
+    pub put_gated : StaysGated s.descriptor (is_committed s) (is_committed s) old.history new.history
+    put_gated = subst (λ (t : StoreState). StaysGated t.descriptor (is_committed t) (is_committed t) old.history new.history) view
+        ((puts.writes known).gated (λ l. get_or committed l false) (left_out (get_or committed i false) (get_or pending i false) absent')
+        (λ l at. sized.supported l (either_left (get_or committed l false) (get_or pending l false) at)))
 
     kept : IsDescriptor d → (l : ℕ) → in_either committed pending l ≡ true → AgreesWith s book old.history.reads → is_there d new.history.reads book l ≡ true
     kept valid l held agrees =

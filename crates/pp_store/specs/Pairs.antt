@@ -9,6 +9,7 @@ use Rattle.pp_terms.specs.disk.Image.{StandsIn}
 use Rattle.pp_terms.specs.disk.Disk.{DiskState, History, IsKnown, Throughout, moment_of}
 use Rattle.pp_scan.specs.Holding.{is_there}
 use Rattle.pp_store.specs.Behind.{KeepsBehind}
+use Rattle.pp_store.specs.Sound.{StaysGated}
 
 -- whether the pair of node (k + 1, j) is stored; it is told by its slot
 abbrev pub has_pair : List Bool → ℕ → ℕ → Bool
@@ -56,6 +57,7 @@ pub record WritesPairs (d : Descriptor) (book : LookUp) (pairs pairs' : List Boo
   pub chunks_kept : (i : ℕ) → 0 < chunk_length d.size d.chunk i → is_there d old.reads book i ≡ true → is_there d new.reads book i ≡ true
   pub pairs_stand : PairsStand d book pairs old.reads → PairsStand d book pairs' new.reads
   pub goes_on : (i : ℕ) → HasItsPairs d pairs i → GoesOnSince d i old new
+  pub gated : (member : ℕ → Bool) → ((i : ℕ) → member i ≡ true → HasItsPairs d pairs i) → StaysGated d member member old new
 
 -- The same over any disk.
 pub record PutsPairs (d : Descriptor) (book : LookUp) (pairs pairs' : List Bool) (old new : DiskState) : Type 0 where
@@ -70,6 +72,7 @@ pub record WritesChunk (d : Descriptor) (book : LookUp) (at : ℕ) (pairs pairs'
   pub chunks_kept : (i : ℕ) → (i ≡ at → ⊥) → 0 < chunk_length d.size d.chunk i → is_there d old.reads book i ≡ true → is_there d new.reads book i ≡ true
   pub pairs_stand : PairsStand d book pairs old.reads → PairsStand d book pairs' new.reads
   pub goes_on : (i : ℕ) → (i ≡ at → ⊥) → HasItsPairs d pairs i → GoesOnSince d i old new
+  pub gated : (member : ℕ → Bool) → member at ≡ false → ((i : ℕ) → member i ≡ true → HasItsPairs d pairs i) → StaysGated d member member old new
 
 pub record PutsChunk (d : Descriptor) (book : LookUp) (at : ℕ) (pairs pairs' : List Bool) (old new : DiskState) : Type 0 where
   pub keeps : KeepsBehind old new

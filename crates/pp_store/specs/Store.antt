@@ -57,6 +57,10 @@ AllStand d set h = (i : ℕ) → slice_index_or set i false ≡ true → Through
 abbrev pub GoesOn : Descriptor → History → History → Type 0
 GoesOn d old new = (i : ℕ) → Throughout old (moment_of old) (λ image. StandsIn d image i) → Throughout new (moment_of old) (λ image. StandsIn d image i)
 
+-- whether chunk i is committed
+abbrev pub is_committed : StoreState → ℕ → Bool
+is_committed s i = slice_index_or s.committed i false
+
 -- whether chunk i is committed or pending
 abbrev pub is_held : StoreState → ℕ → Bool
 is_held s i = in_either s.committed s.pending i

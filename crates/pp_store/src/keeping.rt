@@ -23,7 +23,8 @@ ghost use Rattle.pp_store.specs.ReadChunk.{HasRead};
 ghost use Rattle.pp_store.specs.Answer.{put_answer, put_learned};
 ghost use Rattle.pp_store.specs.Pairs.{HasItsPairs, HasMarked, GoesOnSince};
 ghost use Rattle.pp_store.specs.Writes.{after_writes, put_writes};
-ghost use Rattle.pp_store.specs.Store.{made, IsOpened, AllStand, GoesOn, in_either, is_held, AgreesWith, HoldsAll, KnowsHeld, HasCommitted, after_put};
+ghost use Rattle.pp_store.specs.Sound.{IsSound, IsGated, StaysGated};
+ghost use Rattle.pp_store.specs.Store.{made, IsOpened, AllStand, GoesOn, in_either, is_committed, is_held, AgreesWith, HoldsAll, KnowsHeld, HasCommitted, after_put};
 
 use crate::admitting::{Put, admit};
 use crate::durable::make_file;
@@ -155,6 +156,9 @@ impl Store {
         ensures one { IsKnown (D.state disk.old) → OnOk result ((image : List ℕ)
             → MayLeave (D.state disk.new).history image → image ≡ (D.state disk.new).history.reads) }
         ensures agrees { IsKnown (D.state disk.old) → IfOk result (λ s. AgreesWith s (entry book.new) (D.state disk.new).history.reads) }
+        // Where what reads gave is sound, each image is, and no gate but a committed chunk's is open.
+        ensures gated { IsKnown (D.state disk.old) → IsSound descriptor.now (D.state disk.old).history.reads → IfOk result (λ s.
+            Throughout (D.state disk.new).history (moment_of (D.state disk.new).history) (IsGated descriptor.now (is_committed s))) }
         // A chunk that stood in every image is committed.
         ensures taken { IsKnown (D.state disk.old) → IfOk result (λ s. (i : ℕ)
             → Throughout (D.state disk.old).history (moment_of (D.state disk.old).history) (λ image. StandsIn descriptor.now image i)
@@ -234,6 +238,9 @@ impl Store {
         ensures behind { KeepsBehind (D.state disk.old) (D.state disk.new) }
         ensures goes_on { IsKnown (D.state disk.old) → (l : ℕ) → slice_index_or self.old.committed l false ≡ true
             → GoesOnSince self.old.descriptor l (D.state disk.old).history (D.state disk.new).history }
+        // Images stay sound, and no gate but a committed chunk's is open.
+        ensures gated { IsKnown (D.state disk.old) → StaysGated self.old.descriptor (is_committed self.old) (is_committed self.old)
+            (D.state disk.old).history (D.state disk.new).history }
         ensures agrees { IsKnown (D.state disk.old) → AgreesWith self.old (entry book.old) (D.state disk.old).history.reads
             → AgreesWith self.new (entry book.new) (D.state disk.new).history.reads }
         ensures holds { IsKnown (D.state disk.old) → AgreesWith self.old (entry book.old) (D.state disk.old).history.reads
@@ -273,6 +280,9 @@ impl Store {
             → GoesOnSince self.old.descriptor l (D.state disk.old).history (D.state disk.new).history }
         ensures agrees { IsKnown (D.state disk.old) → (book : LookUp) → IsRooted self.old.descriptor book
             → AgreesWith self.old book (D.state disk.old).history.reads → AgreesWith self.new book (D.state disk.new).history.reads }
+        // Images stay sound, and no gate is open but that of a chunk that was committed or pending.
+        ensures gated { IsKnown (D.state disk.old) → HoldsAll self.old (D.state disk.old).history.reads
+            → StaysGated self.old.descriptor (is_committed self.old) (is_held self.old) (D.state disk.old).history (D.state disk.new).history }
         // Each chunk that was pending now stands in every image.
         ensures stands { IsKnown (D.state disk.old) → HoldsAll self.old (D.state disk.old).history.reads
             → AllStand self.old.descriptor self.old.committed (D.state disk.old).history
@@ -316,6 +326,8 @@ impl Store {
         ensures does { DoesBehind (D.state disk.old) result (D.state disk.new) }
         ensures goes_on { IsKnown (D.state disk.old) → (l : ℕ) → slice_index_or self.old.committed l false ≡ true
             → GoesOnSince self.old.descriptor l (D.state disk.old).history (D.state disk.new).history }
+        ensures gated { IsKnown (D.state disk.old) → StaysGated self.old.descriptor (is_committed self.old) (is_committed self.old)
+            (D.state disk.old).history (D.state disk.new).history }
         ensures agrees { IsKnown (D.state disk.old) → AgreesWith self.old (entry book.now) (D.state disk.old).history.reads
             → AgreesWith self.new (entry book.now) (D.state disk.new).history.reads }
         ensures descriptor { self.new.descriptor ≡ self.old.descriptor }

@@ -3,6 +3,7 @@ use Rattle.pp_tree.specs.Book.{entry}
 use Rattle.pp_tree.proofs.Rootedness.{book_alone}
 use Rattle.pp_scan.proofs.Holds.{root_known}
 use Rattle.pp_store.proofs.Opening.{opened_begins, opened_stands}
+use Rattle.pp_store.proofs.Gated.{opened_gated}
 use Rattle.pp_store.proofs.Marking.{none_size, slot_low}
 use Rattle.pp_store.proofs.Beginnings.{opened_sized, opened_knows, opened_agrees, opened_taken, opened_one}
 use Rattle.pp_store.proofs.keeping.Store.open.Goals as goal
@@ -64,3 +65,8 @@ returns-in-Err-new-clause-book g c =
 
 pub returns-in-Err-new-clause-only : goal.returns-in-Err-new-clause-only
 returns-in-Err-new-clause-only g c known = root_known c.args.descriptor.now _ (entry c.args.book.now) c.requires.alone
+
+pub returns-in-Ok-open_file-clause-gated : goal.returns-in-Ok-open_file-clause-gated
+returns-in-Ok-open_file-clause-gated g c known =
+    opened_gated c.args.descriptor.now (g.D.Disk.state c.args.disk.now) (g.D.Disk.state c.open_file.new.disk).history (entry c.open_file.new.book) c.in-Ok-open_file.committed
+    c.chunks.ensures.valid c.in-Ok-open_file.ensures.found known (c.in-Ok-open_file.ensures.opened known)

@@ -73,6 +73,7 @@ returns-in_default g c = record {
   wrote = λ known e. absurd (c.in_default.not-Stored (cc));
   behind = keeps_same (g.D.Disk.state c.args.disk.now);
   goes_on = λ known l at moment within all. all;
+  gated = λ known moment within all. all;
   agrees = λ known agrees. agrees_grown c.args.self.now (entry c.args.book.now) (entry c.admit.new.book) (g.D.Disk.state c.args.disk.now).history.reads c.admit.ensures.kept agrees;
   holds = λ known. holds_all c.args.self.now (entry c.args.book.now) (g.D.Disk.state c.args.disk.now).history.reads c.has.ensures.valid c.requires.rooted
       c.has.ensures.sized c.has.ensures.supported;

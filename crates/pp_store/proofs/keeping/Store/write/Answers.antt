@@ -4,7 +4,7 @@ use Rattle.pp_terms.specs.format.Descriptor.{chunks_of}
 use Rattle.pp_terms.specs.tree.Proves.{first_absent}
 use Rattle.pp_tree.specs.Book.{entry}
 use Rattle.pp_store.specs.Store.{StoreState, IsSized, is_held, AgreesWith, KnowsHeld}
-use Rattle.pp_store.proofs.Puttings.{sized_done, sized_refused, put_goes_on, agrees_done, agrees_refused, knows_done, knows_dead}
+use Rattle.pp_store.proofs.Puttings.{sized_done, sized_refused, put_goes_on, put_gated, agrees_done, agrees_refused, knows_done, knows_dead}
 use Rattle.pp_store.proofs.keeping.Store.write.Goals as goal
 
 pub invariant_of-self : goal.invariant_of-self
@@ -86,3 +86,15 @@ pub returns-in-Err-clause-knows : goal.returns-in-Err-clause-knows
 returns-in-Err-clause-knows g c =
     knows_dead c.args.self.now c.self.inside.descriptor c.self.inside.committed c.self.inside.pending c.self.inside.pairs c.put_pieces.new.pairs c.self.inside.live false
     (entry c.args.book.now) c.self.view_is
+
+pub returns-in-Ok-clause-gated : goal.returns-in-Ok-clause-gated
+returns-in-Ok-clause-gated g c known =
+    put_gated c.self.inside.descriptor c.self.inside.committed c.self.inside.pending c.self.inside.pairs c.put_pieces.new.pairs (entry c.args.book.now) c.args.i
+    (g.D.Disk.state c.args.disk.now) (g.D.Disk.state c.put_pieces.new.disk) c.self.invariant c.put_pieces.ensures.puts c.args.self.now c.self.inside.live c.self.view_is
+    c.requires.absent known
+
+pub returns-in-Err-clause-gated : goal.returns-in-Err-clause-gated
+returns-in-Err-clause-gated g c known =
+    put_gated c.self.inside.descriptor c.self.inside.committed c.self.inside.pending c.self.inside.pairs c.put_pieces.new.pairs (entry c.args.book.now) c.args.i
+    (g.D.Disk.state c.args.disk.now) (g.D.Disk.state c.put_pieces.new.disk) c.self.invariant c.put_pieces.ensures.puts c.args.self.now c.self.inside.live c.self.view_is
+    c.requires.absent known
