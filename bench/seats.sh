@@ -1,6 +1,7 @@
 #!/usr/bin/env bash
-# How long a message takes at one of 64 seats: a million of each kind, at contents of 2^10 and of 2^20 chunks. A message is to take
-# about 100 nanoseconds, and no more at the larger content but for a HAVE and an ACK, which mark a node of each layer of the tree.
+# How long a message takes at one of 64 seats: a million of each kind, of 16 chunks far apart, at contents of 2^10 and of 2^20
+# chunks. A message is to take about 100 nanoseconds, and no more at the larger content but for a HAVE and an ACK, which mark a node
+# of each layer of the tree.
 # The program is proved and built in a repository of its own, from copies of the crates that it stands on, by `rt run`; the
 # first time that takes some minutes.
 # Usage: bench/seats.sh [FOLDER]; the folder, a new one unless given, is kept where it is given, so that a later run of the
@@ -60,9 +61,9 @@ fn seats(alloc: Global, chunks: u32) -> Result<Vec<Seat>, AllocError> {
     Ok(seats)
 }
 
-// A chunk of the content, all over it.
+// One of 16 chunks far apart.
 fn chunk(i: u32, chunks: u32) -> u32 {
-    (u64::from(i) * 7_919 % u64::from(chunks.max(1))) as u32
+    i / 64 % 16 * (chunks / 16)
 }
 
 // REQUESTs of one chunk each. How many are listed.

@@ -227,7 +227,7 @@ after_all : (i at : ℕ) (ms : List Message) (o : Bool) (s : List Line) → (o �
 after_all i at [] o s f e = f e
 after_all i at (m ∷ ms) o s f e = after_all i at ms (asked_after i m o) (Said at m ∷ s) (after_asks i m o (asked i s) f) e
 
-or_false : (x y : Bool) → (x || y) ≡ false → x ≡ false
+pub or_false : (x y : Bool) → (x || y) ≡ false → x ≡ false
 or_false true y e = e
 or_false false y e = refl
 

@@ -14,7 +14,7 @@ rising_weaken low high [] le rising = tt
 rising_weaken low high (x ∷ xs) le rising = (omega (arith, rising.0), rising.1)
 
 -- what was asked for lies at the beginning or above
-at_least : (xs : List Asking) (low j m : ℕ) → IsRisingFrom low xs → asked_at xs j ≡ Some m → low ≤ j
+pub at_least : (xs : List Asking) (low j m : ℕ) → IsRisingFrom low xs → asked_at xs j ≡ Some m → low ≤ j
 at_least [] low j m rising is = cc
 at_least (x ∷ xs) low j m rising is = elim (cases_eq x.chunk j) [
   | inl e ↦ omega (arith, rising.0)

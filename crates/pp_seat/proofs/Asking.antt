@@ -1,4 +1,5 @@
 -- The chunks of a range are asked for one by one.
+use Rattle.pp_requests.proofs.Entries.{at_least}
 use Rattle.pp_seat.specs.Follows.{Frame, Lost, Follows}
 use Rattle.pp_seat.specs.Seats.{SeatState}
 use Rattle.pp_seat.specs.Lines.{names_at, is_named_at, Tale}
@@ -97,18 +98,6 @@ named_within part n now old new a e i m is = ⊎_elim
 
 -- ---- room
 
--- Chunks rise, so that one that is asked for isn't below.
-above_low : (xs : List Asking) (low j m : ℕ) → IsRisingFrom low xs → asked_at xs j ≡ Some m → low ≤ j
-above_low [] low j m rising e = absurd (none_some m e)
-  where
-    none_some : (x : ℕ) → None ≡ Some x → ⊥
-    none_some x e = cc
-above_low (x ∷ xs) low j m rising e = by (eqb x.chunk j) refl e (above_low xs (x.chunk + 1) j m rising.1)
-  where
-    by : (b : Bool) → eqb x.chunk j ≡ b → cond b (Some x.moment) (asked_at xs j) ≡ Some m → (asked_at xs j ≡ Some m → x.chunk + 1 ≤ j) → low ≤ j
-    by true same here rest = let at = rising.0 in grind (arith, nat_tests)
-    by false other there rest = let at = rising.0 in let more = rest there in omega arith
-
 -- The chunks that are waited for are no more than those of a range that pass a test which each of them passes.
 few_pass : (p : ℕ → Bool) (own : List Asking) (low n : ℕ) → IsRisingFrom low own
     → ((i m : ℕ) → asked_at own i ≡ Some m → (i < low + n) × (p i ≡ true)) → length own ≤ count_by p (range_with_len low n)
@@ -137,7 +126,7 @@ few_pass p (x ∷ xs) low (suc n) rising passes =
 
     later : x.chunk ≤ low → (i m : ℕ) → asked_at xs i ≡ Some m → (i < low + 1 + n) × (p i ≡ true)
     later most i m e =
-        let beyond = above_low xs (x.chunk + 1) i m rising.1 e in
+        let beyond = at_least xs (x.chunk + 1) i m rising.1 e in
         let other : eqb x.chunk i ≡ false = grind (arith, nat_tests) in
         let q = passes i m (ap (λ (b : Bool). cond b (Some x.moment) (asked_at xs i)) other ∙ e) in
         (let high = q.0 in omega arith, q.1)

@@ -1,8 +1,11 @@
 -- The frame and the tale of a channel's seat, record by record.
+use Rattle.pp_seat.proofs.Answering.{none_left}
+use Rattle.pp_terms.specs.disk.Disk.{History}
+use Rattle.pp_traffic.proofs.Plains.{none_from_end}
 use Rattle.pp_traffic.proofs.OneMore.{story_opening}
 use Rattle.std.proofs.Common.{◌≡◌, ◌⊎◌, inl, inr, ℕ, ◌+◌, ◌<◌, ◌≤◌, nat_le, nat_lt, eqb, Bool, true, false, cond, not, ◌&&◌, ◌||◌, Some, None, List, [], ◌∷◌, length, refl, sym, ◌∙◌, ap, subst, arith}
 use Rattle.std.specs.List.{list_any}
-use Rattle.std.proofs.lemmas.Bool.{le-leb, or_from, false_from_ne_true, both_ways, false≢true, leb-true, and_right}
+use Rattle.std.proofs.lemmas.Bool.{le-leb, or_from, false_from_ne_true, both_ways, false≢true, leb-true, and_right, or_parts}
 use Rattle.std.proofs.lemmas.Bool.Decides.{nat_tests}
 use Rattle.pp_terms.specs.format.Traffic.{Address, Record, Received, Quiet, Sent}
 use Rattle.pp_terms.specs.format.Descriptor.{Descriptor}
@@ -10,18 +13,18 @@ use Rattle.pp_terms.specs.format.Messages.{Message, Data, Request, Cancel, Choke
 use Rattle.pp_traffic.specs.Past.{now, some_since, is_event, read}
 use Rattle.pp_traffic.specs.Life.{Life, comes_on}
 use Rattle.pp_traffic.specs.Story.{Line, Heard, Said, Taken, hear, say, heard_in, said_in, told, story}
-use Rattle.pp_traffic.specs.Asking.{choked, asked_by, asked_after, asked, is_heard}
+use Rattle.pp_traffic.specs.Asking.{choked, asked_by, asked_after, asked, is_heard, asks_in, most_asks}
 use Rattle.pp_traffic.specs.Fates.{clock}
 use Rattle.pp_promises.specs.LastTurn.{earlier}
 use Rattle.pp_promises.specs.OwnSide.{has_in}
 use Rattle.pp_promises.specs.ReadStory.{with_unread, is_read, read_story, proven_story}
-use Rattle.pp_promises.specs.Served.{is_announced, asked_after_heard, asked_after_said, owed_after, is_owed}
+use Rattle.pp_promises.specs.Served.{is_announced, asked_after_heard, asked_after_said, owed_after, is_owed, IsOwed}
 use Rattle.pp_promises.specs.Announced.{was_told_of}
-use Rattle.pp_promises.proofs.ReadStories.{by_asks, after_asks, answers_are_read}
+use Rattle.pp_promises.proofs.ReadStories.{by_asks, after_asks, answers_are_read, or_false, plains_are_read}
 use Rattle.pp_promises.proofs.Growth.{reads_grow}
 use Rattle.pp_seat.specs.Lines.{asked_since, Tale, with_line, with_said}
 use Rattle.pp_seat.specs.Laws.{IsLater}
-use Rattle.pp_seat.specs.Frames.{since_of, tale_of, IsSameTale, SameTales, with_heard, TalesGrow, OwedIsKept, FramesGrow, ReadsComeToNow, no_tale, NoneBegins}
+use Rattle.pp_seat.specs.Frames.{since_of, tale_of, IsSameTale, SameTales, with_heard, TalesGrow, OwedIsKept, FramesGrow, ReadsComeToNow, no_tale, NoneBegins, OwedIsGiven, frame_of}
 use Rattle.pp_seat.specs.Follows.{Follows}
 
 -- ---- lengths
@@ -129,15 +132,11 @@ since_found d life is_found i (r ∷ b) found =
     ap (λ (x : Bool). cond (x || is_announced d i b) (since_of d life is_found i b) (cond (is_announced d i (r ∷ b)) (Some (length (story d life (r ∷ b)))) None)) found
     ∙ since_found d life is_found i b found
 
-or_false : (p q : Bool) → (p || q) ≡ false → q ≡ false
-or_false true q e = absurd cc
-or_false false q e = e
-
 -- what was announced stays so
 announced_before : (d : Descriptor) (i : ℕ) (r : Record) (b : List Record) → is_announced d i (r ∷ b) ≡ false → is_announced d i b ≡ false
 announced_before d i (Received at sender bytes) b e = e
 announced_before d i (Quiet at) b e = e
-announced_before d i (Sent moment receiver bytes) b e = or_false _ (is_announced d i b) e
+announced_before d i (Sent moment receiver bytes) b e = (or_parts _ (is_announced d i b) e).1
 
 since_none : (d : Descriptor) (life : Life) (is_found : ℕ → Bool) (i : ℕ) (past : List Record) → is_found i ≡ false → is_announced d i past ≡ false
     → since_of d life is_found i past ≡ None
@@ -301,14 +300,6 @@ owed_since d life is_found i (r ∷ b) place is e =
     o : Bool
     o = eqb life.opening (length b)
 
-    free : (c : Bool) → (c || not true) ≡ false → c ≡ false
-    free true p = absurd cc
-    free false p = refl
-
-    barred : (c x : Bool) → x ≡ true → (c || not x) ≡ false → c ≡ false
-    barred true x p q = absurd cc
-    barred false x p q = refl
-
     on : since_of d life is_found i b ≡ Some place → (is_owed d life i b ≡ true → asked_since place i (story d life b) ≡ true)
         → ((choked (story d life b) || not (is_announced d i b)) ≡ false → choked (story d life b) ≡ false)
         → owed_after d life i o (choked (story d life b) || not (is_announced d i b)) r (is_owed d life i b) ≡ true
@@ -316,18 +307,14 @@ owed_since d life is_found i (r ∷ b) place is e =
     on at before free w = owed_keeps d life place i o (choked (story d life b) || not (is_announced d i b)) (now (r ∷ b)) r (is_owed d life i b) (story d life b)
         (since_low d life is_found i b place at) free before w
 
-    opened : (c x : Bool) → (c || x) ≡ false → c ≡ false
-    opened true x p = absurd cc
-    opened false x p = refl
-
     by : (w f x y : Bool) → is_found i ≡ f → is_announced d i b ≡ x
         → cond (f || x) (since_of d life is_found i b) (cond y (Some (length (story d life (r ∷ b)))) None) ≡ Some place
         → cond w (owed_after d life i o (choked (story d life b) || not (is_announced d i b)) r (is_owed d life i b)) false ≡ true
         → (since_of d life is_found i b ≡ Some place → is_owed d life i b ≡ true → asked_since place i (story d life b) ≡ true)
         → asked_since place i (cond w (told d life o (now (r ∷ b)) r (story d life b)) []) ≡ true
     by false f x y found is at e before = absurd (false≢true e)
-    by true true x y found is at e before = on at (before at) (opened (choked (story d life b)) (not (is_announced d i b))) e
-    by true false true y found is at e before = on at (before at) (opened (choked (story d life b)) (not (is_announced d i b))) e
+    by true true x y found is at e before = on at (before at) (or_false (choked (story d life b)) (not (is_announced d i b))) e
+    by true false true y found is at e before = on at (before at) (or_false (choked (story d life b)) (not (is_announced d i b))) e
     by true false false y found is at e before = absurd (both_ways _ (never (choked (story d life b)) is) e)
       where
         never : (c : Bool) → is_announced d i b ≡ false → owed_after d life i o (c || not (is_announced d i b)) r (is_owed d life i b) ≡ false
@@ -556,9 +543,6 @@ reads_come d life (Sent moment receiver bytes ∷ b) e =
 
 -- ---- where a life begins
 
-none_since : (test : Record → Bool) (place : ℕ) (past : List Record) → length past ≤ place → some_since test place past ≡ false
-none_since test place past le = false_from_ne_true (some_since test place past) (λ e. let lt = since_within test place past e in omega arith)
-
 none_proven : (d : Descriptor) (life : Life) (past : List Record) → length past ≤ life.opening → proven_story d life past ≡ []
 none_proven d life [] le = refl
 none_proven d life (r ∷ b) le = by (nat_le life.opening (length b)) refl
@@ -577,7 +561,7 @@ untold_before : (d : Descriptor) (life : Life) (i : ℕ) (past : List Record) �
 untold_before d life i [] le = refl
 untold_before d life i (r ∷ b) le =
     or_from (list_any (has_in i) (said_in d life r) && is_heard d life b) (was_told_of d life i b)
-    (and_right (list_any (has_in i) (said_in d life r)) (is_heard d life b) (none_since (comes_on d life) life.opening b (omega arith)))
+    (and_right (list_any (has_in i) (said_in d life r)) (is_heard d life b) (none_from_end (comes_on d life) life.opening b (omega arith)))
     (untold_before d life i b (omega arith))
 
 tale_opened : (d : Descriptor) (life : Life) (at : ℕ) (sender : Address) (bytes : List ℕ) (past : List Record) → life.opening ≡ length past
@@ -610,3 +594,18 @@ tales_grow = record { opened = tale_opened; sent = tale_sent; quiet = tale_quiet
 
 pub none_begins : NoneBegins
 none_begins f unproven = record { unsaid = tt; unproven = unproven; unclaimed = refl; untold = λ i. refl; unasked = λ i place is. inl (omega arith) }
+
+-- ---- what is left
+
+pub owed_is_given : OwedIsGiven
+owed_is_given d h life is_found past lost s plain follows slot none few found content =
+    let left = none_left (frame_of d life is_found past) lost s (tale_of d life past) follows slot none in
+    (left.0, left.1, λ i owed.
+    let kept = by i owed in
+    left.2 i kept.0 (subst (λ (x : List Line). asks_in x ≤ most_asks) (sym (plains_are_read d life past plain)) few) (content i owed) kept.1
+    (subst (λ (x : List Line). asked_since kept.0 i x ≡ true) (sym (plains_are_read d life past plain)) kept.2))
+  where
+    by : (i : ℕ) → IsOwed d h life past i
+        → (place : ℕ) × (since_of d life is_found i past ≡ Some place) × (asked_since place i (story d life past) ≡ true)
+    by i (inl owed) = owed_is_kept.announced d life is_found i past owed
+    by i (inr (asks, stood)) = owed_is_kept.found d life is_found i past (found i stood) asks

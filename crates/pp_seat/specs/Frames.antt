@@ -1,4 +1,8 @@
 -- The frame and the tale of a channel's seat, by what the link carried.
+use Rattle.pp_traffic.specs.Keeping.{StoodThroughout}
+use Rattle.pp_traffic.specs.Turns.{AtMost}
+use Rattle.pp_traffic.specs.Plain.{IsPlainNow}
+use Rattle.pp_terms.specs.disk.Disk.{History}
 use Rattle.std.specs.Prelude.{◌≡◌, ◌⊎◌, ℕ, ◌<◌, ◌≤◌, Bool, true, false, ◌||◌, if◌then◌else◌, Option, Some, None, List, [], ◌∷◌, length}
 use Rattle.pp_terms.specs.format.Traffic.{Address, Record, Received, Quiet, Sent}
 use Rattle.pp_terms.specs.format.Descriptor.{Descriptor, chunks_of}
@@ -6,15 +10,15 @@ use Rattle.pp_terms.specs.format.Messages.{Message}
 use Rattle.pp_traffic.specs.Past.{now, some_since, is_event}
 use Rattle.pp_traffic.specs.Life.{Life, comes_on}
 use Rattle.pp_traffic.specs.Story.{Heard, Taken, heard_in, said_in, story}
-use Rattle.pp_traffic.specs.Asking.{asked, is_heard}
+use Rattle.pp_traffic.specs.Asking.{asked, is_heard, asks_in, most_asks}
 use Rattle.pp_traffic.specs.Fates.{clock}
 use Rattle.pp_promises.specs.LastTurn.{earlier}
 use Rattle.pp_promises.specs.ReadStory.{is_read, read_story, proven_story}
-use Rattle.pp_promises.specs.Served.{is_announced, is_owed}
+use Rattle.pp_promises.specs.Served.{is_announced, is_owed, IsOwed}
 use Rattle.pp_promises.specs.Announced.{was_told_of}
 use Rattle.pp_seat.specs.Lines.{asked_since, Tale, with_line, with_said}
 use Rattle.pp_seat.specs.Seats.{SeatState}
-use Rattle.pp_seat.specs.Follows.{Frame, Lost, Begins, Follows}
+use Rattle.pp_seat.specs.Follows.{Frame, Lost, Begins, Follows, HasNone}
 use Rattle.pp_seat.specs.Laws.{IsLater}
 
 -- How long the story was when the chunk was first announced, on whatever channel: 0 where it was found at the start.
@@ -100,3 +104,10 @@ pub record FramesGrow : Type 0 where
 abbrev pub ReadsComeToNow : Type 0
 ReadsComeToNow = (d : Descriptor) (life : Life) (past : List Record) → some_since is_event life.opening past ≡ true
     → now past ≤ clock (read_story d life past)
+
+-- On a plain channel with a slot no chunk of which is listed, at most so many chunks that are owed are left as were given up.
+abbrev pub OwedIsGiven : Type 0
+OwedIsGiven = (d : Descriptor) (h : History) (life : Life) (is_found : ℕ → Bool) (past : List Record) (lost : Lost) (s : SeatState)
+    → IsPlainNow d life past → Follows (frame_of d life is_found past) lost s (tale_of d life past) → s.slot ≡ true → HasNone s
+    → asks_in (story d life past) ≤ most_asks → ((i : ℕ) → StoodThroughout d h i → is_found i ≡ true)
+    → ((i : ℕ) → IsOwed d h life past i → i < chunks_of d) → AtMost lost.chunks (IsOwed d h life past)
