@@ -63,7 +63,7 @@ fn seats(alloc: Global, chunks: u32) -> Result<Vec<Seat>, AllocError> {
 
 // One of 16 chunks far apart.
 fn chunk(i: u32, chunks: u32) -> u32 {
-    i / 64 % 16 * (chunks / 16)
+    (i / 64 % 16).saturating_mul(chunks / 16)
 }
 
 // REQUESTs of one chunk each. How many are listed.

@@ -1,11 +1,10 @@
 -- The frame and the tale of a channel's seat, record by record.
 use Rattle.pp_seat.proofs.Answering.{none_left}
-use Rattle.pp_terms.specs.disk.Disk.{History}
 use Rattle.pp_traffic.proofs.Plains.{none_from_end}
 use Rattle.pp_traffic.proofs.OneMore.{story_opening}
 use Rattle.std.proofs.Common.{◌≡◌, ◌⊎◌, inl, inr, ℕ, ◌+◌, ◌<◌, ◌≤◌, nat_le, nat_lt, eqb, Bool, true, false, cond, not, ◌&&◌, ◌||◌, Some, None, List, [], ◌∷◌, length, refl, sym, ◌∙◌, ap, subst, arith}
 use Rattle.std.specs.List.{list_any}
-use Rattle.std.proofs.lemmas.Bool.{le-leb, or_from, false_from_ne_true, both_ways, false≢true, leb-true, and_right, or_parts}
+use Rattle.std.proofs.lemmas.Bool.{le-leb, or_from, both_ways, false≢true, leb-true, and_right, or_parts}
 use Rattle.std.proofs.lemmas.Bool.Decides.{nat_tests}
 use Rattle.pp_terms.specs.format.Traffic.{Address, Record, Received, Quiet, Sent}
 use Rattle.pp_terms.specs.format.Descriptor.{Descriptor}
@@ -19,12 +18,12 @@ use Rattle.pp_promises.specs.LastTurn.{earlier}
 use Rattle.pp_promises.specs.OwnSide.{has_in}
 use Rattle.pp_promises.specs.ReadStory.{with_unread, is_read, read_story, proven_story}
 use Rattle.pp_promises.specs.Served.{is_announced, asked_after_heard, asked_after_said, owed_after, is_owed, IsOwed}
-use Rattle.pp_promises.specs.Announced.{was_told_of}
+use Rattle.pp_promises.specs.Announced.{was_told_of, IsKnownOf, is_told_of}
 use Rattle.pp_promises.proofs.ReadStories.{by_asks, after_asks, answers_are_read, or_false, plains_are_read}
 use Rattle.pp_promises.proofs.Growth.{reads_grow}
 use Rattle.pp_seat.specs.Lines.{asked_since, Tale, with_line, with_said}
 use Rattle.pp_seat.specs.Laws.{IsLater}
-use Rattle.pp_seat.specs.Frames.{since_of, tale_of, IsSameTale, SameTales, with_heard, TalesGrow, OwedIsKept, FramesGrow, ReadsComeToNow, no_tale, NoneBegins, OwedIsGiven, frame_of}
+use Rattle.pp_seat.specs.Frames.{since_of, tale_of, IsSameTale, SameTales, with_heard, TalesGrow, OwedIsKept, FramesGrow, ReadsComeToNow, no_tale, NoneBegins, OwedIsGiven, frame_of, HeldIsTold}
 use Rattle.pp_seat.specs.Follows.{Follows}
 
 -- ---- lengths
@@ -99,14 +98,6 @@ none_read d life past early =
     omega arith
 
 -- a record more makes no fewer lines
-story_longer : (d : Descriptor) (life : Life) (r : Record) (b : List Record) → length (story d life b) ≤ length (story d life (r ∷ b))
-story_longer d life r b = by (nat_le life.opening (length b)) refl
-  where
-    by : (x : Bool) → nat_le life.opening (length b) ≡ x
-        → length (story d life b) ≤ length (cond x (told d life (eqb life.opening (length b)) (now (r ∷ b)) r (story d life b)) [])
-    by true le = told_length d life (eqb life.opening (length b)) (now (r ∷ b)) r (story d life b)
-    by false early = let none = ap (λ (xs : List Line). length xs) (none_before d life b early) in omega arith
-
 read_longer : (d : Descriptor) (life : Life) (r : Record) (b : List Record) → length (read_story d life b) ≤ length (read_story d life (r ∷ b))
 read_longer d life r b = by (nat_le life.opening (length b)) (is_read d life (r ∷ b)) refl
   where
@@ -117,19 +108,12 @@ read_longer d life r b = by (nat_le life.opening (length b)) (is_read d life (r 
     by true false le = unread_length d life (eqb life.opening (length b)) (now (r ∷ b)) r (read_story d life b)
     by false y early = let none = none_read d life b early in omega arith
 
-mark_past : (d : Descriptor) (life : Life) (past : List Record) → length (read_story d life (earlier past)) ≤ length (read_story d life past)
-mark_past d life [] = omega arith
-mark_past d life (Received at sender bytes ∷ b) = read_longer d life (Received at sender bytes) b
-mark_past d life (Quiet at ∷ b) = read_longer d life (Quiet at) b
-mark_past d life (Sent moment receiver bytes ∷ b) =
-    let more = mark_past d life b in let one = read_longer d life (Sent moment receiver bytes) b in omega arith
-
 -- ---- when a chunk was announced
 
 since_found : (d : Descriptor) (life : Life) (is_found : ℕ → Bool) (i : ℕ) (past : List Record) → is_found i ≡ true → since_of d life is_found i past ≡ Some 0
 since_found d life is_found i [] found = ap (λ (x : Bool). cond x (Some 0) None) found
 since_found d life is_found i (r ∷ b) found =
-    ap (λ (x : Bool). cond (x || is_announced d i b) (since_of d life is_found i b) (cond (is_announced d i (r ∷ b)) (Some (length (story d life (r ∷ b)))) None)) found
+    ap (λ (x : Bool). cond (x || is_announced d i b) (since_of d life is_found i b) (cond (is_announced d i (r ∷ b)) (Some (length (read_story d life (r ∷ b)))) None)) found
     ∙ since_found d life is_found i b found
 
 -- what was announced stays so
@@ -146,27 +130,27 @@ since_none d life is_found i (r ∷ b) unfound none =
     (since_none d life is_found i b unfound (announced_before d i r b none))
   where
     by : (x y : Bool) → y ≡ false → since_of d life is_found i b ≡ None
-        → cond x (since_of d life is_found i b) (cond y (Some (length (story d life (r ∷ b)))) None) ≡ None
+        → cond x (since_of d life is_found i b) (cond y (Some (length (read_story d life (r ∷ b)))) None) ≡ None
     by true y last before = before
     by false true last before = absurd (false≢true (sym last))
     by false false last before = refl
 
 -- the place is one of the story
 since_low : (d : Descriptor) (life : Life) (is_found : ℕ → Bool) (i : ℕ) (past : List Record) (place : ℕ) → since_of d life is_found i past ≡ Some place
-    → place ≤ length (story d life past)
+    → place ≤ length (read_story d life past)
 since_low d life is_found i [] place is = first (is_found i) is
   where
     first : (x : Bool) → cond x (Some 0) None ≡ Some place → place ≤ 0
     first true e = let same : 0 ≡ place = cc in omega arith
     first false e = absurd cc
 since_low d life is_found i (r ∷ b) place is =
-    by (is_found i || is_announced d i b) (is_announced d i (r ∷ b)) is (since_low d life is_found i b place) (story_longer d life r b)
+    by (is_found i || is_announced d i b) (is_announced d i (r ∷ b)) is (since_low d life is_found i b place) (read_longer d life r b)
   where
-    by : (x y : Bool) → cond x (since_of d life is_found i b) (cond y (Some (length (story d life (r ∷ b)))) None) ≡ Some place
-        → (since_of d life is_found i b ≡ Some place → place ≤ length (story d life b)) → length (story d life b) ≤ length (story d life (r ∷ b))
-        → place ≤ length (story d life (r ∷ b))
+    by : (x y : Bool) → cond x (since_of d life is_found i b) (cond y (Some (length (read_story d life (r ∷ b)))) None) ≡ Some place
+        → (since_of d life is_found i b ≡ Some place → place ≤ length (read_story d life b)) → length (read_story d life b) ≤ length (read_story d life (r ∷ b))
+        → place ≤ length (read_story d life (r ∷ b))
     by true y e before longer = let low = before e in omega arith
-    by false true e before longer = let same : length (story d life (r ∷ b)) ≡ place = cc in omega arith
+    by false true e before longer = let same : length (read_story d life (r ∷ b)) ≡ place = cc in omega arith
     by false false e before longer = absurd cc
 
 -- what was announced has a place
@@ -178,10 +162,10 @@ since_some d life is_found i (r ∷ b) e =
   where
     by : (f x y : Bool) → y ≡ true → is_found i ≡ f → is_announced d i b ≡ x
         → (is_announced d i b ≡ true → (place : ℕ) × (since_of d life is_found i b ≡ Some place))
-        → (place : ℕ) × (cond (f || x) (since_of d life is_found i b) (cond y (Some (length (story d life (r ∷ b)))) None) ≡ Some place)
+        → (place : ℕ) × (cond (f || x) (since_of d life is_found i b) (cond y (Some (length (read_story d life (r ∷ b)))) None) ≡ Some place)
     by true x y last found is before = (0, since_found d life is_found i b found)
     by false true y last found is before = before is
-    by false false true last found is before = (length (story d life (r ∷ b)), refl)
+    by false false true last found is before = (length (read_story d life (r ∷ b)), refl)
     by false false false last found is before = absurd (false≢true last)
 
 since_later : (d : Descriptor) (life : Life) (is_found : ℕ → Bool) (r : Record) (past : List Record)
@@ -190,14 +174,14 @@ since_later d life is_found r past i =
     by (is_found i) (is_announced d i past) (is_announced d i (r ∷ past)) refl refl
   where
     by : (f x y : Bool) → is_found i ≡ f → is_announced d i past ≡ x
-        → (cond (f || x) (since_of d life is_found i past) (cond y (Some (length (story d life (r ∷ past)))) None) ≡ since_of d life is_found i past)
+        → (cond (f || x) (since_of d life is_found i past) (cond y (Some (length (read_story d life (r ∷ past)))) None) ≡ since_of d life is_found i past)
         ⊎ ((since_of d life is_found i past ≡ None) × (at : ℕ)
-        × (cond (f || x) (since_of d life is_found i past) (cond y (Some (length (story d life (r ∷ past)))) None) ≡ Some at)
+        × (cond (f || x) (since_of d life is_found i past) (cond y (Some (length (read_story d life (r ∷ past)))) None) ≡ Some at)
         × (length (read_story d life (r ∷ past)) ≤ at))
     by true x y found is = inl refl
     by false true y found is = inl refl
     by false false true found is =
-        inr (since_none d life is_found i past found is, length (story d life (r ∷ past)), refl, read_shorter d life (r ∷ past))
+        inr (since_none d life is_found i past found is, length (read_story d life (r ∷ past)), refl, omega arith)
     by false false false found is = inl (sym (since_none d life is_found i past found is))
 
 -- ---- what is owed
@@ -305,10 +289,10 @@ owed_since d life is_found i (r ∷ b) place is e =
         → owed_after d life i o (choked (story d life b) || not (is_announced d i b)) r (is_owed d life i b) ≡ true
         → asked_since place i (told d life o (now (r ∷ b)) r (story d life b)) ≡ true
     on at before free w = owed_keeps d life place i o (choked (story d life b) || not (is_announced d i b)) (now (r ∷ b)) r (is_owed d life i b) (story d life b)
-        (since_low d life is_found i b place at) free before w
+        (let low = since_low d life is_found i b place at in let shorter = read_shorter d life b in omega arith) free before w
 
     by : (w f x y : Bool) → is_found i ≡ f → is_announced d i b ≡ x
-        → cond (f || x) (since_of d life is_found i b) (cond y (Some (length (story d life (r ∷ b)))) None) ≡ Some place
+        → cond (f || x) (since_of d life is_found i b) (cond y (Some (length (read_story d life (r ∷ b)))) None) ≡ Some place
         → cond w (owed_after d life i o (choked (story d life b) || not (is_announced d i b)) r (is_owed d life i b)) false ≡ true
         → (since_of d life is_found i b ≡ Some place → is_owed d life i b ≡ true → asked_since place i (story d life b) ≡ true)
         → asked_since place i (cond w (told d life o (now (r ∷ b)) r (story d life b)) []) ≡ true
@@ -333,9 +317,6 @@ owed_is_kept = record {
     by d life is_found i past e true is =
         let some = since_some d life is_found i past is in (some.0, some.1, owed_since d life is_found i past some.0 some.1 e)
     by d life is_found i past e false is = absurd (both_ways (is_owed d life i past) (unannounced d life i past is) e)
-
-pub frames_grow : FramesGrow
-frames_grow = record { since = since_later; mark = mark_past }
 
 -- ---- tales
 
@@ -599,13 +580,85 @@ none_begins f unproven = record { unsaid = tt; unproven = unproven; unclaimed = 
 
 pub owed_is_given : OwedIsGiven
 owed_is_given d h life is_found past lost s plain follows slot none few found content =
-    let left = none_left (frame_of d life is_found past) lost s (tale_of d life past) follows slot none in
-    (left.0, left.1, λ i owed.
-    let kept = by i owed in
-    left.2 i kept.0 (subst (λ (x : List Line). asks_in x ≤ most_asks) (sym (plains_are_read d life past plain)) few) (content i owed) kept.1
-    (subst (λ (x : List Line). asked_since kept.0 i x ≡ true) (sym (plains_are_read d life past plain)) kept.2))
+    let left = none_left (frame_of d life is_found past) lost s (tale_of d life past) follows slot none in (
+      left.0,
+      left.1,
+      λ i owed.
+          let kept = by i owed in
+          left.2 i kept.0 (subst (λ (x : List Line). asks_in x ≤ most_asks) (sym (plains_are_read d life past plain)) few) (content i owed) kept.1
+          (subst (λ (x : List Line). asked_since kept.0 i x ≡ true) (sym (plains_are_read d life past plain)) kept.2),
+    )
   where
     by : (i : ℕ) → IsOwed d h life past i
         → (place : ℕ) × (since_of d life is_found i past ≡ Some place) × (asked_since place i (story d life past) ≡ true)
     by i (inl owed) = owed_is_kept.announced d life is_found i past owed
     by i (inr (asks, stood)) = owed_is_kept.found d life is_found i past (found i stood) asks
+
+-- ---- turns
+
+mark_past : (d : Descriptor) (life : Life) (past : List Record) → some_since is_event life.opening past ≡ true
+    → length (read_story d life (earlier past)) < length (read_story d life past)
+mark_past d life [] e = absurd (false≢true e)
+mark_past d life (Received at sender bytes ∷ b) e =
+    by (nat_le life.opening (length b)) (is_read d life (Received at sender bytes ∷ b)) (in_past d life (Received at sender bytes) b e)
+  where
+    by : (x y : Bool) → x ≡ true
+        → length (read_story d life b)
+        < length (cond x (cond y (told d life (eqb life.opening (length b)) (now (Received at sender bytes ∷ b)) (Received at sender bytes) (read_story d life b))
+        (with_unread d life (eqb life.opening (length b)) (now (Received at sender bytes ∷ b)) (Received at sender bytes) (read_story d life b))) [])
+    by true true is =
+        let more = hear_length (now (Received at sender bytes ∷ b)) (heard_in d life (eqb life.opening (length b)) (Received at sender bytes)) (read_story d life b) in
+        omega arith
+    by true false is = omega arith
+    by false y is = absurd (false≢true is)
+mark_past d life (Quiet at ∷ b) e = by (nat_le life.opening (length b)) (is_read d life (Quiet at ∷ b)) (in_past d life (Quiet at) b e)
+  where
+    by : (x y : Bool) → x ≡ true
+        → length (read_story d life b)
+        < length (cond x (cond y (told d life (eqb life.opening (length b)) (now (Quiet at ∷ b)) (Quiet at) (read_story d life b))
+        (with_unread d life (eqb life.opening (length b)) (now (Quiet at ∷ b)) (Quiet at) (read_story d life b))) [])
+    by true true is = omega arith
+    by true false is = omega arith
+    by false y is = absurd (false≢true is)
+mark_past d life (Sent moment receiver bytes ∷ b) e =
+    let more = read_longer d life (Sent moment receiver bytes) b in
+    let before = mark_past d life b (later (nat_le life.opening (length b)) e) in
+    omega arith
+  where
+    later : (x : Bool) → ((x && false) || some_since is_event life.opening b) ≡ true → some_since is_event life.opening b ≡ true
+    later true e = e
+    later false e = e
+
+pub frames_grow : FramesGrow
+frames_grow = record { since = since_later; mark = mark_past }
+
+-- a chunk's place stays
+since_on : (d : Descriptor) (life : Life) (is_found : ℕ → Bool) (i : ℕ) (r : Record) (b : List Record) (place : ℕ) → since_of d life is_found i b ≡ Some place
+    → since_of d life is_found i (r ∷ b) ≡ Some place
+since_on d life is_found i r b place is = by (since_later d life is_found r b i)
+  where
+    none_some : None ≡ Some place → ⊥
+    none_some e = cc
+
+    by : (since_of d life is_found i (r ∷ b) ≡ since_of d life is_found i b)
+        ⊎ ((since_of d life is_found i b ≡ None) × (at : ℕ) × (since_of d life is_found i (r ∷ b) ≡ Some at) × (length (read_story d life (r ∷ b)) ≤ at))
+        → since_of d life is_found i (r ∷ b) ≡ Some place
+    by (inl same) = same ∙ is
+    by (inr (none, at, later, low)) = absurd (none_some (sym none ∙ is))
+
+since_earlier : (d : Descriptor) (life : Life) (is_found : ℕ → Bool) (i : ℕ) (past : List Record) (place : ℕ) → since_of d life is_found i (earlier past) ≡ Some place
+    → since_of d life is_found i past ≡ Some place
+since_earlier d life is_found i [] place is = is
+since_earlier d life is_found i (Received at sender bytes ∷ b) place is = since_on d life is_found i (Received at sender bytes) b place is
+since_earlier d life is_found i (Quiet at ∷ b) place is = since_on d life is_found i (Quiet at) b place is
+since_earlier d life is_found i (Sent moment receiver bytes ∷ b) place is =
+    since_on d life is_found i (Sent moment receiver bytes) b place (since_earlier d life is_found i b place is)
+
+pub held_is_told : HeldIsTold
+held_is_told d h life is_found past lost s i follows found known below = by known
+  where
+    by : IsKnownOf d h past i → is_told_of i (read_story d life past) ≡ true
+    by (inl announced) =
+        let some = since_some d life is_found i (earlier past) announced in
+        follows.haves i some.0 below (since_earlier d life is_found i past some.0 some.1) (since_low d life is_found i (earlier past) some.0 some.1)
+    by (inr stood) = follows.haves i 0 below (since_found d life is_found i past (found stood)) (omega arith)

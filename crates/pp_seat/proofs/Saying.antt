@@ -1,5 +1,6 @@
 -- A seat follows one line more, of a message that was sent, and what happens between lines.
-use Rattle.std.proofs.Common.{◌≡◌, ◌⊎◌, ⊎_elim, ℕ, ◌+◌, ◌<◌, ◌≤◌, eqb, Bool, true, false, not, Some, None, List, [], ◌∷◌, map, max, length, refl, sym, ◌∙◌, ap, subst, arith, inl, inr, nat_lt}
+use Rattle.std.specs.Prelude.{MatchOption}
+use Rattle.std.proofs.Common.{◌≡◌, ◌⊎◌, ⊎_elim, ℕ, ◌+◌, ◌<◌, ◌≤◌, eqb, Bool, true, false, not, Some, None, List, [], ◌∷◌, map, max, length, refl, sym, ◌∙◌, ap, subst, arith, inl, inr, nat_lt, Option}
 use Rattle.std.specs.List.{AllByRecursion}
 use Rattle.std.proofs.lemmas.Bool.{cases_lt, and_from, both_ways, false≢true, and_parts}
 use Rattle.std.proofs.lemmas.Bool.Decides.{nat_tests}
@@ -259,6 +260,20 @@ cancel_goes s own i now span is = record {
       })).follows f lost t tt h);
 }
 
+-- one that is waited for no longer, if any is
+pub fewer_stays : (s : SeatState) (own : List Asking) (o : Option ℕ) → MatchOption o (own ≡ s.own) (λ i. Changes i None s.own own)
+    → Stays Always s (record s { own = own })
+fewer_stays s own None same = own_stays Always s own s.stopped (λ f t so a. record {
+  named = λ j m e. a.named j m (subst (λ (xs : List Asking). asked_at xs j ≡ Some m) same e);
+  expired = a.expired;
+  choked = a.choked;
+})
+fewer_stays s own (Some i) is = own_stays Always s own s.stopped (λ f t so a. record {
+  named = λ j m e. a.named j m (fewer_asked i s.own own is j m e);
+  expired = a.expired;
+  choked = a.choked;
+})
+
 pub same_stays : (P : Frame → Tale → Type 0) (s : SeatState) → Stays P s s
 same_stays P s = record { follows = λ f lost t so h. h }
 
@@ -322,7 +337,7 @@ have_says s range now cursor spans split order is = record {
     none_some x e = cc
 
     by_place : (f : Frame) (t : Tale) → IsPassed s.cursor range.first f t → Haves s.cursor f.since f.mark (λ i. is_told_of i t.story)
-        → (i place : ℕ) → i < max s.cursor (range.last + 1) → f.since i ≡ Some place → place < f.mark → (i < s.cursor) ⊎ (s.cursor ≤ i)
+        → (i place : ℕ) → i < max s.cursor (range.last + 1) → f.since i ≡ Some place → place ≤ f.mark → (i < s.cursor) ⊎ (s.cursor ≤ i)
         → (i < range.first) ⊎ (range.first ≤ i) → is_told_of i (with_said now (map Have spans) f.proven t).story ≡ true
     by_place f t passed haves i place lt is early (inl below) other = haves_keep i now f.proven spans t (haves i place below is early)
     by_place f t passed haves i place lt is early (inr above) (inl before) = absurd (none_some place (sym (passed i above before) ∙ is))

@@ -15,18 +15,18 @@ use Rattle.pp_traffic.specs.Fates.{clock}
 use Rattle.pp_promises.specs.LastTurn.{earlier}
 use Rattle.pp_promises.specs.ReadStory.{is_read, read_story, proven_story}
 use Rattle.pp_promises.specs.Served.{is_announced, is_owed, IsOwed}
-use Rattle.pp_promises.specs.Announced.{was_told_of}
+use Rattle.pp_promises.specs.Announced.{was_told_of, IsKnownOf, is_told_of}
 use Rattle.pp_seat.specs.Lines.{asked_since, Tale, with_line, with_said}
 use Rattle.pp_seat.specs.Seats.{SeatState}
 use Rattle.pp_seat.specs.Follows.{Frame, Lost, Begins, Follows, HasNone}
 use Rattle.pp_seat.specs.Laws.{IsLater}
 
--- How long the story was when the chunk was first announced, on whatever channel: 0 where it was found at the start.
+-- How long what is read was when the chunk was first announced, on whatever channel: 0 where it was found at the start.
 abbrev pub since_of : Descriptor → Life → (is_found : ℕ → Bool) → ℕ → List Record → Option ℕ
 since_of d life is_found i [] = if is_found i then Some 0 else None
 since_of d life is_found i (r ∷ before) =
     if is_found i || is_announced d i before then since_of d life is_found i before else
-    (if is_announced d i (r ∷ before) then Some (length (story d life (r ∷ before))) else None)
+    (if is_announced d i (r ∷ before) then Some (length (read_story d life (r ∷ before))) else None)
 
 abbrev pub frame_of : Descriptor → Life → (is_found : ℕ → Bool) → List Record → Frame
 frame_of d life is_found past = record {
@@ -93,12 +93,13 @@ pub record OwedIsKept : Type 0 where
   pub found : (d : Descriptor) (life : Life) (is_found : ℕ → Bool) (i : ℕ) (past : List Record) → is_found i ≡ true → asked i (story d life past) ≡ true
       → (place : ℕ) × (since_of d life is_found i past ≡ Some place) × (asked_since place i (story d life past) ≡ true)
 
--- One record more: what it announces, and nothing else, was announced when the tale is as long as it is then, or longer; and the
--- last turn ended before.
+-- One record more: what it announces, and nothing else, was announced when the tale is as long as it is then; and the last turn
+-- ended before, once the life had begun.
 pub record FramesGrow : Type 0 where
   pub since : (d : Descriptor) (life : Life) (is_found : ℕ → Bool) (r : Record) (past : List Record)
       → IsLater (length (read_story d life (r ∷ past))) (λ i. since_of d life is_found i past) (λ i. since_of d life is_found i (r ∷ past))
-  pub mark : (d : Descriptor) (life : Life) (past : List Record) → length (read_story d life (earlier past)) ≤ length (read_story d life past)
+  pub mark : (d : Descriptor) (life : Life) (past : List Record) → some_since is_event life.opening past ≡ true
+      → length (read_story d life (earlier past)) < length (read_story d life past)
 
 -- Once the link handed in something since a life's opening, what is read has come to the moment now.
 abbrev pub ReadsComeToNow : Type 0
@@ -111,3 +112,9 @@ OwedIsGiven = (d : Descriptor) (h : History) (life : Life) (is_found : ℕ → B
     → IsPlainNow d life past → Follows (frame_of d life is_found past) lost s (tale_of d life past) → s.slot ≡ true → HasNone s
     → asks_in (story d life past) ≤ most_asks → ((i : ℕ) → StoodThroughout d h i → is_found i ≡ true)
     → ((i : ℕ) → IsOwed d h life past i → i < chunks_of d) → AtMost lost.chunks (IsOwed d h life past)
+
+-- What was announced in an earlier turn, or was found at the start, was told of on the channel, if it is below the cursor.
+abbrev pub HeldIsTold : Type 0
+HeldIsTold = (d : Descriptor) (h : History) (life : Life) (is_found : ℕ → Bool) (past : List Record) (lost : Lost) (s : SeatState) (i : ℕ)
+    → Follows (frame_of d life is_found past) lost s (tale_of d life past) → (StoodThroughout d h i → is_found i ≡ true) → IsKnownOf d h past i
+    → i < s.cursor → is_told_of i (read_story d life past) ≡ true

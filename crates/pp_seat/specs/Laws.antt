@@ -70,7 +70,7 @@ abbrev pub with_since : (ℕ → Option ℕ) → Frame → Frame
 with_since since f = record { chunks = f.chunks; size = f.size; since = since; mark = f.mark; proven = f.proven }
 
 abbrev pub AnnouncedStays : Type 0
-AnnouncedStays = (f : Frame) (lost : Lost) (since : ℕ → Option ℕ) (s : SeatState) (t : Tale) → f.mark ≤ length t.story
+AnnouncedStays = (f : Frame) (lost : Lost) (since : ℕ → Option ℕ) (s : SeatState) (t : Tale) → f.mark < length t.story
     → IsLater (length t.story) f.since since → Follows f lost s t → Follows (with_since since f) lost s t
 
 -- A turn ended, and what had been announced below the cursor was told of on the channel.

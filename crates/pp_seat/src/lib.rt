@@ -2,7 +2,7 @@
 //! what it asks for itself (RFC 7574, sections 3, 5 and 8). Moments are in microseconds. Only a new seat takes memory.
 #![tactic(auto)]
 
-ghost use Rattle.pp_seat.specs.Frames.{SameTales, TalesGrow, NoneBegins, OwedIsKept, OwedIsGiven, FramesGrow, ReadsComeToNow};
+ghost use Rattle.pp_seat.specs.Frames.{SameTales, TalesGrow, NoneBegins, OwedIsKept, OwedIsGiven, HeldIsTold, FramesGrow, ReadsComeToNow};
 ghost use Rattle.pp_seat.specs.Laws.{IdleStays, IdleSays, CutsNameAlike, OffersGrow, AnnouncedStays, MarkStays, NoneLeft, ChokesAreDue};
 
 mod cursor;
@@ -34,6 +34,7 @@ pub fn laws_of_seats()
 pub fn laws_of_frames()
     ensures owed { OwedIsKept }
     ensures given { OwedIsGiven }
+    ensures held { HeldIsTold }
     ensures frames { FramesGrow }
     ensures same { SameTales }
     ensures tales { TalesGrow }
