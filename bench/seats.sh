@@ -1,7 +1,7 @@
 #!/usr/bin/env bash
-# How long a message takes at one of 64 seats: a million of each kind, of 16 chunks far apart, at contents of 2^10 and of 2^20
-# chunks. A message is to take about 100 nanoseconds, and no more at the larger content but for a HAVE and an ACK, which mark a node
-# of each layer of the tree.
+# How long a message takes at one of 64 seats: a million of each kind, at contents of 2^10 and of 2^20 chunks. A message is to take
+# about 100 nanoseconds. At 2^10 chunks each seat is asked for 16 of them, at 2^20 for so many that its list is full, and most are
+# refused. A HAVE marks a node of each layer of the tree.
 # The program is proved and built in a repository of its own, from copies of the crates that it stands on, by `rt run`; the
 # first time that takes some minutes.
 # Usage: bench/seats.sh [FOLDER]; the folder, a new one unless given, is kept where it is given, so that a later run of the
@@ -61,9 +61,9 @@ fn seats(alloc: Global, chunks: u32) -> Result<Vec<Seat>, AllocError> {
     Ok(seats)
 }
 
-// One of 16 chunks far apart.
+// A chunk of the content, all over it.
 fn chunk(i: u32, chunks: u32) -> u32 {
-    (i / 64 % 16).saturating_mul(chunks / 16)
+    (u64::from(i) * 7_919 % u64::from(chunks.max(1))) as u32
 }
 
 // REQUESTs of one chunk each. How many are listed.
