@@ -11,3 +11,17 @@ pub mod Searches
 pub mod Books
 pub mod Sendings
 pub mod PlainParts
+pub mod SortLaws
+pub mod TurnEnds
+pub mod LastTurns
+pub mod FaultSteps
+pub mod Addresses
+pub mod ChannelSearch
+pub mod Misses
+pub mod Countings
+pub mod AlikeNumbers
+pub mod TopNumbers
+pub mod DebtRuns
+pub mod Sayings
+pub mod Askings
+pub mod ServedTests

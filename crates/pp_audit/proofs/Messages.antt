@@ -1,5 +1,5 @@
 -- A datagram read message by message.
-use Rattle.std.proofs.Common.{◌≡◌, ⊎_elim, ℕ, ◌+◌, ◌<◌, ◌≤◌, min, Some, None, List, [], ◌∷◌, length, take, drop, refl, sym, ◌∙◌, ap, arith}
+use Rattle.std.proofs.Common.{◌≡◌, ⊎_elim, ℕ, ◌+◌, ◌<◌, ◌≤◌, min, Some, List, [], ◌∷◌, length, take, drop, refl, sym, ◌∙◌, ap, arith}
 use Rattle.std.proofs.lemmas.List.{length-take, length-drop, drop-drop, drop_all}
 use Rattle.std.proofs.lemmas.Bool.{le-ltb, lt-ltb, cases_lt}
 use Rattle.pp_terms.specs.format.Descriptor.{Descriptor}
@@ -12,11 +12,11 @@ use Rattle.pp_terms.proofs.Spellings.{IsBytes-drop}
 use Rattle.std.specs.Int.{w32, from_be_bytes}
 use Rattle.pp_audit.specs.Parts.{all, rest, StandsAt}
 
-record Fault (at : ℕ) (s : Step) (kind : WireKind) : Type 0 where
-  place : ℕ
-  is : s ≡ Cut place kind
+pub record Fault (at : ℕ) (s : Step) (kind : WireKind) : Type 0 where
+  pub place : ℕ
+  pub is : s ≡ Cut place kind
 
-fault_of : (at : ℕ) (s : Step) (place : ℕ) (kind : WireKind) → moved at s ≡ Cut place kind → Fault at s kind
+pub fault_of : (at : ℕ) (s : Step) (place : ℕ) (kind : WireKind) → moved at s ≡ Cut place kind → Fault at s kind
 fault_of at (Read n size) place kind e = absurd cc
 fault_of at End place kind e = absurd cc
 fault_of at (Cut there why) place kind e = record { place = there; is = cc }

@@ -1,7 +1,7 @@
 -- Tests of the peaks, without looking into them.
-use Rattle.std.proofs.Common.{◌≡◌, ℕ, Bool, ◌&&◌, ◌||◌, List, [], ◌∷◌, map, refl, ◌∙◌, ap}
-use Rattle.std.specs.List.{list_any, list_all}
-use Rattle.pp_terms.specs.tree.Tree.{Node, peaks, same_node, is_peak}
+use Rattle.std.proofs.Common.{◌≡◌, ℕ, Bool, ◌&&◌, List, [], ◌∷◌, map, refl, ◌∙◌, ap}
+use Rattle.std.specs.List.{list_all}
+use Rattle.pp_terms.specs.tree.Tree.{Node, peaks}
 use Rattle.pp_tree.specs.declared.node.Node as code
 use Rattle.pp_tree.specs.Node.{node_of}
 

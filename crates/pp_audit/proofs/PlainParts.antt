@@ -1,5 +1,5 @@
 -- Plain channels, by tests.
-use Rattle.std.proofs.Common.{◌≡◌, ltb, Bool, true, false, cond, not, ◌&&◌, List, subst, sym}
+use Rattle.std.proofs.Common.{◌≡◌, ltb, Bool, true, false, cond, not, ◌&&◌, List}
 use Rattle.std.proofs.lemmas.Bool.{and_parts, and_from, not-true, not_from_false, ltb-true, lt-ltb}
 use Rattle.std.specs.Prelude.{MatchBool}
 use Rattle.pp_terms.specs.format.Traffic.{Record}

@@ -6,3 +6,16 @@ pub mod Paths
 pub mod Flying
 pub mod Search
 pub mod PlainTests
+pub mod Sorts
+pub mod Ends
+pub mod Clauses
+pub mod Faults
+pub mod Channels
+pub mod Dials
+pub mod Duties
+pub mod Alike
+pub mod Counted
+pub mod Debts
+pub mod Said
+pub mod Asks
+pub mod Offers

@@ -2,28 +2,54 @@
 //! whatever decides them faster. Nothing here takes memory.
 #![tactic(auto)]
 
+mod announced;
+mod answered;
 mod asking;
+mod asks;
 mod carrying;
+mod channels;
+mod clauses;
+mod datagrams;
+mod debts;
+mod dialling;
+mod duties;
+mod ends;
 mod entry;
 mod flying;
 mod lives;
+mod marks;
+mod newcomers;
 mod nodes;
+mod offers;
+mod owing;
 mod path;
 mod plain;
 mod reading;
 mod records;
+mod runs;
+mod said;
 mod searching;
+mod served;
 mod serving;
+mod silence;
+mod sorts;
 mod standing;
+mod telling;
 mod timing;
+mod turns;
 
+pub use announced::tells_all;
+pub use answered::{chokes_none, keeps_up_but, lets_in_but};
 pub use asking::{is_asked, is_choked, is_heard, is_told};
+pub use datagrams::{are_whole, closes_last, requests_none};
+pub use dialling::dials_but;
 pub use entry::{Entry, Life};
 pub use flying::fewer_than_two;
 pub use lives::is_life;
 pub use path::completes;
 pub use plain::is_plain;
 pub use searching::answers_peer;
+pub use served::serves_but;
 pub use serving::serves;
 
 #[cfg(test)]

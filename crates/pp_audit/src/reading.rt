@@ -10,6 +10,7 @@ ghost use Rattle.pp_traffic.specs.Life as lives;
 ghost use Rattle.pp_traffic.specs.Plain.{is_handshake};
 ghost use Rattle.pp_options.specs.Views.{options_of};
 ghost use Rattle.pp_wire.specs.Views.{message_of};
+ghost use Rattle.pp_audit.specs.Faults.{fault_from};
 ghost use Rattle.pp_audit.specs.Parts.{all, rest, StandsAt, first_shake, is_from};
 
 use pp_options::Options;
@@ -39,6 +40,7 @@ pub(crate) fn channel_of(bytes: &[u8]) -> Option<u32>
 pub(crate) fn first_place(bytes: &[u8]) -> usize
     ensures within { result ≤ length bytes.now }
     ensures all { (d : descriptors.Descriptor) → all d bytes.now ≡ rest d bytes.now result }
+    ensures fault { (d : descriptors.Descriptor) → (terms.datagram d.method d.chunk bytes.now).messages.fault ≡ fault_from d bytes.now result }
 {
     bytes.len().min(4)
 }
@@ -94,7 +96,7 @@ fn is_from<'m>(number: u32, message: &'m Message<'m>) -> bool
     }
 }
 
-fn is_handshake<'m>(message: &'m Message<'m>) -> bool
+pub(crate) fn is_handshake<'m>(message: &'m Message<'m>) -> bool
     ensures { result ≡ is_handshake (message_of message.now) }
 {
     match *message {

@@ -72,7 +72,8 @@ fn begins_as(descriptor: &Descriptor, bytes: &[u8], number: u32) -> bool
     }
 }
 
-fn is_fitting(descriptor: &Descriptor, is_reply: bool, options: &Options) -> bool
+/// Whether the options of a handshake fit the swarm.
+pub(crate) fn is_fitting(descriptor: &Descriptor, is_reply: bool, options: &Options) -> bool
     ensures { result ≡ lives.fits descriptor.now is_reply (options_of options.now) }
 {
     check(options, descriptor, is_reply).is_ok()

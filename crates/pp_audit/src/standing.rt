@@ -42,15 +42,15 @@ const NONE: Standing = Standing {
     found: false,
 };
 
-// Whether the chunk lies in the span.
-fn within(span: Span, chunk: u64) -> bool
+/// Whether the chunk lies in the span.
+pub(crate) fn within(span: Span, chunk: u64) -> bool
     ensures { result ≡ ranges.within (span_of span) chunk }
 {
     span.first <= chunk && chunk <= span.last
 }
 
-// The request of a chunk behind a message that came.
-fn asked_by<'m>(chunk: u64, choked: bool, message: &'m Message<'m>, asked: bool) -> bool
+/// The request of a chunk behind a message that came.
+pub(crate) fn asked_by<'m>(chunk: u64, choked: bool, message: &'m Message<'m>, asked: bool) -> bool
     ensures { result ≡ asking.asked_by chunk choked (message_of message.now) asked }
 {
     match *message {
@@ -60,8 +60,8 @@ fn asked_by<'m>(chunk: u64, choked: bool, message: &'m Message<'m>, asked: bool)
     }
 }
 
-// And behind one that was sent.
-fn asked_after<'m>(chunk: u64, message: &'m Message<'m>, asked: bool) -> bool
+/// And behind one that was sent.
+pub(crate) fn asked_after<'m>(chunk: u64, message: &'m Message<'m>, asked: bool) -> bool
     ensures { result ≡ asking.asked_after chunk (message_of message.now) asked }
 {
     match *message {
@@ -93,8 +93,8 @@ fn lands<'m>(chunk: u64, message: &'m Message<'m>) -> bool
     }
 }
 
-// Whether a choke stands behind a message that was sent.
-fn choked_by<'m>(message: &'m Message<'m>, choked: bool) -> bool
+/// Whether a choke stands behind a message of who chokes.
+pub(crate) fn choked_by<'m>(message: &'m Message<'m>, choked: bool) -> bool
     ensures { result ≡ asking.choked_by (message_of message.now) choked }
 {
     match *message {
@@ -176,8 +176,8 @@ fn say(
     standing
 }
 
-// Where the messages begin that came on the channel.
-fn heard_from<'m>(
+/// Where the messages begin that came on the channel.
+pub(crate) fn heard_from<'m>(
     descriptor: &Descriptor,
     life: Life,
     is_opening: bool,

@@ -16,8 +16,8 @@ const GREETING_TIME: u64 = 10_000_000;
 
 const SILENCE_TIME: u64 = 180_000_000;
 
-// The moment now behind an entry, by the one before it.
-fn now_after<'m>(now: u64, entry: &'m Entry<'m>) -> u64
+/// The moment now behind an entry, by the one before it.
+pub(crate) fn now_after<'m>(now: u64, entry: &'m Entry<'m>) -> u64
     ensures { (before : List Record) → now ≡ terms.now before → result ≡ terms.now (record_of entry.now ∷ before) }
 {
     match *entry {

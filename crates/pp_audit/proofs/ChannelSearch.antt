@@ -1,0 +1,174 @@
+-- The search for plain channels misses none, and counts none that isn't.
+use Rattle.std.proofs.Common.{◌≡◌, ⊎_elim, ℕ, eqb, leb, Bool, true, false, cond, not, ◌&&◌, ◌||◌, Option, Some, None, List, [], ◌∷◌, ◌++◌, length, refl, sym, ◌∙◌, ap, subst}
+use Rattle.std.specs.Prelude.{option_map}
+use Rattle.std.specs.List.{list_all}
+use Rattle.std.specs.Option.{option_map_or}
+use Rattle.std.proofs.lemmas.Bool.{and_parts, and_from, or_cases, or_left, or_right, cases_Bool, not_from_false, not_from_true, eqb-true, MatchBool-at_true, MatchBool-at_false, both_ways}
+use Rattle.pp_terms.specs.format.Traffic.{Address, Record, Received, Quiet, Sent}
+use Rattle.pp_terms.specs.format.Options.{Options}
+use Rattle.pp_terms.specs.format.Descriptor.{Descriptor}
+use Rattle.pp_traffic.specs.Past.{read, comes_from, goes_to, is_number, some_since}
+use Rattle.pp_traffic.specs.Life.{Life, fits, begins_as, begins_fitting, greets, answers}
+use Rattle.pp_traffic.specs.Places.{StandsFrom, StandsAt}
+use Rattle.pp_traffic.specs.Plain.{greets_once, first_since, IsPlainAnswer, IsPlainDial, IsPlainNow}
+use Rattle.pp_traffic.proofs.Standing.{found_at, found_since}
+use Rattle.pp_audit.specs.Parts.{first_shake}
+use Rattle.pp_audit.specs.PlainTests.{is_plain}
+use Rattle.pp_audit.specs.Channels.{answered_at, dialled_at, opened_by, replied_by, passes_reply, passes_replies, passes_opening, passes_openings, SearchFindsAll}
+use Rattle.pp_audit.proofs.Shakes.{begins_as_shake, begins_fitting_shake}
+use Rattle.pp_audit.proofs.PlainParts.{plain_is_tested}
+use Rattle.pp_audit.proofs.Addresses.{same_is}
+
+-- ---- what a handshake names
+
+-- The first message is a handshake of that source channel.
+record IsOf (number : ℕ) (shake : Option (ℕ × Options)) : Type 0 where
+  options : Options
+  is : shake ≡ Some (number, options)
+
+is_of : (number : ℕ) (shake : Option (ℕ × Options)) → option_map_or (λ x. eqb x.0 number) shake false ≡ true → IsOf number shake
+is_of number None e = absurd cc
+is_of number (Some x) e = record { options = x.1; is = ap (λ (n : ℕ). Some (n, x.1)) (eqb-true x.0 number e) }
+
+fits_of : (d : Descriptor) (is_reply : Bool) (number : ℕ) (shake : Option (ℕ × Options))
+    → option_map_or (λ x. eqb x.0 number && fits d is_reply x.1) shake false ≡ true → IsOf number shake
+fits_of d is_reply number None e = absurd cc
+fits_of d is_reply number (Some x) e = is_of number (Some x) (and_parts (eqb x.0 number) (fits d is_reply x.1) e).0
+
+greets_of : (d : Descriptor) (life : Life) (r : Record) → greets d life r ≡ true → (comes_from life.address r ≡ true) × IsOf life.remote (first_shake (read d r).messages.read)
+greets_of d life r e =
+    let here = comes_from life.address r in
+    let to = is_number (cond life.is_dialled life.local 0) (read d r).channel in
+    let begun = begins_fitting d life.is_dialled life.remote (read d r).messages.read in
+    let a = and_parts (here && to) begun e in
+    ((and_parts here to a.0).0,
+    fits_of d life.is_dialled life.remote (first_shake (read d r).messages.read) (sym (begins_fitting_shake d life.is_dialled life.remote (read d r).messages.read) ∙ a.1))
+
+answers_of : (d : Descriptor) (life : Life) (r : Record) → answers d life r ≡ true → (goes_to life.address r ≡ true) × IsOf life.local (first_shake (read d r).messages.read)
+answers_of d life r e =
+    let here = goes_to life.address r in
+    let to = is_number (cond life.is_dialled 0 life.remote) (read d r).channel in
+    let begun = begins_as life.local (read d r).messages.read in
+    let a = and_parts (here && to) begun e in
+    ((and_parts here to a.0).0,
+    is_of life.local (first_shake (read d r).messages.read) (sym (begins_as_shake life.local (read d r).messages.read) ∙ a.1))
+
+-- ---- the channel that it opens
+
+opened_answered : (d : Descriptor) (a : Address) (remote place : ℕ) (r : Record) → comes_from a r ≡ true → IsOf remote (first_shake (read d r).messages.read)
+    → opened_by d place r ≡ Some (answered_at a remote place)
+opened_answered d a remote place (Received at sender bytes) from shaken =
+    ap (λ (o : Option (ℕ × Options)). option_map (λ x. answered_at sender x.0 place) o) shaken.is
+    ∙ ap (λ (b : Address). Some (answered_at b remote place)) (same_is sender a from)
+opened_answered d a remote place (Quiet at) from shaken = absurd cc
+opened_answered d a remote place (Sent moment receiver bytes) from shaken = absurd cc
+
+opened_dialled : (d : Descriptor) (a : Address) (local place : ℕ) (r : Record) → goes_to a r ≡ true → IsOf local (first_shake (read d r).messages.read)
+    → opened_by d place r ≡ Some (dialled_at a local place)
+opened_dialled d a local place (Received at sender bytes) to shaken = absurd cc
+opened_dialled d a local place (Quiet at) to shaken = absurd cc
+opened_dialled d a local place (Sent moment receiver bytes) to shaken =
+    ap (λ (o : Option (ℕ × Options)). option_map (λ x. dialled_at receiver x.0 place) o) shaken.is
+    ∙ ap (λ (b : Address). Some (dialled_at b local place)) (same_is receiver a to)
+
+-- ---- each that is tried passes
+
+all_at : (test : Record → Bool) (after : List Record) (r : Record) (before : List Record) → list_all test (after ++ r ∷ before) ≡ true → test r ≡ true
+all_at test [] r before e = (and_parts (test r) (list_all test before) e).0
+all_at test (x ∷ after) r before e = all_at test after r before (and_parts (test x) (list_all test (after ++ r ∷ before)) e).1
+
+opening_at : (test : Life → Bool) (d : Descriptor) (past after : List Record) (r : Record) (before : List Record) → passes_openings test d past (after ++ r ∷ before) ≡ true
+    → passes_opening test d past (length before) r ≡ true
+opening_at test d past [] r before e = (and_parts (passes_opening test d past (length before) r) (passes_openings test d past before) e).0
+opening_at test d past (x ∷ after) r before e =
+    opening_at test d past after r before (and_parts (passes_opening test d past (length (after ++ r ∷ before)) x) (passes_openings test d past (after ++ r ∷ before)) e).1
+
+-- a channel that one record opens and another replies to
+tried : (test : Life → Bool) (d : Descriptor) (past : List Record) (life : Life) (number : ℕ) (passes replies : Record → Bool) (place since : ℕ)
+    → passes_openings test d past past ≡ true → (o : StandsAt passes place past) → opened_by d place o.here ≡ Some life
+    → (s : StandsFrom replies since past) → IsOf number (first_shake (read d s.here).messages.read)
+    → test (replied_by life number) ≡ true
+tried test d past life number passes replies place since e o opened s shaken =
+    let here : passes_opening test d past place o.here ≡ true =
+    ap (λ (n : ℕ). passes_opening test d past n o.here) (sym o.place)
+    ∙ opening_at test d past o.after o.here o.before (subst (λ (rs : List Record). passes_openings test d past rs ≡ true) o.split e) in
+    let each : passes_replies test d life past ≡ true = ap (λ (x : Option Life). option_map_or (λ l. passes_replies test d l past) x true) (sym opened) ∙ here in
+    ap (λ (x : Option (ℕ × Options)). option_map_or (λ y. test (replied_by life y.0)) x true) (sym shaken.is)
+    ∙ all_at (passes_reply test d life) s.after s.here s.before (subst (λ (rs : List Record). list_all (passes_reply test d life) rs ≡ true) s.split each)
+
+-- ---- a plain channel is tried
+
+stands_first : (which test : Record → Bool) (place : ℕ) (past : List Record) → first_since which test place past ≡ true → some_since test place past ≡ true
+stands_first which test place [] e = absurd cc
+stands_first which test place (r ∷ past) e = by (some_since which place past) (λ f. stands_first which test place past f) e
+  where
+    by : (b : Bool) → (first_since which test place past ≡ true → some_since test place past ≡ true) → cond b (first_since which test place past) (leb place (length past) && which r && test r) ≡ true
+        → ((leb place (length past) && test r) || some_since test place past) ≡ true
+    by true more f = or_right (leb place (length past) && test r) (some_since test place past) (more f)
+    by false more f =
+        let a = and_parts (leb place (length past) && which r) (test r) f in
+        or_left (leb place (length past) && test r) (some_since test place past)
+        (and_from (leb place (length past)) (test r) (and_parts (leb place (length past)) (which r) a.0).0 a.1)
+
+tried_answer : (test : Life → Bool) (d : Descriptor) (past : List Record) (life : Life) → life.is_dialled ≡ false → IsPlainAnswer d life past
+    → passes_openings test d past past ≡ true → test life ≡ true
+tried_answer test d past life answered is e =
+    let o = found_at (greets_once d life) life.opening past is.opened in
+    let hello = greets_of d life o.here (and_parts (greets d life o.here) _ o.passes).0 in
+    let s = found_since (answers d life) life.opening past (stands_first (goes_to life.address) (answers d life) life.opening past is.replied) in
+    let reply = answers_of d life s.here s.passes in
+    ap (λ (b : Bool). test (record { address = life.address; local = life.local; remote = life.remote; is_dialled = b; opening = life.opening })) answered
+    ∙ tried test d past (answered_at life.address life.remote life.opening) life.local (greets_once d life) (answers d life) life.opening life.opening e o
+    (opened_answered d life.address life.remote life.opening o.here hello.0 hello.1) s reply.1
+
+tried_dial : (test : Life → Bool) (d : Descriptor) (past : List Record) (life : Life) → life.is_dialled ≡ true → IsPlainDial d life past past
+    → passes_openings test d past past ≡ true → test life ≡ true
+tried_dial test d past life dialled is e =
+    let o = found_at (answers d life) life.opening past is.opened in
+    let hello = answers_of d life o.here o.passes in
+    let s = found_since (greets d life) 0 past (stands_first (comes_from life.address) (greets d life) 0 past is.replied) in
+    let reply = greets_of d life s.here s.passes in
+    ap (λ (b : Bool). test (record { address = life.address; local = life.local; remote = life.remote; is_dialled = b; opening = life.opening })) dialled
+    ∙ tried test d past (dialled_at life.address life.local life.opening) life.remote (answers d life) (greets d life) life.opening 0 e o
+    (opened_dialled d life.address life.local life.opening o.here hello.0 hello.1) s reply.1
+
+tried_plain : (test : Life → Bool) (d : Descriptor) (past : List Record) (life : Life) → IsPlainNow d life past → passes_openings test d past past ≡ true → test life ≡ true
+tried_plain test d past life plain e = ⊎_elim
+    (λ dialled. tried_dial test d past life dialled (MatchBool-at_true (IsPlainDial d life past past) (IsPlainAnswer d life past) dialled plain.begins) e)
+    (λ answered. tried_answer test d past life answered (MatchBool-at_false (IsPlainDial d life past past) (IsPlainAnswer d life past) answered plain.begins) e)
+    (cases_Bool life.is_dialled)
+
+-- ---- where all pass, the search says so
+
+replies_pass : (test : Life → Bool) (d : Descriptor) (life : Life) → ((l : Life) → test l ≡ true) → (past : List Record) → passes_replies test d life past ≡ true
+replies_pass test d life all [] = refl
+replies_pass test d life all (r ∷ past) =
+    and_from (passes_reply test d life r) (passes_replies test d life past) (by (first_shake (read d r).messages.read)) (replies_pass test d life all past)
+  where
+    by : (o : Option (ℕ × Options)) → option_map_or (λ x. test (replied_by life x.0)) o true ≡ true
+    by None = refl
+    by (Some x) = all (replied_by life x.0)
+
+openings_pass : (test : Life → Bool) (d : Descriptor) (past : List Record) → ((l : Life) → test l ≡ true) → (rs : List Record) → passes_openings test d past rs ≡ true
+openings_pass test d past all [] = refl
+openings_pass test d past all (r ∷ rs) =
+    and_from (passes_opening test d past (length rs) r) (passes_openings test d past rs) (by (opened_by d (length rs) r)) (openings_pass test d past all rs)
+  where
+    by : (o : Option Life) → option_map_or (λ life. passes_replies test d life past) o true ≡ true
+    by None = refl
+    by (Some life) = replies_pass test d life all past
+
+pub search_finds_all : SearchFindsAll
+search_finds_all test d past = (
+  λ e life plain.
+      ⊎_elim
+      (λ other. absurd (both_ways (not (is_plain d life past)) (not_from_true (is_plain d life past) ((plain_is_tested d life past).1 plain)) other))
+      (λ passes. passes)
+      (or_cases (not (is_plain d life past)) (test life) (tried_plain (λ l. not (is_plain d l past) || test l) d past life plain e)),
+  λ all.
+      openings_pass (λ l. not (is_plain d l past) || test l) d past
+      (λ life. ⊎_elim
+      (λ plain. or_right (not (is_plain d life past)) (test life) (all life ((plain_is_tested d life past).0 plain)))
+      (λ other. or_left (not (is_plain d life past)) (test life) (not_from_false (is_plain d life past) other))
+      (cases_Bool (is_plain d life past))) past,
+)

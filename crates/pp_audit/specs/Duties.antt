@@ -1,0 +1,25 @@
+-- What is to be so of each plain channel, as tests.
+use Rattle.std.specs.Prelude.{nat_le, Bool, not, ◌||◌, List}
+use Rattle.pp_terms.specs.format.Traffic.{Record}
+use Rattle.pp_terms.specs.format.Descriptor.{Descriptor}
+use Rattle.pp_traffic.specs.Past.{now}
+use Rattle.pp_traffic.specs.Life.{Life}
+use Rattle.pp_traffic.specs.Asking.{is_heard}
+use Rattle.pp_promises.specs.Answered.{wrote_lately}
+use Rattle.pp_promises.specs.Announced.{fewest_new, new_count}
+use Rattle.pp_audit.specs.Asks.{may_be_served}
+use Rattle.pp_audit.specs.Debts.{leaves_few}
+use Rattle.pp_audit.specs.declared.debts.Debt.TheVariants as debts
+use Rattle.pp_audit.specs.PlainTests.{is_plain}
+use Rattle.pp_audit.specs.declared.duties.Duty.{Duty}
+use Rattle.pp_audit.specs.declared.duties.Duty.TheVariants as duties
+
+abbrev pub duty_of : Duty → Descriptor → List Record → Life → Bool
+duty_of duties.KeepsUp d past life = wrote_lately d life (now past) past
+duty_of (duties.Serves refusals stood) d past life = not (may_be_served d past life) || leaves_few refusals debts.Owed stood.now d past life
+duty_of (duties.Tells stood) d past life =
+    not (is_heard d life past) || (leaves_few 0 debts.Untold stood.now d past life || nat_le fewest_new (new_count d life past))
+
+-- so of a channel that is plain
+abbrev pub is_done : Duty → Descriptor → List Record → Life → Bool
+is_done duty d past life = not (is_plain d life past) || duty_of duty d past life

@@ -1,0 +1,79 @@
+//! What is to be so of each plain channel.
+
+ghost use Rattle.std.specs.Prelude.{◌≡◌, ◌||◌, not, nat_le};
+ghost use Rattle.pp_traffic.specs.Asking as asking;
+ghost use Rattle.pp_promises.specs.Announced as announced;
+ghost use Rattle.pp_audit.specs.Entries.{past, life_of};
+ghost use Rattle.pp_audit.specs.Asks.{may_be_served};
+ghost use Rattle.pp_audit.specs.Debts as terms;
+ghost use Rattle.pp_audit.specs.declared.debts.Debt.TheVariants as debts;
+ghost use Rattle.pp_audit.specs.Duties.{duty_of, is_done};
+
+use crate::asking::is_heard;
+use crate::asks::may_be_served;
+use crate::debts::{Debt, leaves_few};
+use crate::entry::{Entry, Life};
+use crate::plain::is_plain;
+use crate::silence::keeps_up;
+use crate::telling::tells_many;
+use pp_tree::Descriptor;
+
+/// What is asked of a channel.
+#[derive(Clone, Copy)]
+pub(crate) enum Duty<'a> {
+    /// It was written to lately.
+    KeepsUp,
+    /// Where it may be served, at most so many chunks are owed. Which chunks stood from the start.
+    Serves(u64, &'a [bool]),
+    /// Its peer, once it has written, was told of all that was announced in earlier turns and all that stood from the start, or
+    /// of many new chunks in the last turn.
+    Tells(&'a [bool]),
+}
+
+// Whether at most so many chunks are owed, where the channel may be served.
+fn serves<'m>(
+    refusals: u64,
+    stood: &[bool],
+    descriptor: &Descriptor,
+    life: Life,
+    entries: &'m [Entry<'m>],
+) -> bool
+    ensures { result ≡ (not (may_be_served descriptor.now (past entries.now) (life_of life))
+        || terms.leaves_few refusals debts.Owed stood.now descriptor.now (past entries.now) (life_of life)) }
+{
+    !may_be_served(descriptor, life, entries)
+        || leaves_few(refusals, Debt::Owed, stood, descriptor, life, entries)
+}
+
+// Whether the peer was told of all, or of many new chunks, once it has written.
+fn tells<'m>(stood: &[bool], descriptor: &Descriptor, life: Life, entries: &'m [Entry<'m>]) -> bool
+    ensures { result ≡ (not (asking.is_heard descriptor.now (life_of life) (past entries.now))
+        || (terms.leaves_few 0 debts.Untold stood.now descriptor.now (past entries.now) (life_of life)
+        || nat_le announced.fewest_new (announced.new_count descriptor.now (life_of life) (past entries.now)))) }
+{
+    !is_heard(descriptor, life, entries)
+        || leaves_few(0, Debt::Untold, stood, descriptor, life, entries)
+        || tells_many(descriptor, life, entries)
+}
+
+fn does<'d, 'm>(duty: Duty<'d>, descriptor: &Descriptor, life: Life, entries: &'m [Entry<'m>]) -> bool
+    ensures { result ≡ duty_of duty.entry descriptor.now (past entries.now) (life_of life) }
+{
+    match duty {
+        Duty::KeepsUp => keeps_up(descriptor, life, entries),
+        Duty::Serves(refusals, stood) => serves(refusals, stood, descriptor, life, entries),
+        Duty::Tells(stood) => tells(stood, descriptor, life, entries),
+    }
+}
+
+/// Whether it is so of the channel, where that is plain.
+pub(crate) fn is_done<'d, 'm>(
+    duty: Duty<'d>,
+    descriptor: &Descriptor,
+    life: Life,
+    entries: &'m [Entry<'m>],
+) -> bool
+    ensures { result ≡ is_done duty.entry descriptor.now (past entries.now) (life_of life) }
+{
+    !is_plain(descriptor, life, entries) || does(duty, descriptor, life, entries)
+}
