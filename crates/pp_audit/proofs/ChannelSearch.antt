@@ -40,18 +40,20 @@ greets_of d life r e =
     let here = comes_from life.address r in
     let to = is_number (cond life.is_dialled life.local 0) (read d r).channel in
     let begun = begins_fitting d life.is_dialled life.remote (read d r).messages.read in
-    let a = and_parts (here && to) begun e in
-    ((and_parts here to a.0).0,
-    fits_of d life.is_dialled life.remote (first_shake (read d r).messages.read) (sym (begins_fitting_shake d life.is_dialled life.remote (read d r).messages.read) ∙ a.1))
+    let a = and_parts (here && to) begun e in (
+      (and_parts here to a.0).0,
+      fits_of d life.is_dialled life.remote (first_shake (read d r).messages.read) (sym (begins_fitting_shake d life.is_dialled life.remote (read d r).messages.read) ∙ a.1),
+    )
 
 answers_of : (d : Descriptor) (life : Life) (r : Record) → answers d life r ≡ true → (goes_to life.address r ≡ true) × IsOf life.local (first_shake (read d r).messages.read)
 answers_of d life r e =
     let here = goes_to life.address r in
     let to = is_number (cond life.is_dialled 0 life.remote) (read d r).channel in
     let begun = begins_as life.local (read d r).messages.read in
-    let a = and_parts (here && to) begun e in
-    ((and_parts here to a.0).0,
-    is_of life.local (first_shake (read d r).messages.read) (sym (begins_as_shake life.local (read d r).messages.read) ∙ a.1))
+    let a = and_parts (here && to) begun e in (
+      (and_parts here to a.0).0,
+      is_of life.local (first_shake (read d r).messages.read) (sym (begins_as_shake life.local (read d r).messages.read) ∙ a.1),
+    )
 
 -- ---- the channel that it opens
 

@@ -1,10 +1,11 @@
 -- Numbers that pass a test, counted run by run, and what few of them are.
-use Rattle.std.proofs.Common.{◌≡◌, ◌↔◌, ◌⊎◌, inl, inr, ⊎_elim, ℕ, zero, suc, ◌+◌, ◌-◌, ◌<◌, ◌≤◌, leb, eqb, Bool, true, false, cond, ◌||◌, Option, Some, None, List, [], ◌∷◌, length, refl, sym, ◌∙◌, ap, subst, arith}
+use Rattle.std.proofs.Common.{◌≡◌, ◌↔◌, ◌⊎◌, inl, inr, ⊎_elim, ℕ, zero, suc, ◌+◌, ◌-◌, ◌<◌, ◌≤◌, leb, eqb, Bool, true, false, cond, ◌&&◌, ◌||◌, Option, Some, None, List, [], ◌∷◌, ◌++◌, length, refl, sym, ◌∙◌, ap, subst, arith}
 use Rattle.std.specs.Prelude.{is_some, MatchOption}
-use Rattle.std.specs.List.{list_any, sum_by, count_by, range_with_len, IsDistinct, AllByRecursion}
+use Rattle.std.specs.List.{list_any, list_all, sum_by, count_by, range_with_len, IsDistinct, AllByRecursion}
 use Rattle.std.proofs.lemmas.Bool.{or_cases, or_left, or_right, eqb-true, eq-eqb, cases_eq, cases_lt, both_ways, false_from_ne_true, le-leb, lt-leb}
 use Rattle.std.proofs.lemmas.List.{map-id}
-use Rattle.std.proofs.lemmas.List.FromFn.{sum_by-map-range_with_len_more}
+use Rattle.std.proofs.lemmas.List.FromFn.{sum_by-map-range_with_len_more, map-range_with_len_more}
+use Rattle.std.proofs.lemmas.List.Folds.{list_all-append}
 use Rattle.std.proofs.lemmas.Cmp.{nat_eq_equiv}
 use Rattle.std.proofs.lemmas.Map.Made.{length-le_from_is_member}
 use Rattle.pp_traffic.specs.Turns.{AtMost}
@@ -124,8 +125,11 @@ turned i (x ∷ xs) = ap (λ (b : Bool). b || list_any (λ k. eqb k i) xs) (nat_
 pub at_most_by : (test : ℕ → Bool) (P : ℕ → Type 0) (n r : ℕ) → ((i : ℕ) → (test i ≡ true) ↔ P i) → ((i : ℕ) → n ≤ i → test i ≡ false)
     → (counted test n ≤ r) ↔ AtMost r P
 at_most_by test P n r iff none = (
-  λ le. (listed test n, omega (arith, le, length-listed test n),
-  λ i p. turned i (listed test n) ∙ of_listed test n i (below i ((iff i).1 p)) ((iff i).1 p)),
+  λ le. (
+    listed test n,
+    omega (arith, le, length-listed test n),
+    λ i p. turned i (listed test n) ∙ of_listed test n i (below i ((iff i).1 p)) ((iff i).1 p),
+  ),
   λ few.
       let within : length (listed test n) ≤ length few.0 =
       length-le_from_is_member nat_eq_equiv (listed test n) few.0 (once_listed test n)
@@ -173,3 +177,20 @@ count_range test n count more so_far here =
     ∙ sym (ap (λ (xs : List ℕ). sum_by g xs) (sym (map-id (range_with_len 0 (n + 1))))
     ∙ sum_by-map-range_with_len_more g (λ x. x) 0 n n (omega arith)
     ∙ ap (λ (xs : List ℕ). sum_by g xs + g n) (map-id (range_with_len 0 n)))
+
+swap : (x y : Bool) → (x && y) ≡ (y && (x && true))
+swap true true = refl
+swap true false = refl
+swap false true = refl
+swap false false = refl
+
+-- a test of all the first numbers
+pub all_more : (test : ℕ → Bool) (n : ℕ) (new all : Bool) → new ≡ test n → all ≡ list_all test (range_with_len 0 n) → (new && all) ≡ list_all test (range_with_len 0 (n + 1))
+all_more test n new all here so_far =
+    let more : range_with_len 0 (n + 1) ≡ range_with_len 0 n ++ n ∷ [] =
+    sym (map-id (range_with_len 0 (n + 1))) ∙ map-range_with_len_more (λ x. x) 0 n n (omega arith) ∙ ap (λ (xs : List ℕ). xs ++ n ∷ []) (map-id (range_with_len 0 n)) in
+    swap new all
+    ∙ ap (λ (b : Bool). b && (new && true)) so_far
+    ∙ ap (λ (b : Bool). list_all test (range_with_len 0 n) && (b && true)) here
+    ∙ sym (list_all-append test (range_with_len 0 n) (n ∷ []))
+    ∙ ap (λ (xs : List ℕ). list_all test xs) (sym more)

@@ -79,7 +79,7 @@ head_same x y xs ys e = cc
 
 pub event_is : (xs : List Entry) (x : Entry) → (t : IsTurn (past xs) (turn_start (past xs))) → turn_start (past xs) ≤ length xs
     → x ≡ get_or xs (turn_start (past xs) - 1) x → record_of x ≡ t.event
-event_is xs x t le is = 
+event_is xs x t le is =
     let n = turn_start (past xs) in
     head_same (record_of x) t.event (first (n - 1) xs) (earlier (past xs))
     (sym (one_more xs (n - 1) x (omega (arith, t.place, le)) is)

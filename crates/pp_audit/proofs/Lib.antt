@@ -25,3 +25,5 @@ pub mod DebtRuns
 pub mod Sayings
 pub mod Askings
 pub mod ServedTests
+pub mod Offerings
+pub mod AskedTests

@@ -69,9 +69,11 @@ once d past (x ∷ xs) = by (once d past xs) (missed d past x) (list_any (same_a
   where
     by : IsDistinct same_address (misses d past xs) → (m b : Bool) → list_any (same_address x) xs ≡ b
         → IsDistinct same_address (cond (m && not b) (x ∷ misses d past xs) (misses d past xs))
-    by more true false is_b =
-        (all_other x (misses d past xs) (false_from_ne_true (list_any (same_address x) (misses d past xs))
-        (λ e. both_ways (list_any (same_address x) xs) is_b (given_of d past x xs e).1)), more)
+    by more true false is_b = (
+      all_other x (misses d past xs) (false_from_ne_true (list_any (same_address x) (misses d past xs))
+          (λ e. both_ways (list_any (same_address x) xs) is_b (given_of d past x xs e).1)),
+      more,
+    )
     by more true true is_b = more
     by more false b is_b = more
 

@@ -139,10 +139,14 @@ told_all d h stood is past life =
           (or_cases few many e),
       λ tells. ⊎_elim
           (λ new. or_right few many new)
-          (λ other. or_left few many (exact.1 ([], omega arith, λ i untold. ⊎_elim
-          (λ told. absurd (both_ways (is_told_of i (story d life past)) untold.1 told))
-          (λ new. let lt = leb-false fewest_new (new_count d life past) other in absurd (omega (arith, new, lt)))
-          (tells i untold.0))))
+          (λ other. or_left few many (exact.1 (
+            [],
+            omega arith,
+            λ i untold. ⊎_elim
+                (λ told. absurd (both_ways (is_told_of i (story d life past)) untold.1 told))
+                (λ new. let lt = leb-false fewest_new (new_count d life past) other in absurd (omega (arith, new, lt)))
+                (tells i untold.0),
+          )))
           (cases_Bool many),
     )
 

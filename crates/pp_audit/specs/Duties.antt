@@ -10,6 +10,7 @@ use Rattle.pp_promises.specs.Announced.{fewest_new, new_count}
 use Rattle.pp_audit.specs.Asks.{may_be_served}
 use Rattle.pp_audit.specs.Debts.{leaves_few}
 use Rattle.pp_audit.specs.declared.debts.Debt.TheVariants as debts
+use Rattle.pp_audit.specs.Offers.{may_be_asked, asks_offered}
 use Rattle.pp_audit.specs.PlainTests.{is_plain}
 use Rattle.pp_audit.specs.declared.duties.Duty.{Duty}
 use Rattle.pp_audit.specs.declared.duties.Duty.TheVariants as duties
@@ -19,6 +20,7 @@ duty_of duties.KeepsUp d past life = wrote_lately d life (now past) past
 duty_of (duties.Serves refusals stood) d past life = not (may_be_served d past life) || leaves_few refusals debts.Owed stood.now d past life
 duty_of (duties.Tells stood) d past life =
     not (is_heard d life past) || (leaves_few 0 debts.Untold stood.now d past life || nat_le fewest_new (new_count d life past))
+duty_of (duties.Asks held) d past life = not (may_be_asked d past life) || asks_offered held.now d past life
 
 -- so of a channel that is plain
 abbrev pub is_done : Duty → Descriptor → List Record → Life → Bool

@@ -20,7 +20,11 @@ pub(crate) enum Clause<'a> {
 }
 
 /// Whether it is so.
-pub(crate) fn is_kept<'c, 'm>(clause: Clause<'c>, descriptor: &Descriptor, entries: &'m [Entry<'m>]) -> bool
+pub(crate) fn is_kept<'c, 'm>(
+    clause: Clause<'c>,
+    descriptor: &Descriptor,
+    entries: &'m [Entry<'m>],
+) -> bool
     ensures { result ≡ clause_of clause.entry descriptor.now (past entries.now) }
 {
     match clause {

@@ -38,12 +38,7 @@ pub(crate) fn stands(stood: &[bool], chunk: u64) -> bool
 
 // Whether a HAVE of the chunk was sent on the channel.
 #[tactic(auto, using(crate::proofs::Sayings::told_of_said))]
-fn is_told_of<'m>(
-    descriptor: &Descriptor,
-    life: Life,
-    entries: &'m [Entry<'m>],
-    chunk: u64,
-) -> bool
+fn is_told_of<'m>(descriptor: &Descriptor, life: Life, entries: &'m [Entry<'m>], chunk: u64) -> bool
     ensures { result ≡ announced.is_told_of chunk (story descriptor.now (life_of life) (past entries.now)) }
 {
     has_said(Sort::HaveOf(chunk), descriptor, life, entries)

@@ -6,6 +6,7 @@ ghost use Rattle.pp_promises.specs.Announced as announced;
 ghost use Rattle.pp_audit.specs.Entries.{past, life_of};
 ghost use Rattle.pp_audit.specs.Asks.{may_be_served};
 ghost use Rattle.pp_audit.specs.Debts as terms;
+ghost use Rattle.pp_audit.specs.Offers.{may_be_asked, asks_offered};
 ghost use Rattle.pp_audit.specs.declared.debts.Debt.TheVariants as debts;
 ghost use Rattle.pp_audit.specs.Duties.{duty_of, is_done};
 
@@ -13,6 +14,7 @@ use crate::asking::is_heard;
 use crate::asks::may_be_served;
 use crate::debts::{Debt, leaves_few};
 use crate::entry::{Entry, Life};
+use crate::offers::{asks_offered, may_be_asked};
 use crate::plain::is_plain;
 use crate::silence::keeps_up;
 use crate::telling::tells_many;
@@ -28,6 +30,8 @@ pub(crate) enum Duty<'a> {
     /// Its peer, once it has written, was told of all that was announced in earlier turns and all that stood from the start, or
     /// of many new chunks in the last turn.
     Tells(&'a [bool]),
+    /// Where it may be asked, each chunk that it offers was asked for, or is held. Which chunks are.
+    Asks(&'a [bool]),
 }
 
 // Whether at most so many chunks are owed, where the channel may be served.
@@ -56,13 +60,27 @@ fn tells<'m>(stood: &[bool], descriptor: &Descriptor, life: Life, entries: &'m [
         || tells_many(descriptor, life, entries)
 }
 
-fn does<'d, 'm>(duty: Duty<'d>, descriptor: &Descriptor, life: Life, entries: &'m [Entry<'m>]) -> bool
+// Whether each chunk that is offered was asked for or is held, where the channel may be asked.
+fn asks<'m>(held: &[bool], descriptor: &Descriptor, life: Life, entries: &'m [Entry<'m>]) -> bool
+    ensures { result ≡ (not (may_be_asked descriptor.now (past entries.now) (life_of life))
+        || asks_offered held.now descriptor.now (past entries.now) (life_of life)) }
+{
+    !may_be_asked(descriptor, life, entries) || asks_offered(held, descriptor, life, entries)
+}
+
+fn does<'d, 'm>(
+    duty: Duty<'d>,
+    descriptor: &Descriptor,
+    life: Life,
+    entries: &'m [Entry<'m>],
+) -> bool
     ensures { result ≡ duty_of duty.entry descriptor.now (past entries.now) (life_of life) }
 {
     match duty {
         Duty::KeepsUp => keeps_up(descriptor, life, entries),
         Duty::Serves(refusals, stood) => serves(refusals, stood, descriptor, life, entries),
         Duty::Tells(stood) => tells(stood, descriptor, life, entries),
+        Duty::Asks(held) => asks(held, descriptor, life, entries),
     }
 }
 

@@ -32,7 +32,11 @@ fn fails_at<'c, 'm>(
 }
 
 // How many of the turns but the last do.
-fn failing_before<'c, 'm>(clause: Clause<'c>, descriptor: &Descriptor, entries: &'m [Entry<'m>]) -> usize
+fn failing_before<'c, 'm>(
+    clause: Clause<'c>,
+    descriptor: &Descriptor,
+    entries: &'m [Entry<'m>],
+) -> usize
     ensures { result ≡ failing_before (clause_of clause.entry descriptor.now) (past entries.now) }
 {
     let mut count = 0;

@@ -4,6 +4,7 @@
 
 mod announced;
 mod answered;
+mod asked;
 mod asking;
 mod asks;
 mod carrying;
@@ -40,6 +41,7 @@ mod turns;
 
 pub use announced::tells_all;
 pub use answered::{chokes_none, keeps_up_but, lets_in_but};
+pub use asked::asks_but;
 pub use asking::{is_asked, is_choked, is_heard, is_told};
 pub use datagrams::{are_whole, closes_last, requests_none};
 pub use dialling::dials_but;

@@ -72,7 +72,12 @@ fn asks_for<'m>(descriptor: &Descriptor, chunk: u64, entry: &'m Entry<'m>) -> bo
     match *entry {
         Entry::Received { .. } | Entry::Quiet { .. } => false,
         Entry::Sent { bytes, .. } => {
-            has_sort(Sort::RequestOf(chunk), descriptor, bytes, first_place(bytes))
+            has_sort(
+                Sort::RequestOf(chunk),
+                descriptor,
+                bytes,
+                first_place(bytes),
+            )
         }
     }
 }

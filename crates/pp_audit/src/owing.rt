@@ -53,12 +53,7 @@ pub(crate) fn is_announced<'m>(
 }
 
 // Whether requests of the chunk don't count behind these entries: the peer is choked, or the chunk wasn't announced.
-fn is_barred<'m>(
-    descriptor: &Descriptor,
-    life: Life,
-    chunk: u64,
-    entries: &'m [Entry<'m>],
-) -> bool
+fn is_barred<'m>(descriptor: &Descriptor, life: Life, chunk: u64, entries: &'m [Entry<'m>]) -> bool
     ensures { result ≡ (choked (story descriptor.now (life_of life) (past entries.now)) || not (terms.is_announced descriptor.now chunk (past entries.now))) }
 {
     is_choked(descriptor, life, entries) || !is_announced(descriptor, chunk, entries)

@@ -24,5 +24,10 @@ pub fn serves_but<'m>(
     ensures { (h : History) → ((i : ℕ) → (slice_index_or stood.now i false ≡ true) ↔ StoodThroughout descriptor.now h i)
         → IsTrue result ↔ ServesBut refusals descriptor.now (window_of descriptor.now) h (past entries.now) }
 {
-    fails_few(Clause::Each(Duty::Serves(refusals, stood)), refusals, descriptor, entries)
+    fails_few(
+        Clause::Each(Duty::Serves(refusals, stood)),
+        refusals,
+        descriptor,
+        entries,
+    )
 }

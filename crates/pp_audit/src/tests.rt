@@ -32,7 +32,7 @@ fn content(alloc: Global) -> Result<Vec<u8>, AllocError>
 }
 
 /// A handshake of 64 bytes, for a channel and from one.
-fn handshake(channel: u32, source: u32, root: &Digest) -> [u8; 64] {
+pub(super) fn handshake(channel: u32, source: u32, root: &Digest) -> [u8; 64] {
     let mut bytes = [
         0, 0, 0, 0, 0, 0, 0, 0, 0, 0, 1, 1, 1, 2, 0, 0x20, 0, 0, 0, 0, 0, 0, 0, 0, 0, 0, 0, 0, 0,
         0, 0, 0, 0, 0, 0, 0, 0, 0, 0, 0, 0, 0, 0, 0, 0, 0, 0, 0, 3, 1, 4, 2, 6, 2, 8, 2, 0xfe,
@@ -99,7 +99,7 @@ fn went<'m>(to: Address, bytes: &'m [u8]) -> Entry<'m> {
     }
 }
 
-fn swarm(alloc: Global) -> Result<Descriptor, Fail> {
+pub(super) fn swarm(alloc: Global) -> Result<Descriptor, Fail> {
     let content = content(alloc)?;
     let root = root_of(alloc, &content, 1024)?;
     let descriptor = Descriptor::new(root, 1024, 7000, Method::Range32);

@@ -15,7 +15,11 @@ use pp_tree::Descriptor;
 fn end_after<'m>(descriptor: &Descriptor, entry: &'m Entry<'m>, next: usize, end: usize) -> usize
     ensures { result ≡ (if is_closing descriptor.now (record_of entry.now) then end else next) }
 {
-    if is_closing(descriptor, entry) { end } else { next }
+    if is_closing(descriptor, entry) {
+        end
+    } else {
+        next
+    }
 }
 
 /// The entries of the turns: without the closing handshakes behind the last one.
