@@ -27,3 +27,5 @@ pub mod Askings
 pub mod ServedTests
 pub mod Offerings
 pub mod AskedTests
+pub mod BatchTests
+pub mod KeptTurnRuns

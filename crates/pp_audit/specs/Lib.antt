@@ -19,3 +19,5 @@ pub mod Debts
 pub mod Said
 pub mod Asks
 pub mod Offers
+pub mod Batches
+pub mod KeptTurns

@@ -7,6 +7,7 @@ mod answered;
 mod asked;
 mod asking;
 mod asks;
+mod batches;
 mod carrying;
 mod channels;
 mod clauses;
@@ -17,6 +18,7 @@ mod duties;
 mod ends;
 mod entry;
 mod flying;
+mod laws;
 mod lives;
 mod marks;
 mod newcomers;
@@ -43,10 +45,12 @@ pub use announced::tells_all;
 pub use answered::{chokes_none, keeps_up_but, lets_in_but};
 pub use asked::asks_but;
 pub use asking::{is_asked, is_choked, is_heard, is_told};
+pub use batches::{Batch, Pending, commits_in_time};
 pub use datagrams::{are_whole, closes_last, requests_none};
 pub use dialling::dials_but;
 pub use entry::{Entry, Life};
 pub use flying::fewer_than_two;
+pub use laws::kept_turns;
 pub use lives::is_life;
 pub use path::completes;
 pub use plain::is_plain;
@@ -54,5 +58,7 @@ pub use searching::answers_peer;
 pub use served::serves_but;
 pub use serving::serves;
 
+#[cfg(test)]
+mod life_tests;
 #[cfg(test)]
 mod tests;
