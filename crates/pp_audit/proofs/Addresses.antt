@@ -1,10 +1,10 @@
 -- One address is one.
-use Rattle.std.proofs.Common.{◌≡◌, ℕ, eqb, Bool, true, false, List, refl, sym, ◌∙◌, ap, subst}
+use Rattle.std.proofs.Common.{◌≡◌, ℕ, eqb, true, List, refl, sym, ◌∙◌, ap, subst}
 use Rattle.std.specs.Cmp.{IsEquivalence}
 use Rattle.std.specs.Prelude.{nat_eq}
 use Rattle.std.specs.Cmp.Lexicographic.{pointwise, same_text}
 use Rattle.std.proofs.lemmas.Bool.{and_parts, and_from, eqb-true, eq-eqb}
-use Rattle.pp_terms.proofs.Facts.{bytes_same}
+use Rattle.pp_terms.proofs.Facts.{bytes_same, same_bool}
 use Rattle.pp_terms.specs.format.Traffic.{Address, V4, V6, same_address}
 
 pub same_is : (a b : Address) → same_address a b ≡ true → a ≡ b
@@ -24,15 +24,9 @@ same_self (V6 bytes port) = and_from (pointwise nat_eq bytes bytes) (eqb port po
 pub same_from : (a b : Address) → a ≡ b → same_address a b ≡ true
 same_from a b e = subst (λ (x : Address). same_address a x ≡ true) e (same_self a)
 
--- two tests that each give the other
-both_true : (x y : Bool) → (x ≡ true → y ≡ true) → (y ≡ true → x ≡ true) → x ≡ y
-both_true true y to from = sym (to refl)
-both_true false true to from = from refl
-both_true false false to from = refl
-
 pub same_equiv : IsEquivalence same_address
 same_equiv = record {
   refl = same_self;
-  symm = λ a b. both_true (same_address a b) (same_address b a) (λ e. same_from b a (sym (same_is a b e))) (λ e. same_from a b (sym (same_is b a e)));
+  symm = λ a b. same_bool (same_address a b) (same_address b a) (λ e. same_from b a (sym (same_is a b e))) (λ e. same_from a b (sym (same_is b a e)));
   congr = λ a b c e. ap (λ (x : Address). same_address x c) (same_is a b e);
 }

@@ -6,13 +6,8 @@ use Rattle.std.proofs.Math.Bool.{beq}
 use Rattle.std.specs.List.{list_any, list_all, range_with_len}
 use Rattle.std.proofs.lemmas.Bool.{lt-leb, and_parts, and_from}
 use Rattle.pp_promises.specs.Batches.{Pending, Batch, most_pending, longest_wait, is_late, is_full, is_due, with_puts, with_all_pending}
+use Rattle.pp_audit.proofs.Sayings.{swap}
 use Rattle.pp_audit.specs.Batches as tests
-
-swap : (x y z : Bool) → (x || (y || z)) ≡ ((y || x) || z)
-swap true true z = refl
-swap true false z = refl
-swap false true z = refl
-swap false false z = refl
 
 abbrev put : ℕ → ℕ → Pending
 put now i = record { chunk = i; put_at = now }

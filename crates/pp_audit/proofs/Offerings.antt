@@ -9,6 +9,7 @@ use Rattle.pp_traffic.specs.Past as traffic
 use Rattle.pp_traffic.specs.Life.{Life}
 use Rattle.pp_traffic.specs.Story.{Line, Heard, Said, Taken, hear, say, heard_in, said_in, told, story}
 use Rattle.pp_promises.specs.OwnSide.{has_in, is_offered, is_choked_by_peer, is_old, has_old_request, waiting_time}
+use Rattle.pp_audit.proofs.Sayings.{swap}
 use Rattle.pp_audit.specs.Sorts.{is_request}
 use Rattle.pp_audit.specs.Offers.{brought, has_heard, chokes_after, chokes_since, asked_long}
 
@@ -18,12 +19,6 @@ by_opening place at X inside outside = ⊎_elim
     (λ lt. let e = lt-leb at place lt in subst (λ (b : Bool). X b) (sym e) (outside e lt))
     (λ le. let e = le-leb at place le in subst (λ (b : Bool). X b) (sym e) (inside e))
     (cases_lt place at)
-
-swap : (x y z : Bool) → (x || (y || z)) ≡ ((y || x) || z)
-swap true true z = refl
-swap true false z = refl
-swap false true z = refl
-swap false false z = refl
 
 -- ---- what came
 

@@ -25,7 +25,7 @@ hears_none : (test : Message → Bool) (now : ℕ) (ms : List Message) (lines : 
 hears_none test now [] lines = refl
 hears_none test now (m ∷ ms) lines = hears_none test now ms (Heard now m ∷ lines)
 
-swap : (x y z : Bool) → (x || (y || z)) ≡ ((y || x) || z)
+pub swap : (x y z : Bool) → (x || (y || z)) ≡ ((y || x) || z)
 swap true true z = refl
 swap true false z = refl
 swap false true z = refl

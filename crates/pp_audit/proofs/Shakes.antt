@@ -6,11 +6,12 @@ use Rattle.pp_terms.specs.format.Descriptor.{Descriptor}
 use Rattle.pp_terms.specs.format.Messages.{Message, Handshake, Data, Ack, Have, Integrity, Pex4, PexReq, Request, Cancel, Choke, Unchoke, Pex6}
 use Rattle.pp_traffic.specs.Life.{fits, begins, begins_as, begins_fitting, closes}
 use Rattle.pp_traffic.specs.Story.{behind}
+use Rattle.pp_promises.specs.Answered.{is_of}
 use Rattle.pp_wire.specs.Views.{message_of}
 use Rattle.pp_wire.specs.declared.message.Message as code
 use Rattle.pp_wire.specs.declared.message.Message.TheVariants as variants
 use Rattle.pp_options.specs.declared.value.Options as written
-use Rattle.pp_audit.specs.Parts.{shake_of, first_shake, is_from}
+use Rattle.pp_audit.specs.Parts.{shake_of, first_shake}
 
 -- by the first message
 pub begins_shake : (ms : List Message) → begins ms ≡ is_some (first_shake ms)
@@ -61,7 +62,7 @@ begins_fitting_shake d is_reply number (Unchoke ∷ ms) = refl
 begins_fitting_shake d is_reply number (Pex6 address port ∷ ms) = refl
 
 -- one that closes
-pub closes-more : (m : Message) (ms : List Message) → closes (m ∷ ms) ≡ (is_from 0 m || closes ms)
+pub closes-more : (m : Message) (ms : List Message) → closes (m ∷ ms) ≡ (is_of 0 m || closes ms)
 closes-more (Handshake source options) ms = refl
 closes-more (Data chunk sent_at bytes) ms = refl
 closes-more (Ack span delay) ms = refl
@@ -76,7 +77,7 @@ closes-more Unchoke ms = refl
 closes-more (Pex6 address port) ms = refl
 
 -- those behind one
-pub behind-more : (number : ℕ) (m : Message) (ms : List Message) → behind number (m ∷ ms) ≡ cond (is_from number m) ms (behind number ms)
+pub behind-more : (number : ℕ) (m : Message) (ms : List Message) → behind number (m ∷ ms) ≡ cond (is_of number m) ms (behind number ms)
 behind-more number (Handshake source options) ms = refl
 behind-more number (Data chunk sent_at bytes) ms = refl
 behind-more number (Ack span delay) ms = refl

@@ -16,7 +16,7 @@ IsAlike i j (Request span) = within span i ≡ within span j
 IsAlike i j (Cancel span) = within span i ≡ within span j
 IsAlike i j _ = Unit {0}
 
--- So does each message of a datagram, and of a traffic.
+-- Each message of a datagram names both or neither, and each of a traffic.
 abbrev pub AreAlikeIn : Descriptor → (i j : ℕ) → Record → Type 0
 AreAlikeIn d i j r = AllByRecursion (IsAlike i j) (read d r).messages.read
 

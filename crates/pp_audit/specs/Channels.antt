@@ -34,14 +34,14 @@ replied_by life number = record {
   opening = life.opening;
 }
 
--- each passes the test, whichever handshake replies
+-- a channel passes the test, whichever handshake replies
 abbrev pub passes_reply : (Life → Bool) → Descriptor → Life → Record → Bool
 passes_reply test d life r = option_map_or (λ x. test (replied_by life x.0)) (first_shake (read d r).messages.read) true
 
 abbrev pub passes_replies : (Life → Bool) → Descriptor → Life → List Record → Bool
 passes_replies test d life past = list_all (passes_reply test d life) past
 
--- and whichever opens it
+-- a channel passes the test, whichever handshake opens it, and whichever replies
 abbrev pub passes_opening : (Life → Bool) → Descriptor → List Record → ℕ → Record → Bool
 passes_opening test d past place r = option_map_or (λ life. passes_replies test d life past) (opened_by d place r) true
 

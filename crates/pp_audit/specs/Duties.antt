@@ -22,6 +22,6 @@ duty_of (duties.Tells stood) d past life =
     not (is_heard d life past) || (leaves_few 0 debts.Untold stood.now d past life || nat_le fewest_new (new_count d life past))
 duty_of (duties.Asks held) d past life = not (may_be_asked d past life) || asks_offered held.now d past life
 
--- so of a channel that is plain
+-- a plain channel passes the test of a duty
 abbrev pub is_done : Duty → Descriptor → List Record → Life → Bool
 is_done duty d past life = not (is_plain d life past) || duty_of duty d past life

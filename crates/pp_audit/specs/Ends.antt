@@ -12,7 +12,7 @@ abbrev pub failing_before : (List Record → Bool) → List Record → ℕ
 failing_before test [] = 0
 failing_before test (r ∷ before) = failing_before test before + fails_at test r before
 
--- It fails at the ends of at most so many turns.
+-- A test fails at the ends of at most so many turns.
 abbrev pub fails_few : ℕ → (List Record → Bool) → List Record → Bool
 fails_few r test turns = nat_le (failing_before test turns + (if test turns then 0 else 1)) r
 

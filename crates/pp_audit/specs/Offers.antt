@@ -49,7 +49,8 @@ may_be_asked d past life = is_heard d life past && not (is_choked_by_peer (story
     && not (has_old_request (now past) (story d life past)) && nat_lt (named_count (chunks_of d) (story d life past)) most_outstanding
 
 abbrev pub is_asked_for : List Bool → Descriptor → List Record → Life → ℕ → Bool
-is_asked_for held d past life i = not (is_offered i (story d life past)) || (list_any (asks_for d i) past || slice_index_or held i false)
+is_asked_for held d past life i =
+    not (is_offered i (story d life past)) || (list_any (asks_for d i) past || slice_index_or held i false)
 
 abbrev pub asks_offered : List Bool → Descriptor → List Record → Life → Bool
 asks_offered held d past life = list_all (is_asked_for held d past life) (range_with_len 0 (chunks_of d))

@@ -1,5 +1,5 @@
 -- The messages of a datagram, from a place of it on, and what its handshakes say.
-use Rattle.std.specs.Prelude.{◌≡◌, ℕ, ◌<◌, ◌≤◌, ◌==◌, Bool, false, Option, Some, None, List, [], ◌∷◌, length, drop}
+use Rattle.std.specs.Prelude.{◌≡◌, ℕ, ◌<◌, ◌≤◌, Option, Some, None, List, [], ◌∷◌, length, drop}
 use Rattle.pp_terms.specs.format.Descriptor.{Descriptor}
 use Rattle.pp_terms.specs.format.Options.{Options}
 use Rattle.pp_terms.specs.format.Messages.{Message, Handshake, messages_at, datagram}
@@ -26,8 +26,3 @@ shake_of _ = None
 abbrev pub first_shake : List Message → Option (ℕ × Options)
 first_shake [] = None
 first_shake (m ∷ ms) = shake_of m
-
--- it is a handshake of that source channel
-abbrev pub is_from : ℕ → Message → Bool
-is_from number (Handshake source options) = source == number
-is_from number _ = false

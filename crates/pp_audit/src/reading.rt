@@ -8,10 +8,11 @@ ghost use Rattle.pp_terms.specs.format.Descriptor as descriptors;
 ghost use Rattle.pp_traffic.specs.Story as stories;
 ghost use Rattle.pp_traffic.specs.Life as lives;
 ghost use Rattle.pp_traffic.specs.Plain.{is_handshake};
+ghost use Rattle.pp_promises.specs.Answered.{is_of};
 ghost use Rattle.pp_options.specs.Views.{options_of};
 ghost use Rattle.pp_wire.specs.Views.{message_of};
 ghost use Rattle.pp_audit.specs.Faults.{fault_from};
-ghost use Rattle.pp_audit.specs.Parts.{all, rest, StandsAt, first_shake, is_from};
+ghost use Rattle.pp_audit.specs.Parts.{all, rest, StandsAt, first_shake};
 
 use pp_options::Options;
 use pp_tree::Descriptor;
@@ -86,9 +87,9 @@ pub(crate) fn first_shake<'a>(
     }
 }
 
-// Whether it is a handshake of that source channel.
-fn is_from<'m>(number: u32, message: &'m Message<'m>) -> bool
-    ensures { result ≡ is_from number (message_of message.now) }
+/// Whether it is a handshake of that source channel.
+pub(crate) fn is_from<'m>(number: u32, message: &'m Message<'m>) -> bool
+    ensures { result ≡ is_of number (message_of message.now) }
 {
     match *message {
         Message::Handshake { source, .. } => source == number,

@@ -5,12 +5,12 @@ ghost use Rattle.std.specs.List.{list_any};
 ghost use Rattle.pp_traffic.specs.Plain.{is_handshake};
 ghost use Rattle.pp_promises.specs.OwnSide.{has_in, names_in};
 ghost use Rattle.pp_promises.specs.Announced as announced;
-ghost use Rattle.pp_promises.specs.Answered.{is_choke, is_of};
+ghost use Rattle.pp_promises.specs.Answered.{is_choke};
 ghost use Rattle.pp_wire.specs.Views.{message_of};
 ghost use Rattle.pp_audit.specs.Parts.{rest};
 ghost use Rattle.pp_audit.specs.Sorts.{is_request, announces_in, sort_of};
 
-use crate::reading::{is_handshake, message_at};
+use crate::reading::{is_from, is_handshake, message_at};
 use crate::standing::within;
 use pp_options::Options;
 use pp_tree::Descriptor;
@@ -31,15 +31,6 @@ pub(crate) enum Sort {
     DataOf(u64),
     /// An ACK or a HAVE of a chunk.
     NewsOf(u64),
-}
-
-fn is_from<'m>(number: u32, message: &'m Message<'m>) -> bool
-    ensures { result ≡ is_of number (message_of message.now) }
-{
-    match *message {
-        Message::Handshake { source, .. } => source == number,
-        _ => false,
-    }
 }
 
 fn is_choke<'m>(message: &'m Message<'m>) -> bool
