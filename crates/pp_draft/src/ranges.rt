@@ -1,18 +1,20 @@
 //! Messages of a range of chunks: one for each name that the method has for a part of it.
 
-ghost use Rattle.std.specs.Prelude.{◌≡◌, ◌^◌, ◌<◌, ◌≤◌, map, length};
+ghost use Rattle.std.specs.Prelude.{◌≡◌, ◌⊎◌, ◌^◌, ◌<◌, ◌≤◌, map, length};
 ghost use Rattle.std.specs.List.{AllByRecursion};
 ghost use Rattle.pp_terms.specs.tree.Range.{IsLeastCover, leaves_of};
+ghost use Rattle.pp_terms.specs.format.Descriptor.{Bin32, Bin64};
 ghost use Rattle.pp_tree.specs.Node.{node_of};
-ghost use Rattle.pp_wire.specs.Views.{span_of, message_of};
+ghost use Rattle.pp_wire.specs.Put.{CanPut, NamesChunks};
+ghost use Rattle.pp_wire.specs.Views.{naming, span_of};
 ghost use Rattle.pp_draft.specs.Notes.{NamesRange};
-ghost use Rattle.pp_draft.specs.Puts.{Puts, message_for, message_at, IsLow};
+ghost use Rattle.pp_draft.specs.Puts.{Puts, PutsOne, message_for, message_at, IsLow};
 
 use crate::message::put_message;
 use arrayvec::ArrayVec;
 use pp_ranges::{ChunkRange, cover};
 use pp_tree::{Descriptor, Method, Node};
-use pp_wire::{Message, Span};
+use pp_wire::{ChunkKind, Message, Span, put_named};
 
 /// What is said of chunks.
 #[derive(Clone, Copy)]
@@ -23,14 +25,43 @@ pub(crate) enum Kind {
     Cancel,
 }
 
-fn message<'d>(kind: Kind, span: Span) -> Message<'d>
-    ensures { message_of result ≡ message_for kind (span_of span) }
+// Puts a message that names chunks alone.
+fn put_alone(
+    kind: ChunkKind,
+    span: Span,
+    descriptor: &Descriptor,
+    out: &mut [u8],
+    at: usize,
+) -> Option<usize>
+    requires within { at ≤ length out.old }
+    requires can { CanPut descriptor.now.method (naming kind (span_of span)) }
+    requires named { NamesChunks descriptor.now.method (naming kind (span_of span)) }
+    ensures { PutsOne descriptor.now (naming kind (span_of span)) out.old at result out.new }
+{
+    match put_named(kind, span, descriptor.method(), out, at) {
+        Ok(end) => Some(end),
+        Err(_) => None,
+    }
+}
+
+// Puts what is said of chunks.
+fn put_kind(
+    kind: Kind,
+    span: Span,
+    descriptor: &Descriptor,
+    out: &mut [u8],
+    at: usize,
+) -> Option<usize>
+    requires within { at ≤ length out.old }
+    requires can { CanPut descriptor.now.method (message_for kind (span_of span)) }
+    requires named { NamesChunks descriptor.now.method (message_for kind (span_of span)) }
+    ensures { PutsOne descriptor.now (message_for kind (span_of span)) out.old at result out.new }
 {
     match kind {
-        Kind::Ack { delay } => Message::Ack { span, delay },
-        Kind::Have => Message::Have { span },
-        Kind::Request => Message::Request { span },
-        Kind::Cancel => Message::Cancel { span },
+        Kind::Ack { delay } => put_message(&Message::Ack { span, delay }, descriptor, out, at),
+        Kind::Have => put_alone(ChunkKind::Have, span, descriptor, out, at),
+        Kind::Request => put_alone(ChunkKind::Request, span, descriptor, out, at),
+        Kind::Cancel => put_alone(ChunkKind::Cancel, span, descriptor, out, at),
     }
 }
 
@@ -67,7 +98,7 @@ fn put_cover(
 {
     let mut end = at;
     for node in nodes {
-        match put_message(&message(kind, leaves(*node)), descriptor, out, end) {
+        match put_kind(kind, leaves(*node), descriptor, out, end) {
             Some(next) => end = next,
             None => return None,
         }
@@ -85,6 +116,23 @@ fn bins(range: ChunkRange) -> ArrayVec<Node, 64>
     cover(range)
 }
 
+// The messages of a range by bins. It is apart since it needs a large frame, and ranges none.
+#[inline(never)]
+fn put_bins(
+    kind: Kind,
+    range: ChunkRange,
+    descriptor: &Descriptor,
+    out: &mut [u8],
+    at: usize,
+) -> Option<usize>
+    requires within { at ≤ length out.old }
+    requires inside { range.last < 2 ^ 20 }
+    requires method { (descriptor.now.method ≡ Bin32) ⊎ (descriptor.now.method ≡ Bin64) }
+    ensures { Puts descriptor.now (λ ms. NamesRange descriptor.now.method range (message_for kind) ms) out.old at result out.new }
+{
+    put_cover(kind, &bins(range), descriptor, out, at)
+}
+
 /// Puts the messages of a range, where they have room together, and answers the place behind them.
 pub(crate) fn put_range(
     kind: Kind,
@@ -98,9 +146,7 @@ pub(crate) fn put_range(
     ensures { Puts descriptor.now (λ ms. NamesRange descriptor.now.method range (message_for kind) ms) out.old at result out.new }
 {
     match descriptor.method() {
-        Method::Range32 | Method::Range64 => {
-            put_message(&message(kind, span(range)), descriptor, out, at)
-        }
-        Method::Bin32 | Method::Bin64 => put_cover(kind, &bins(range), descriptor, out, at),
+        Method::Range32 | Method::Range64 => { put_kind(kind, span(range), descriptor, out, at) }
+        Method::Bin32 | Method::Bin64 => put_bins(kind, range, descriptor, out, at),
     }
 }

@@ -24,6 +24,11 @@ then_put old one two at end a b one-is end-is fits two-is =
     two-is ∙ ap (λ (x : List ℕ). placed x end b) one-is ∙ ap (λ (k : ℕ). placed (placed old at a) k b) end-is
     ∙ placed-twice old at a b fits
 
+-- a byte and a field
+pub two_put : (old one two : List ℕ) (at end kind : ℕ) (text : List ℕ) → one ≡ placed old at (kind ∷ []) → end ≡ at + 1 → at + (1 + length text) ≤ length old → two ≡ placed one end text
+    → two ≡ placed old at (kind ∷ text)
+two_put old one two at end kind text one-is end-is fits two-is = then_put old one two at end (kind ∷ []) text one-is end-is (omega arith) two-is
+
 regroup : (kind : ℕ) (a b c : List ℕ) → ((kind ∷ a) ++ b) ++ c ≡ kind ∷ (a ++ (b ++ c))
 regroup kind a b c = ap (λ (t : List ℕ). kind ∷ t) (append_assoc a b c)
 

@@ -6,6 +6,8 @@ use Rattle.pp_options.specs.Views.{options_of, fault_of}
 use Rattle.pp_wire.specs.declared.message.Span.{Span}
 use Rattle.pp_wire.specs.declared.message.Message.{Message}
 use Rattle.pp_wire.specs.declared.message.Message.TheVariants.{Handshake, Data, Ack, Have, Integrity, Pex4, PexReq, Request, Cancel, Choke, Unchoke, Pex6}
+use Rattle.pp_wire.specs.declared.message.ChunkKind.{ChunkKind}
+use Rattle.pp_wire.specs.declared.message.ChunkKind.TheVariants as named
 use Rattle.pp_wire.specs.declared.message.WireKind.{WireKind}
 use Rattle.pp_wire.specs.declared.message.WireKind.TheVariants as kinds
 use Rattle.pp_wire.specs.declared.message.Step.{Step}
@@ -28,6 +30,12 @@ message_of (Cancel span) = plain.Cancel (span_of span)
 message_of Choke = plain.Choke
 message_of Unchoke = plain.Unchoke
 message_of (Pex6 address port) = plain.Pex6 address port
+
+-- the message that names chunks alone
+abbrev pub naming : ChunkKind → ranges.Span → plain.Message
+naming named.Have span = plain.Have span
+naming named.Request span = plain.Request span
+naming named.Cancel span = plain.Cancel span
 
 abbrev pub kind_of : WireKind → plain.WireKind
 kind_of kinds.Short = plain.Short

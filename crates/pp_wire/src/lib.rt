@@ -10,9 +10,9 @@ mod types;
 mod writing;
 
 pub use laws::{one_datagram, one_message, worked_messages};
-pub use message::{Message, PutFault, Span, Step, WireFault, WireKind};
+pub use message::{ChunkKind, Message, PutFault, Span, Step, WireFault, WireKind};
 pub use reading::next;
-pub use writing::{put, put_head};
+pub use writing::{put, put_head, put_named};
 
 #[cfg(test)]
 mod tests;

@@ -65,6 +65,14 @@ pub enum Message<'a> {
     },
 }
 
+/// What a message says that names chunks and has no other field.
+#[derive(Clone, Copy, Debug, PartialEq, Eq)]
+pub enum ChunkKind {
+    Have,
+    Request,
+    Cancel,
+}
+
 /// Why bytes don't begin with a message: where several apply, the first of them in the order UnknownType, Short, Range,
 /// Wide, Options.
 #[derive(Clone, Copy, Debug, PartialEq, Eq)]
