@@ -43,7 +43,8 @@ pub record HasFront (d : Descriptor) (x : Delivery) (end : ℕ) (out : List ℕ)
   pub within : end ≤ length out
   pub text : take end out ≡ datagram_text d.method x.to.channel (hashes_of x) ++ data_head d.method x.chunk x.sent_at
   pub stand : AllByRecursion (Stands d) (hashes_of x)
-  pub spelt : (bytes : List ℕ) → 0 < length bytes → IsSpelt d.method (Data x.chunk x.sent_at bytes) (data_head d.method x.chunk x.sent_at ++ bytes)
+  pub spelt : (bytes : List ℕ) → 0 < length bytes
+      → IsSpelt d.method (Data x.chunk x.sent_at bytes) (data_head d.method x.chunk x.sent_at ++ bytes)
 
 -- The first bytes of a buffer, so many, are the datagram; the chunk's are what the reader gave, of which `read` holds.
 pub record IsFetched (d : Descriptor) (x : Delivery) (read : List ℕ → Type 0) (end : ℕ) (out : List ℕ) : Type 0 where
@@ -70,7 +71,7 @@ pub record PostsChunk (d : Descriptor) (x : Delivery) (read : List ℕ → Type 
   pub written : IsDatagram d x.to.channel (delivers x bytes) datagram
   pub goes : does datagram
 
--- It was sent or refused; or the chunk wasn't read, and then nothing was sent.
+-- A chunk was sent, or refused; or it wasn't read, and then nothing was sent.
 abbrev pub Delivers : Descriptor → Delivery → (Answer → List ℕ → Type 0) → Type 0 → (List ℕ → Bool → Type 0) → Result Bool Unread → Type 0
 Delivers d x reads unsent does (Ok sent) = PostsChunk d x (reads (Ok tt)) (λ datagram. does datagram sent)
 Delivers d x reads unsent does (Err why) = ((bytes : List ℕ) × reads (Err why) bytes) × unsent
