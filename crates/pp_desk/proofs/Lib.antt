@@ -1,0 +1,5 @@
+pub mod Splits
+pub mod Saying
+pub mod Delivering
+pub mod Serving
+pub mod Following

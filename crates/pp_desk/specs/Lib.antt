@@ -1,0 +1,4 @@
+pub mod Steps
+pub mod Delivers
+pub mod Chunks
+pub mod Laws
