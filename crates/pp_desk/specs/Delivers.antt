@@ -49,7 +49,7 @@ pub record DeliversOne (w : Way) (b : Batch) (old new : At) : Type 0 where
   pub seat : Follow w.now old.so_far.set_back b.sent b.notes old.seat new.seat
   pub count : new.so_far ≡ counted b.sent b.notes old.so_far
 
--- So went one datagram after the other.
+-- Datagrams were sent or refused, one after the other.
 abbrev pub DeliversEach : Way → List Batch → At → At → Type 0
 DeliversEach w [] old new = new ≡ old
 DeliversEach w (b ∷ bs) old new = (mid : At) × DeliversOne w b old mid × DeliversEach w bs mid new

@@ -34,7 +34,7 @@ abbrev pub backs_of : List Batch → ℕ
 backs_of [] = 0
 backs_of (b ∷ bs) = back_by b.sent b.notes + backs_of bs
 
--- so many times the cursor was set back
+-- what was lost, once the cursor was set back so many times more
 abbrev pub set_back : ℕ → Lost → Lost
 set_back times lost = record { chunks = lost.chunks; haves = lost.haves + times }
 

@@ -56,7 +56,8 @@ IsAfter now back Choke old new = new ≡ record old { list = []; slot = false; c
 IsAfter now back Unchoke old new =
     (old.choked ≡ true → new ≡ record old { slot = true; choked = false; owes = false }) × (old.choked ≡ false → new ≡ old)
 IsAfter now back (Have range) old new = Moves back (range.last + 1) old new
-IsAfter now back (Request range) old new = (new ≡ record old { own = new.own }) × (CanAsk range old.own → AsksAll range now old.own new.own)
+IsAfter now back (Request range) old new =
+    (new ≡ record old { own = new.own }) × (CanAsk range old.own → AsksAll range now old.own new.own)
 IsAfter now back (Cancel range) old new =
     (new ≡ record old { own = new.own }) × ((i : ℕ) → asked_at new.own i ≡ (if within range i then None else asked_at old.own i))
 IsAfter now back PexReq old new = new ≡ record old { question = Some now }

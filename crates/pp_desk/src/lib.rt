@@ -22,3 +22,6 @@ pub fn laws_of_deliveries()
     ensures reads { RecordsAreRead }
     ensures compose { DeliveriesCompose }
 {}
+
+#[cfg(test)]
+mod tests;
