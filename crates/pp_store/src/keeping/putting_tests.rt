@@ -25,6 +25,37 @@ fn byte(j: u32) -> u8 {
     ((5 + 7 * j + j / 256 + j / 65_536) % 256) as u8
 }
 
+fn prepared(alloc: Global, descriptor: &Descriptor) -> Result<Book, Fail>
+    ensures alone { IfOk result (λ book. HasRootAlone descriptor.now (entry book)) }
+    ensures descriptor { IfOk result (λ book. book.descriptor ≡ Some descriptor.now) }
+{
+    let mut book = Book::empty(alloc);
+    book.prepare(alloc, descriptor)?;
+    Ok(book)
+}
+
+// Opens the store; what the tests need of it is little, and a longer context costs the prover minutes.
+fn opened<D: Disk>(
+    alloc: Global,
+    descriptor: &Descriptor,
+    disk: &mut D,
+    book: &mut Book,
+) -> Result<Store, Fail>
+    requires alone { HasRootAlone descriptor.now (entry book.old) }
+    requires descriptor { book.old.descriptor ≡ Some descriptor.now }
+    ensures same { IfOk result (λ store. store.descriptor ≡ descriptor.now) }
+    ensures rooted { IsRooted descriptor.now (entry book.new) }
+{
+    Ok(Store::open(alloc, descriptor, disk, book)?)
+}
+
+// Commits. Whether the store is live and the disk refused no call.
+fn commits<D: Disk>(store: &mut Store, disk: &mut D) -> bool
+    ensures same { store.new.descriptor ≡ store.old.descriptor }
+{
+    store.is_live() && store.commit(disk).is_ok()
+}
+
 fn make_swarm(alloc: Global, chunk: u32, size: usize) -> Result<Swarm, Fail>
     requires { IsChunkSize chunk }
 {
@@ -35,9 +66,8 @@ fn make_swarm(alloc: Global, chunk: u32, size: usize) -> Result<Swarm, Fail>
     let size = size.min(content.len());
     let mut disk = MemoryDisk::new(alloc, &[])?;
     let descriptor = import(chunk, &mut MemorySource::new(&content[..size]), &mut disk)?;
-    let mut known = Book::empty(alloc);
-    known.prepare(alloc, &descriptor)?;
-    let _ = Store::open(alloc, &descriptor, &mut disk, &mut known)?;
+    let mut known = prepared(alloc, &descriptor)?;
+    opened(alloc, &descriptor, &mut disk, &mut known)?;
     Ok(Swarm { descriptor, known })
 }
 
@@ -130,7 +160,7 @@ fn put_all<D: Disk>(
     alloc: Global,
     swarm: &Swarm,
     count: u32,
-    commits: bool,
+    committing: bool,
     store: &mut Store,
     book: &mut Book,
     disk: &mut D,
@@ -144,20 +174,11 @@ fn put_all<D: Disk>(
         if put_chunk(alloc, swarm, i, store, book, disk)?.is_none() {
             return Ok(false);
         }
-        if commits && i % 2 == 0 && store.is_live() && store.commit(disk).is_err() {
+        if committing && i % 2 == 0 && !commits(store, disk) {
             return Ok(false);
         }
     }
     Ok(true)
-}
-
-fn prepared(alloc: Global, descriptor: &Descriptor) -> Result<Book, Fail>
-    ensures alone { IfOk result (λ book. HasRootAlone descriptor.now (entry book)) }
-    ensures descriptor { IfOk result (λ book. book.descriptor ≡ Some descriptor.now) }
-{
-    let mut book = Book::empty(alloc);
-    book.prepare(alloc, descriptor)?;
-    Ok(book)
 }
 
 #[test]
@@ -166,7 +187,7 @@ fn a_chunk_is_stored_once(rt: HostRuntime) -> Result<(), Fail> {
     let swarm = seven_chunks(alloc)?;
     let mut disk = MemoryDisk::new(alloc, &[])?;
     let mut book = prepared(alloc, &swarm.descriptor)?;
-    let mut store = Store::open(alloc, &swarm.descriptor, &mut disk, &mut book)?;
+    let mut store = opened(alloc, &swarm.descriptor, &mut disk, &mut book)?;
     let put = put_chunk(alloc, &swarm, 0, &mut store, &mut book, &mut disk)?;
     assert_eq!(rt; put, Some(Put::Stored));
     // The chunk, three pairs on its way, and two of nodes that aren't full: (1,3) and (2,1).
@@ -174,8 +195,7 @@ fn a_chunk_is_stored_once(rt: HostRuntime) -> Result<(), Fail> {
     assert_eq!(rt; (store.pending(), store.committed().count()), (1, 0));
     let put = put_chunk(alloc, &swarm, 0, &mut store, &mut book, &mut disk)?;
     assert_eq!(rt; put, Some(Put::Held));
-    assert!(rt; store.is_live());
-    store.commit(&mut disk)?;
+    assert!(rt; commits(&mut store, &mut disk));
     assert_eq!(rt; (store.pending(), store.committed().count()), (0, 1));
     Ok(())
 }
@@ -192,7 +212,7 @@ fn other_bytes_are_refused(rt: HostRuntime) -> Result<(), Fail> {
     let swarm = seven_chunks(alloc)?;
     let mut disk = MemoryDisk::new(alloc, &[])?;
     let mut book = prepared(alloc, &swarm.descriptor)?;
-    let mut store = Store::open(alloc, &swarm.descriptor, &mut disk, &mut book)?;
+    let mut store = opened(alloc, &swarm.descriptor, &mut disk, &mut book)?;
     let mut bytes = bytes_of(1024, 0);
     let none = Claims::new(alloc)?;
     // The last chunk has 856 bytes.
@@ -212,7 +232,7 @@ fn other_bytes_are_refused(rt: HostRuntime) -> Result<(), Fail> {
     let kept = Digest::new(<[u8; 32]>::from_hex(PEAK)?);
     assert_eq!(rt; put, Some(Put::Wrong { node, found, kept }));
     // Nothing was written behind the header.
-    assert!(rt; disk.bytes()[64..].iter().all(|byte| *byte == 0));
+    assert!(rt; disk.bytes().iter().skip(64).all(|byte| *byte == 0));
     assert_eq!(rt; store.pending(), 0);
     Ok(())
 }
@@ -223,11 +243,11 @@ fn a_crash_loses_what_is_pending(rt: HostRuntime) -> Result<(), Fail> {
     let swarm = seven_chunks(alloc)?;
     let mut disk = MemoryDisk::new(alloc, &[])?;
     let mut book = prepared(alloc, &swarm.descriptor)?;
-    let mut store = Store::open(alloc, &swarm.descriptor, &mut disk, &mut book)?;
+    let mut store = opened(alloc, &swarm.descriptor, &mut disk, &mut book)?;
     put_chunk(alloc, &swarm, 0, &mut store, &mut book, &mut disk)?;
     disk.crash(2);
     let mut book = prepared(alloc, &swarm.descriptor)?;
-    let mut store = Store::open(alloc, &swarm.descriptor, &mut disk, &mut book)?;
+    let mut store = opened(alloc, &swarm.descriptor, &mut disk, &mut book)?;
     assert_eq!(rt; store.committed().count(), 0);
     let put = put_chunk(alloc, &swarm, 0, &mut store, &mut book, &mut disk)?;
     assert_eq!(rt; put, Some(Put::Stored));
@@ -239,7 +259,7 @@ fn a_crash_loses_what_is_pending(rt: HostRuntime) -> Result<(), Fail> {
 fn survives(alloc: Global, swarm: &Swarm, calls: u32, pick: u64) -> Result<bool, Fail> {
     let mut disk = MemoryDisk::new(alloc, &[])?;
     let mut book = prepared(alloc, &swarm.descriptor)?;
-    let mut store = Store::open(alloc, &swarm.descriptor, &mut disk, &mut book)?;
+    let mut store = opened(alloc, &swarm.descriptor, &mut disk, &mut book)?;
     let mut disk = StoppingDisk {
         inner: disk,
         left: calls,
@@ -250,7 +270,7 @@ fn survives(alloc: Global, swarm: &Swarm, calls: u32, pick: u64) -> Result<bool,
     }
     disk.inner.crash(pick);
     let mut book = prepared(alloc, &swarm.descriptor)?;
-    let again = Store::open(alloc, &swarm.descriptor, &mut disk.inner, &mut book)?;
+    let again = opened(alloc, &swarm.descriptor, &mut disk.inner, &mut book)?;
     for i in 0..7 {
         if store.committed().first_from(i) == Some(i)
             && again.committed().first_from(i) != Some(i)
@@ -280,17 +300,15 @@ fn two_syncs_commit_many(rt: HostRuntime) -> Result<(), Fail> {
     let swarm = seventy_chunks(alloc)?;
     let mut disk = MemoryDisk::new(alloc, &[])?;
     let mut book = prepared(alloc, &swarm.descriptor)?;
-    let mut store = Store::open(alloc, &swarm.descriptor, &mut disk, &mut book)?;
+    let mut store = opened(alloc, &swarm.descriptor, &mut disk, &mut book)?;
     let before = disk.moment();
     let done = put_all(alloc, &swarm, 64, false, &mut store, &mut book, &mut disk)?;
     assert!(rt; done);
     assert_eq!(rt; (store.pending(), disk.moment()), (64, before));
-    assert!(rt; store.is_live());
-    store.commit(&mut disk)?;
-    assert_eq!(rt; disk.moment(), before + 2);
+    assert!(rt; commits(&mut store, &mut disk));
+    assert_eq!(rt; disk.moment().checked_sub(before), Some(2));
     assert_eq!(rt; (store.pending(), store.committed().count()), (0, 64));
-    assert!(rt; store.is_live());
-    store.commit(&mut disk)?;
-    assert_eq!(rt; disk.moment(), before + 2);
+    assert!(rt; commits(&mut store, &mut disk));
+    assert_eq!(rt; disk.moment().checked_sub(before), Some(2));
     Ok(())
 }
