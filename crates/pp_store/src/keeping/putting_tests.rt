@@ -181,6 +181,47 @@ fn put_all<D: Disk>(
     Ok(true)
 }
 
+// A store of the swarm on a new disk, and its book.
+#[derive(Drop)]
+struct Fresh {
+    disk: MemoryDisk,
+    store: Store,
+    book: Book,
+}
+
+impl Fresh {
+    fn of(alloc: Global, swarm: &Swarm) -> Result<Fresh, Fail>
+        ensures same { IfOk result (λ fresh. fresh.store.descriptor ≡ swarm.now.descriptor) }
+        ensures rooted { IfOk result (λ fresh. IsRooted swarm.now.descriptor (entry fresh.book)) }
+    {
+        let mut disk = MemoryDisk::new(alloc, &[])?;
+        let mut book = prepared(alloc, &swarm.descriptor)?;
+        let store = opened(alloc, &swarm.descriptor, &mut disk, &mut book)?;
+        Ok(Fresh { disk, store, book })
+    }
+
+    fn put(
+        &mut self,
+        swarm: &Swarm,
+        i: u32,
+        bytes: &[u8],
+        claims: &Claims,
+    ) -> Result<Option<Put>, Fail>
+        requires same { self.old.store.descriptor ≡ swarm.now.descriptor }
+        requires rooted { IsRooted self.old.store.descriptor (entry self.old.book) }
+    {
+        put_bytes(
+            swarm,
+            i,
+            bytes,
+            claims,
+            &mut self.store,
+            &mut self.book,
+            &mut self.disk,
+        )
+    }
+}
+
 #[test]
 fn a_chunk_is_stored_once(rt: HostRuntime) -> Result<(), Fail> {
     let alloc = rt.alloc();
@@ -206,34 +247,53 @@ const CHANGED: &str = "76844da83ec3f078d284c1cf75f03f390e4cc4ab803d09644d8c54129
 
 const PEAK: &str = "ec5bb09e21df1ebfb769ce3360f5ff39335612ae52728b4cf2d410f8dbf31f9c";
 
+// The last chunk has 856 bytes.
 #[test]
-fn other_bytes_are_refused(rt: HostRuntime) -> Result<(), Fail> {
+fn other_lengths_are_refused(rt: HostRuntime) -> Result<(), Fail> {
     let alloc = rt.alloc();
     let swarm = seven_chunks(alloc)?;
-    let mut disk = MemoryDisk::new(alloc, &[])?;
-    let mut book = prepared(alloc, &swarm.descriptor)?;
-    let mut store = opened(alloc, &swarm.descriptor, &mut disk, &mut book)?;
-    let mut bytes = bytes_of(1024, 0);
     let none = Claims::new(alloc)?;
-    // The last chunk has 856 bytes.
-    let put = put_bytes(&swarm, 6, &bytes, &none, &mut store, &mut book, &mut disk)?;
+    let mut fresh = Fresh::of(alloc, &swarm)?;
+    let put = fresh.put(&swarm, 6, &bytes_of(1024, 0), &none)?;
     let found = 1024;
     assert_eq!(rt; put, Some(Put::Length { found, want: 856 }));
-    let put = put_bytes(&swarm, 0, &bytes, &none, &mut store, &mut book, &mut disk)?;
+    Ok(())
+}
+
+#[test]
+fn bytes_that_nothing_proves_are_refused(rt: HostRuntime) -> Result<(), Fail> {
+    let alloc = rt.alloc();
+    let swarm = seven_chunks(alloc)?;
+    let none = Claims::new(alloc)?;
+    let mut fresh = Fresh::of(alloc, &swarm)?;
+    let put = fresh.put(&swarm, 0, &bytes_of(1024, 0), &none)?;
     let node = Node {
         layer: 2,
         offset: 0,
     };
     assert_eq!(rt; put, Some(Put::Missing(node)));
+    Ok(())
+}
+
+#[test]
+fn other_bytes_are_refused(rt: HostRuntime) -> Result<(), Fail> {
+    let alloc = rt.alloc();
+    let swarm = seven_chunks(alloc)?;
+    let mut bytes = bytes_of(1024, 0);
     bytes[0] ^= 1;
     let claims = claims_of(alloc, &swarm, 0)?;
-    let put = put_bytes(&swarm, 0, &bytes, &claims, &mut store, &mut book, &mut disk)?;
+    let mut fresh = Fresh::of(alloc, &swarm)?;
+    let put = fresh.put(&swarm, 0, &bytes, &claims)?;
+    let node = Node {
+        layer: 2,
+        offset: 0,
+    };
     let found = Digest::new(<[u8; 32]>::from_hex(CHANGED)?);
     let kept = Digest::new(<[u8; 32]>::from_hex(PEAK)?);
     assert_eq!(rt; put, Some(Put::Wrong { node, found, kept }));
     // Nothing was written behind the header.
-    assert!(rt; disk.bytes().iter().skip(64).all(|byte| *byte == 0));
-    assert_eq!(rt; store.pending(), 0);
+    assert!(rt; fresh.disk.bytes().iter().skip(64).all(|byte| *byte == 0));
+    assert_eq!(rt; fresh.store.pending(), 0);
     Ok(())
 }
 
@@ -242,16 +302,26 @@ fn a_crash_loses_what_is_pending(rt: HostRuntime) -> Result<(), Fail> {
     let alloc = rt.alloc();
     let swarm = seven_chunks(alloc)?;
     let mut disk = MemoryDisk::new(alloc, &[])?;
-    let mut book = prepared(alloc, &swarm.descriptor)?;
-    let mut store = opened(alloc, &swarm.descriptor, &mut disk, &mut book)?;
-    put_chunk(alloc, &swarm, 0, &mut store, &mut book, &mut disk)?;
+    put_first(alloc, &swarm, &mut disk)?;
     disk.crash(2);
-    let mut book = prepared(alloc, &swarm.descriptor)?;
-    let mut store = opened(alloc, &swarm.descriptor, &mut disk, &mut book)?;
-    assert_eq!(rt; store.committed().count(), 0);
-    let put = put_chunk(alloc, &swarm, 0, &mut store, &mut book, &mut disk)?;
-    assert_eq!(rt; put, Some(Put::Stored));
+    assert_eq!(rt;
+        put_first(alloc, &swarm, &mut disk)?,
+        (0, Some(Put::Stored))
+    );
     Ok(())
+}
+
+// Opens the store, and puts its first chunk: how many were committed before, and what became of the chunk.
+fn put_first(
+    alloc: Global,
+    swarm: &Swarm,
+    disk: &mut MemoryDisk,
+) -> Result<(u32, Option<Put>), Fail> {
+    let mut book = prepared(alloc, &swarm.descriptor)?;
+    let mut store = opened(alloc, &swarm.descriptor, disk, &mut book)?;
+    let committed = store.committed().count();
+    let put = put_chunk(alloc, swarm, 0, &mut store, &mut book, disk)?;
+    Ok((committed, put))
 }
 
 // Refuses the call after so many, crashes with the pick and opens again: answers whether all was put. What was committed
@@ -298,9 +368,11 @@ fn what_was_committed_is_held(rt: HostRuntime) -> Result<(), Fail> {
 fn two_syncs_commit_many(rt: HostRuntime) -> Result<(), Fail> {
     let alloc = rt.alloc();
     let swarm = seventy_chunks(alloc)?;
-    let mut disk = MemoryDisk::new(alloc, &[])?;
-    let mut book = prepared(alloc, &swarm.descriptor)?;
-    let mut store = opened(alloc, &swarm.descriptor, &mut disk, &mut book)?;
+    let Fresh {
+        mut disk,
+        mut store,
+        mut book,
+    } = Fresh::of(alloc, &swarm)?;
     let before = disk.moment();
     let done = put_all(alloc, &swarm, 64, false, &mut store, &mut book, &mut disk)?;
     assert!(rt; done);
@@ -308,7 +380,16 @@ fn two_syncs_commit_many(rt: HostRuntime) -> Result<(), Fail> {
     assert!(rt; commits(&mut store, &mut disk));
     assert_eq!(rt; disk.moment().checked_sub(before), Some(2));
     assert_eq!(rt; (store.pending(), store.committed().count()), (0, 64));
-    assert!(rt; commits(&mut store, &mut disk));
-    assert_eq!(rt; disk.moment().checked_sub(before), Some(2));
+    Ok(())
+}
+
+#[test]
+fn nothing_pending_is_not_synced(rt: HostRuntime) -> Result<(), Fail> {
+    let alloc = rt.alloc();
+    let swarm = seven_chunks(alloc)?;
+    let mut fresh = Fresh::of(alloc, &swarm)?;
+    let before = fresh.disk.moment();
+    assert!(rt; commits(&mut fresh.store, &mut fresh.disk));
+    assert_eq!(rt; fresh.disk.moment(), before);
     Ok(())
 }
