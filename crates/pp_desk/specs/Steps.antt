@@ -86,8 +86,8 @@ MayTell false cursor notes f lost = PassesAll cursor notes f
 -- The seat follows the notes' messages, one line each, and nothing else in it changed but by them.
 pub record AreSaid (now : ℕ) (back : Bool) (notes : List Note) (old new : SeatState) : Type 0 where
   pub after : AreAfter now back notes old new
-  pub says : (d : Descriptor) (ms : List Message) → SayAll d notes ms → (f : Frame) (lost : Lost) (t : Tale) → MayTell back old.cursor notes f lost
-      → Follows f lost old t → Follows f lost new (with_said now ms f.proven t)
+  pub says : (d : Descriptor) (ms : List Message) → SayAll d notes ms → (f : Frame) (lost : Lost) (t : Tale)
+      → MayTell back old.cursor notes f lost → Follows f lost old t → Follows f lost new (with_said now ms f.proven t)
 
 -- ---- notes that were refused
 

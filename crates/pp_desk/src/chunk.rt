@@ -20,7 +20,7 @@ pub struct Service<'a, R> {
     pub reader: &'a R,
 }
 
-// The chunk was sent or refused.
+// The chunk was sent, or not: it was refused, or couldn't be read.
 fn follow_chunk(seat: &mut Seat, delivery: &Delivery, sent: bool)
     requires { IsNext seat.old delivery.now.chunk }
     ensures { FollowsChunk delivery.now sent seat.old seat.new }
@@ -30,14 +30,6 @@ fn follow_chunk(seat: &mut Seat, delivery: &Delivery, sent: bool)
     } else {
         seat.let_go(delivery.chunk);
     }
-}
-
-// The chunk couldn't be read.
-fn unread_chunk(seat: &mut Seat, delivery: &Delivery)
-    requires { IsNext seat.old delivery.now.chunk }
-    ensures { IsLetGo delivery.now seat.old seat.new }
-{
-    seat.let_go(delivery.chunk);
 }
 
 /// Sends the next chunk of a seat behind its hashes, in one datagram, and then the seat follows: the chunk flies if the link took
@@ -69,7 +61,7 @@ pub fn deliver_chunk<R: ChunkReader<D>, D: Disk, L: Link>(
             Ok(sent)
         }
         Err(unread) => {
-            unread_chunk(seat, delivery);
+            follow_chunk(seat, delivery, false);
             Err(unread)
         }
     }
