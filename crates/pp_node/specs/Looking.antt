@@ -4,13 +4,13 @@ use Rattle.std.specs.Prelude.{◌≡◌, ◌⊎◌, ℕ, ◌<◌, ◌≤◌, Boo
 use Rattle.pp_terms.specs.Count.{HasRisen}
 use Rattle.pp_terms.specs.tree.Book.{LookUp}
 use Rattle.pp_terms.specs.format.Descriptor.{Descriptor, chunks_of}
-use Rattle.pp_terms.specs.disk.Store.{header}
+use Rattle.pp_terms.specs.disk.Store.{header, HasHeader}
 use Rattle.pp_terms.specs.disk.Image.{is_found}
 use Rattle.pp_terms.specs.disk.Disk.{DiskState, IsKnown}
 use Rattle.pp_terms.specs.disk.Untouched.{IsFreshlyAttached, IsSyncedAtMost}
 use Rattle.pp_scan.specs.declared.scanning.ScanFault.{ScanFault}
 use Rattle.pp_scan.specs.declared.scanning.ScanFault.TheVariants.{NotAStore, Disk, Memory}
-use Rattle.pp_scan.specs.Header.{HasHeader, IsDifference}
+use Rattle.pp_scan.specs.Header.{IsDifference}
 use Rattle.pp_scan.specs.Holding.{is_there}
 
 -- The file is empty or begins with the descriptor's header, zeros past its end.

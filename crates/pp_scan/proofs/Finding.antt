@@ -10,12 +10,12 @@ use Rattle.pp_terms.specs.disk.Image.{is_found}
 use Rattle.pp_terms.specs.disk.Disk.{DiskState, History, IsKnown, DoesSync}
 use Rattle.pp_terms.proofs.Knowing.{known_on}
 use Rattle.pp_terms.proofs.Facts.{none_in}
+use Rattle.pp_terms.specs.disk.Store.{HasHeader}
 use Rattle.pp_tree.proofs.Sizes.{chunk_size_range, chunk_begins}
 use Rattle.pp_tree.specs.Book.{HasRootAlone}
 use Rattle.pp_scan.specs.declared.scanning.ScanFault.{ScanFault}
 use Rattle.pp_scan.specs.declared.scanning.ScanFault.TheVariants.{NotAStore, Disk, Memory}
 use Rattle.pp_scan.specs.Look.{KeepsAll, OnlySyncs, synced}
-use Rattle.pp_scan.specs.Header.{HasHeader}
 use Rattle.pp_scan.specs.Layers.{HasKnown, HasOnlyKnown}
 use Rattle.pp_scan.specs.Holding.{is_shown}
 use Rattle.pp_scan.specs.Scan.{IsScanned, HasFound}

@@ -3,12 +3,12 @@ use Rattle.std.specs.Prelude.{◌≡◌, ◌⊎◌, ℕ, ◌<◌, Bool, false, t
 use Rattle.pp_terms.specs.Count.{HasRisen}
 use Rattle.pp_terms.specs.tree.Book.{LookUp, has_peaks}
 use Rattle.pp_terms.specs.format.Descriptor.{Descriptor, chunks_of}
-use Rattle.pp_terms.specs.disk.Store.{header}
+use Rattle.pp_terms.specs.disk.Store.{header, HasHeader}
 use Rattle.pp_terms.specs.disk.Image.{is_found}
 use Rattle.pp_terms.specs.disk.Disk.{DiskState, IsKnown}
 use Rattle.pp_scan.specs.declared.scanning.ScanFault.{ScanFault}
 use Rattle.pp_scan.specs.declared.scanning.ScanFault.TheVariants.{NotAStore, Disk, Memory}
-use Rattle.pp_scan.specs.Header.{HasHeader, IsDifference}
+use Rattle.pp_scan.specs.Header.{IsDifference}
 use Rattle.pp_scan.specs.Layers.{HasKnown}
 
 -- The set that was found: each chunk in it has its leaf and all peaks in the book. Over a disk that is honest and tells it

@@ -1,9 +1,9 @@
 // The layout of a store's file, version 2.
 ghost use Rattle.std.specs.Prelude.{◌≡◌, ℕ, ◌^◌, ◌<◌, ◌≤◌, slice_index, MatchOption, IfOk};
-ghost use Rattle.pp_terms.specs.disk.Store.{header, chunk_place, gate_place, file_size};
+ghost use Rattle.pp_terms.specs.disk.Store.{header, chunk_place, gate_place, file_size, HasHeader};
 ghost use Rattle.pp_terms.specs.disk.Disk.{IsKnown};
 ghost use Rattle.pp_scan.specs.Look.{OnlyReads};
-ghost use Rattle.pp_scan.specs.Header.{HasHeader, IsDifference};
+ghost use Rattle.pp_scan.specs.Header.{IsDifference};
 
 use pp_outside::{Disk, DiskFault};
 use pp_tree::Descriptor;

@@ -2,9 +2,9 @@
 ghost use Rattle.std.specs.Prelude.{◌≡◌, ℕ, ◌<◌, Some, false, length, replicate};
 ghost use Rattle.pp_terms.specs.format.Descriptor.{chunks_of, IsDescriptor};
 ghost use Rattle.pp_terms.specs.disk.Disk.{IsKnown};
+ghost use Rattle.pp_terms.specs.disk.Store.{HasHeader};
 ghost use Rattle.pp_tree.specs.Book.{entry, IsBookOf, HasRootAlone};
 ghost use Rattle.pp_scan.specs.Look.{KeepsAll, OnlySyncs, synced};
-ghost use Rattle.pp_scan.specs.Header.{HasHeader};
 ghost use Rattle.pp_scan.specs.Layers.{HasKnown, HasOnlyKnown};
 ghost use Rattle.pp_scan.specs.Scan.{HasFound, OnRead};
 

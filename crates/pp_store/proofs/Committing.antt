@@ -8,13 +8,12 @@ use Rattle.std.proofs.lemmas.List.{length-append, length-replicate}
 use Rattle.std.proofs.Math.Bool.{or-false, or-true}
 use Rattle.pp_terms.specs.tree.Book.{LookUp, IsRooted, has_peaks}
 use Rattle.pp_terms.specs.format.Descriptor.{Descriptor, chunks_of, IsDescriptor}
-use Rattle.pp_terms.specs.disk.Store.{gate_place, pair_place, AreApart}
+use Rattle.pp_terms.specs.disk.Store.{gate_place, pair_place, AreApart, HasHeader}
 use Rattle.pp_terms.specs.disk.Image.{StandsIn}
 use Rattle.pp_terms.specs.disk.Disk.{History, IsImage, IsTorn, IsOver}
 use Rattle.pp_terms.proofs.Images.{has_over}
 use Rattle.pp_terms.proofs.Facts.{none_in}
 use Rattle.pp_scan.specs.Look.{synced}
-use Rattle.pp_scan.specs.Header.{HasHeader}
 use Rattle.pp_scan.specs.Holding.{is_there}
 use Rattle.pp_scan.proofs.Finding.{some_bytes}
 use Rattle.pp_store.specs.Pairs.{PairStands, PairsStand}

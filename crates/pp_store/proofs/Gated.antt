@@ -3,14 +3,13 @@ use Rattle.std.specs.Prelude.{◌&&◌}
 use Rattle.std.proofs.lemmas.Bool.{cases_lt, false≢true}
 use Rattle.std.proofs.Common.{◌≡◌, ◌⊎◌, inl, inr, ⊎_elim, ℕ, ◌^◌, ◌<◌, ◌≤◌, ◌==◌, Bool, true, false, List, [], length, get_or, sym, ◌∙◌, ap, subst, arith}
 use Rattle.pp_terms.specs.format.Descriptor.{Descriptor, chunks_of, height_of, IsDescriptor}
-use Rattle.pp_terms.specs.disk.Store.{slot_size, gate_place, file_size, AreApart}
+use Rattle.pp_terms.specs.disk.Store.{slot_size, gate_place, file_size, AreApart, HasHeader}
 use Rattle.pp_terms.specs.disk.Image.{holds, is_open}
 use Rattle.pp_terms.specs.tree.Book.{LookUp}
 use Rattle.pp_terms.specs.disk.Disk.{DiskState, History, IsKnown, IsOver, Throughout, moment_of}
 use Rattle.pp_terms.proofs.Images.{since_now}
 use Rattle.pp_scan.specs.Scan.{IsScanned}
 use Rattle.pp_scan.proofs.Reading.{no_bytes}
-use Rattle.pp_scan.specs.Header.{HasHeader}
 use Rattle.pp_store.specs.Sound.{IsSound, IsGated}
 use Rattle.pp_store.specs.Store.{HoldsIn, IsOpened}
 use Rattle.pp_store.proofs.Opening.{has_header, only_image, made_reads, made_image, made_begins, made_long, made_closed}

@@ -11,13 +11,12 @@ use Rattle.pp_terms.specs.tree.Content.{chunk_length}
 use Rattle.pp_terms.specs.tree.Tree.{above}
 use Rattle.pp_terms.specs.tree.Book.{LookUp, IsJoined, IsRooted, has_peaks}
 use Rattle.pp_terms.specs.format.Descriptor.{Descriptor, chunks_of, height_of, IsDescriptor}
-use Rattle.pp_terms.specs.disk.Store.{chunk_place, pair_place}
+use Rattle.pp_terms.specs.disk.Store.{chunk_place, pair_place, HasHeader}
 use Rattle.pp_terms.specs.disk.Image.{slice, child, known, known_below, matches}
 use Rattle.pp_terms.proofs.Nodes.{hung}
 use Rattle.pp_terms.proofs.Facts.{value_of}
 use Rattle.pp_terms.proofs.Peaks.{doubled, above_is}
 use Rattle.pp_paths.proofs.PeakNodes.{at_most_one}
-use Rattle.pp_scan.specs.Header.{HasHeader}
 use Rattle.pp_scan.specs.Holding.{is_there}
 use Rattle.pp_scan.proofs.Finding.{some_bytes}
 use Rattle.pp_scan.proofs.Children.{child_known}

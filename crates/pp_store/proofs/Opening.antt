@@ -9,7 +9,7 @@ use Rattle.pp_terms.specs.Count.{HasRisen}
 use Rattle.pp_terms.specs.tree.Content.{chunk_length}
 use Rattle.pp_terms.specs.tree.Book.{LookUp, has_peaks}
 use Rattle.pp_terms.specs.format.Descriptor.{Descriptor, chunks_of, IsDescriptor}
-use Rattle.pp_terms.specs.disk.Store.{header, chunk_place, gate_place, file_size, Has}
+use Rattle.pp_terms.specs.disk.Store.{header, chunk_place, gate_place, file_size, Has, HasHeader}
 use Rattle.pp_terms.specs.disk.Image.{slice, known, matches, holds, is_open, StandsIn}
 use Rattle.pp_terms.specs.disk.Disk.{DiskState, History, IsImage, IsKnown, IsRead, DoesLen, MayLeave, MayLeaveSince, Throughout, moment_of, written}
 use Rattle.pp_terms.proofs.Headers.{length-header}
@@ -19,7 +19,6 @@ use Rattle.pp_tree.specs.Book.{HasRootAlone}
 use Rattle.pp_scan.specs.declared.scanning.ScanFault.{ScanFault}
 use Rattle.pp_scan.specs.declared.scanning.ScanFault.TheVariants.{Disk}
 use Rattle.pp_scan.specs.Look.{SyncsAtMost, synced}
-use Rattle.pp_scan.specs.Header.{HasHeader}
 use Rattle.pp_scan.specs.Holding.{is_there}
 use Rattle.pp_scan.specs.Scan.{IsScanned, HasFound}
 use Rattle.pp_scan.proofs.Reading.{no_bytes, read_slice}

@@ -9,7 +9,7 @@ use Rattle.pp_terms.specs.Count.{HasCause}
 use Rattle.pp_terms.specs.tree.Content.{chunk_length}
 use Rattle.pp_terms.specs.tree.Book.{LookUp, IsRooted, IsBacked, has_peaks}
 use Rattle.pp_terms.specs.format.Descriptor.{Descriptor, chunks_of, IsDescriptor}
-use Rattle.pp_terms.specs.disk.Store.{chunk_place}
+use Rattle.pp_terms.specs.disk.Store.{chunk_place, HasHeader}
 use Rattle.pp_terms.specs.disk.Image.{slice, matches}
 use Rattle.pp_terms.specs.disk.Disk.{DiskState, IsKnown}
 use Rattle.pp_terms.specs.tree.Tree.{above}
@@ -17,7 +17,6 @@ use Rattle.pp_terms.specs.tree.Proves.{first_absent}
 use Rattle.pp_terms.proofs.Facts.{member_below, value_of}
 use Rattle.pp_paths.specs.Judge.{KeepsEntries}
 use Rattle.pp_paths.proofs.PeakNodes.{peak_known}
-use Rattle.pp_scan.specs.Header.{HasHeader}
 use Rattle.pp_scan.specs.Holding.{is_there}
 use Rattle.pp_scan.proofs.Finding.{some_bytes}
 use Rattle.pp_store.specs.declared.admitting.Put.{Put}

@@ -3,7 +3,7 @@ use Rattle.std.specs.Prelude.{◌≡◌, ℕ, ◌<◌, Ok, Err, List, [], length
 use Rattle.pp_terms.specs.Count.{HasRisen}
 use Rattle.pp_terms.specs.format.Descriptor.{Descriptor}
 use Rattle.pp_terms.specs.disk.Disk.{DiskState, IsKnown}
-use Rattle.pp_scan.specs.Header.{HasHeader}
+use Rattle.pp_terms.specs.disk.Store.{HasHeader}
 use Rattle.pp_scan.specs.Scan.{IsOther}
 use Rattle.pp_store.specs.declared.findings.Probe.{Probe}
 use Rattle.pp_store.specs.declared.findings.Probe.TheVariants.{Fresh, Ours}

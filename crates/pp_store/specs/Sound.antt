@@ -1,10 +1,9 @@
 -- What gates may be trusted for.
 use Rattle.std.specs.Prelude.{◌≡◌, ℕ, ◌<◌, ◌≤◌, Bool, true, List, length}
 use Rattle.pp_terms.specs.format.Descriptor.{Descriptor, chunks_of}
-use Rattle.pp_terms.specs.disk.Store.{file_size}
+use Rattle.pp_terms.specs.disk.Store.{file_size, HasHeader}
 use Rattle.pp_terms.specs.disk.Image.{holds, is_open}
 use Rattle.pp_terms.specs.disk.Disk.{History, Throughout, moment_of}
-use Rattle.pp_scan.specs.Header.{HasHeader}
 
 -- An image is sound: where it begins with the header, zeros past its end, it is as long as the store, and holds each chunk
 -- whose gate is open.

@@ -2,11 +2,10 @@
 use Rattle.std.specs.Prelude.{◌≡◌, ℕ, ◌-◌, ◌*◌, ◌<◌, ◌||◌, Bool, true, false, IsTrue, List, [], ◌∷◌, length, replicate, slice_index_or, slice_set, is_some}
 use Rattle.pp_terms.specs.tree.Book.{LookUp, has_peaks}
 use Rattle.pp_terms.specs.format.Descriptor.{Descriptor, chunks_of}
-use Rattle.pp_terms.specs.disk.Store.{header, file_size, Has}
+use Rattle.pp_terms.specs.disk.Store.{header, file_size, Has, HasHeader}
 use Rattle.pp_terms.specs.disk.Image.{holds, StandsIn}
 use Rattle.pp_terms.specs.disk.Disk.{History, Throughout, moment_of}
 use Rattle.pp_scan.specs.Look.{synced}
-use Rattle.pp_scan.specs.Header.{HasHeader}
 use Rattle.pp_scan.specs.Holding.{is_there}
 use Rattle.pp_store.specs.declared.admitting.Put.{Put}
 use Rattle.pp_store.specs.declared.admitting.Put.TheVariants.{Stored, Held, Missing, Wrong, Length}

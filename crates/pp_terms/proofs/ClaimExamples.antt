@@ -1,5 +1,5 @@
 -- Worked examples of claims.
-use Rattle.std.proofs.Common.{◌≡◌, eqb, Bool, true, length, replicate, codes, refl}
+use Rattle.std.proofs.Common.{◌≡◌, eqb, true, length, replicate, codes, refl}
 use Rattle.std.specs.List.{list_all}
 use lib.Count.{count_trailing_zeros}
 use Rattle.sha2.specs.Sha256.{first_words, schedule, rounds, compress, hash_after, digest_bytes, sha256}

@@ -1,5 +1,5 @@
 -- What is claimed of nodes.
-use Rattle.std.proofs.Common.{◌≡◌, ⊎_elim, ℕ, eqb, Bool, true, ◌&&◌, Some, List, [], ◌∷◌, length, sym, ◌∙◌, ap}
+use Rattle.std.proofs.Common.{◌≡◌, ⊎_elim, ℕ, eqb, true, ◌&&◌, Some, List, [], ◌∷◌, length, sym, ◌∙◌, ap}
 use Rattle.std.specs.List.{list_all}
 use Rattle.std.proofs.lemmas.Bool.{cases_Bool, cond-true, cond-false, and_parts, eqb-true}
 use Rattle.pp_terms.specs.tree.Book.{AreDigests}

@@ -24,3 +24,4 @@ pub mod MovedSteps
 pub mod PeakBooks
 pub mod ReadSteps
 pub mod MessageLengths
+pub mod Founds

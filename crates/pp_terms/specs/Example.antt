@@ -70,5 +70,8 @@ pub record StoreExamples : Type 0 where
   -- an opening finds it there, and doesn't where its gate is closed or lies past the end
   pub abc_is_found : (is_found abc store_of_abc 0 ≡ true) × (is_found abc (header abc ++ codes "abc" ++ replicate 1086 0) 0 ≡ false)
       × (is_found abc (header abc ++ codes "abc") 0 ≡ false)
+  -- it finds a chunk with another byte too, which isn't held: such an image isn't sound
+  pub abd_is_found : (is_found abc (header abc ++ codes "abd" ++ replicate 1085 0 ++ open_gate) 0 ≡ true)
+      × (holds abc (header abc ++ codes "abd" ++ replicate 1085 0 ++ open_gate) 0 ≡ false)
   -- the whole file of it, and of the seven chunks
   pub sizes : (file_size abc ≡ 1153) × (file_size (descriptor_of seven 1024 Range32) ≡ 8776)

@@ -5,7 +5,10 @@ use Rattle.pp_terms.specs.tree.Tree.{Node, height, IsHeight, is_full, peaks, is_
 use Rattle.pp_terms.specs.tree.Book.{LookUp, has_peaks}
 use Rattle.pp_terms.specs.tree.Proves.{first_absent}
 use Rattle.pp_terms.specs.tree.Bins.{parent_of}
-use Rattle.pp_terms.specs.disk.Store.{AreApart, Has}
+use Rattle.pp_terms.specs.format.Descriptor.{Descriptor, chunks_of}
+use Rattle.pp_terms.specs.disk.Store.{AreApart, Has, HasHeader}
+use Rattle.pp_terms.specs.disk.Image.{holds, is_open, is_found}
+use Rattle.pp_terms.specs.disk.Sound.{IsSound}
 use Rattle.pp_terms.specs.disk.Disk.{History, MayLeave, Throughout, moment_of, after_write, settled}
 
 -- Bytes that stand throughout at a place stand on after a write elsewhere, though it may be torn.
@@ -21,6 +24,11 @@ SyncLeavesOne = (h : History) (image : List ℕ) → MayLeave (settled h h.reads
 abbrev pub SyncKeeps : Type 0
 SyncKeeps = (h : History) (moment at : ℕ) (kept : List ℕ) → moment ≤ moment_of h
     → Throughout h moment (Has at kept) → Has at kept h.reads → Throughout (settled h h.reads) moment (Has at kept)
+
+-- What an opening finds in a sound image is what the image holds behind open gates.
+abbrev pub FoundIsHeld : Type 0
+FoundIsHeld = (d : Descriptor) (image : List ℕ) (i : ℕ) → i < chunks_of d → HasHeader d image → IsSound d image
+    → is_found d image i ≡ (is_open d image i && holds d image i)
 
 -- The height of a tree is the least that holds its leaves.
 abbrev pub HeightIsLeast : Type 0

@@ -4,3 +4,4 @@ pub mod Untouched
 pub mod Calls
 pub mod Store
 pub mod Image
+pub mod Sound

@@ -4,16 +4,17 @@
 //! Its functions do nothing. Their contracts are laws on those words, and worked examples of them.
 #![tactic(auto)]
 
-ghost use Rattle.pp_terms.specs.Law.{WriteElsewhereKeeps, SyncLeavesOne, SyncKeeps, HeightIsLeast, PeaksAreTopmost, PeaksOfBooks};
+ghost use Rattle.pp_terms.specs.Law.{WriteElsewhereKeeps, SyncLeavesOne, SyncKeeps, FoundIsHeld, HeightIsLeast, PeaksAreTopmost, PeaksOfBooks};
 ghost use Rattle.pp_terms.specs.Example.{TreeExamples, StoreExamples};
 ghost use Rattle.pp_terms.specs.tree.ClaimExample.{ClaimExamples};
 ghost use Rattle.pp_terms.specs.command.ReportExample.{ReportExamples};
 
-/// What a crash may leave after a write and after a sync.
+/// What a crash may leave after a write and after a sync, and what an opening finds in a sound image.
 pub fn laws_of_the_disk()
     ensures write { WriteElsewhereKeeps }
     ensures sync { SyncLeavesOne }
     ensures sync_keeps { SyncKeeps }
+    ensures found { FoundIsHeld }
 {}
 
 /// How high a tree is, which of its nodes are peaks, and when a book has them all.

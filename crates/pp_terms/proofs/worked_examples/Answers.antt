@@ -1,4 +1,4 @@
-use Rattle.pp_terms.proofs.Examples.{seven-chunks, seven-bytes, heights, peaks_of_seven, full_nodes_of_seven, last_half_is_empty, inner_node_is_empty, root_of_seven, root_of_abc, slot, pair_places, text_of_abc, header_of_abc, abc_is_held, abc_is_not_held, abc_is_found, sizes}
+use Rattle.pp_terms.proofs.Examples.{seven-chunks, seven-bytes, heights, peaks_of_seven, full_nodes_of_seven, last_half_is_empty, inner_node_is_empty, root_of_seven, root_of_abc, slot, pair_places, text_of_abc, header_of_abc, abc_is_held, abc_is_not_held, abc_is_found, abd_is_found, sizes}
 use Rattle.pp_terms.proofs.ClaimExamples.{claim_examples}
 use Rattle.pp_terms.proofs.ReportExamples.{report_examples}
 use Rattle.pp_terms.proofs.worked_examples.Goals as goal
@@ -25,6 +25,7 @@ returns-clause-store c = record {
   abc_is_held = abc_is_held;
   abc_is_not_held = abc_is_not_held;
   abc_is_found = abc_is_found;
+  abd_is_found = abd_is_found;
   sizes = sizes;
 }
 

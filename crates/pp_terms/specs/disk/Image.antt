@@ -1,5 +1,5 @@
 -- What an image of a store lets be known, read from the root down, and which chunks it holds.
-use Rattle.std.specs.Prelude.{ℕ, zero, suc, ◌-◌, ◌/◌, ◌%◌, ◌<◌, ◌==◌, Bool, false, cond, ◌&&◌, Option, Some, None, nat_le, List, length, take, drop, slice_index, IsTrue, nat_eq}
+use Rattle.std.specs.Prelude.{ℕ, zero, suc, ◌-◌, ◌/◌, ◌%◌, ◌<◌, ◌==◌, Bool, false, cond, ◌&&◌, Option, Some, None, is_some, nat_le, List, length, take, drop, slice_index, IsTrue, nat_eq}
 use Rattle.std.specs.Cmp.Lexicographic.{pointwise}
 use Rattle.sha2.specs.Sha256.{sha256}
 use Rattle.pp_terms.specs.tree.Content.{chunk_length}
@@ -48,9 +48,10 @@ holds d image i =
 abbrev pub is_open : Descriptor → List ℕ → ℕ → Bool
 is_open d image i = slice_index image (gate_place d.chunk i) == 0x4f
 
--- what an opening answers of a chunk, by what reads give
+-- What an opening answers of a chunk, by what reads give: its gate is open, and its leaf and all peaks are known. The
+-- chunk's bytes aren't looked at.
 abbrev pub is_found : Descriptor → List ℕ → ℕ → Bool
-is_found d reads i = is_open d reads i && holds d reads i
+is_found d reads i = is_open d reads i && has_peaks (known d reads) (chunks_of d) && is_some (known d reads 0 i)
 
 -- Chunk i stands in the image: it begins with the descriptor's header, the chunk's gate is open, and it holds the chunk.
 pub record StandsIn (d : Descriptor) (image : List ℕ) (i : ℕ) : Type 0 where

@@ -10,6 +10,10 @@ use Rattle.pp_terms.specs.format.Descriptor.{Descriptor, IsDescriptor, chunks_of
 unfoldable pub header : Descriptor → List ℕ
 header d = codes "PPSTORE2" ++ to_be_bytes w32 d.chunk ++ to_be_bytes w64 d.size ++ d.root ++ replicate 12 0
 
+-- A file's first 64 bytes, zeros past its end, are the header.
+abbrev pub HasHeader : Descriptor → List ℕ → Type 0
+HasHeader d file = (k : ℕ) → k < 64 → slice_index file k ≡ slice_index (header d) k
+
 -- the room of one chunk, its pair and its gate: where the next slot begins
 abbrev pub slot_size : ℕ → ℕ
 slot_size chunk = chunk + 65
@@ -71,4 +75,4 @@ pub record IsStoreOf (d : Descriptor) (content image : List ℕ) : Type 0 where
 
 -- The image is no store's: it begins with no content's header, zeros past its end.
 abbrev pub IsNoStore : List ℕ → Type 0
-IsNoStore image = (d : Descriptor) → IsDescriptor d → ((k : ℕ) → k < 64 → slice_index image k ≡ slice_index (header d) k) → ⊥
+IsNoStore image = (d : Descriptor) → IsDescriptor d → HasHeader d image → ⊥
