@@ -1,12 +1,12 @@
 -- What a scan finds, step by step.
-use Rattle.std.proofs.Common.{◌≡◌, ◌⊎◌, inl, inr, ℕ, ◌<◌, ◌≤◌, Bool, true, false, not, List, [], length, get_or, replicate, Result, Ok, Err, refl, sym, ◌∙◌, ap, subst, arith}
-use Rattle.std.specs.Prelude.{is_some}
-use Rattle.std.proofs.lemmas.Bool.{false≢true}
+use Rattle.std.proofs.Common.{◌≡◌, ◌⊎◌, inl, inr, ⊎_elim, ℕ, suc, ◌^◌, ◌<◌, ◌≤◌, Bool, true, false, not, List, [], length, get_or, replicate, Result, Ok, Err, refl, sym, ◌∙◌, ap, subst, arith}
+use Rattle.std.specs.Prelude.{◌&&◌, is_some}
+use Rattle.std.proofs.lemmas.Bool.{false≢true, and_parts}
 use Rattle.std.proofs.lemmas.List.{length-replicate}
 use Rattle.pp_terms.specs.tree.Content.{chunk_length}
 use Rattle.pp_terms.specs.tree.Book.{LookUp, has_peaks}
-use Rattle.pp_terms.specs.format.Descriptor.{Descriptor, chunks_of, IsDescriptor}
-use Rattle.pp_terms.specs.disk.Image.{is_found}
+use Rattle.pp_terms.specs.format.Descriptor.{Descriptor, chunks_of, height_of, IsDescriptor}
+use Rattle.pp_terms.specs.disk.Image.{holds, is_found}
 use Rattle.pp_terms.specs.disk.Disk.{DiskState, History, IsKnown, DoesSync}
 use Rattle.pp_terms.proofs.Knowing.{known_on}
 use Rattle.pp_terms.proofs.Facts.{none_in}
@@ -17,10 +17,13 @@ use Rattle.pp_scan.specs.declared.scanning.ScanFault.{ScanFault}
 use Rattle.pp_scan.specs.declared.scanning.ScanFault.TheVariants.{NotAStore, Disk, Memory}
 use Rattle.pp_scan.specs.Look.{KeepsAll, OnlySyncs, synced}
 use Rattle.pp_scan.specs.Layers.{HasKnown, HasOnlyKnown}
-use Rattle.pp_scan.specs.Holding.{is_shown}
+use Rattle.pp_scan.specs.Gates.{ShowsGate, ShowsGates}
+use Rattle.pp_scan.specs.Holding.{is_there}
 use Rattle.pp_scan.specs.Scan.{IsScanned, HasFound}
+use Rattle.pp_scan.specs.Verify.{IsVerified, HasVerified}
 use Rattle.pp_scan.proofs.Reading.{known_after}
-use Rattle.pp_scan.proofs.Holds.{found_shown, none_found, empty_none, empty_known}
+use Rattle.pp_scan.proofs.Holds.{found_is, held_there, none_held, and_false, empty_none, empty_known}
+use Rattle.pp_scan.proofs.Slots.{slot_or_last}
 
 -- a chunk has a byte
 pub some_bytes : (d : Descriptor) (i : ℕ) → IsDescriptor d → i < chunks_of d → 0 < chunk_length d.size d.chunk i
@@ -38,7 +41,7 @@ module _ (d : Descriptor) (old mid new : DiskState) (book : LookUp) (known_mid :
     leaf = is.leaf;
     peaks = is.peaks;
     begins = λ known. subst (λ (r : List ℕ). (r ≡ []) ⊎ HasHeader d r) (same known) (is.begins (known_mid known));
-    held = λ known i lt. is.held (known_mid known) i lt ∙ ap (λ (r : List ℕ). is_found d r i) (same known);
+    found = λ known i lt. is.found (known_mid known) i lt ∙ ap (λ (r : List ℕ). is_found d r i) (same known);
     known = λ known. subst (λ (r : List ℕ). HasKnown d r book) (same known) (is.known (known_mid known));
   }
 
@@ -116,39 +119,85 @@ found_empty d disk book set valid alone none empty =
       leaf = λ i is. absurd (false≢true (sym (out i) ∙ is));
       peaks = λ i is. absurd (false≢true (sym (out i) ∙ is));
       begins = λ known. inl (empty known);
-      held = λ known i lt. out i ∙ sym (ap (λ (r : List ℕ). is_found d r i) (empty known) ∙ empty_none d i);
+      found = λ known i lt. out i ∙ sym (ap (λ (r : List ℕ). is_found d r i) (empty known) ∙ empty_none d i);
       known = λ known. subst (λ (r : List ℕ). HasKnown d r book) (sym (empty known)) (empty_known d book alone);
     }
 
+-- a file that begins with the header, once the open gates of chunks that aren't known are taken out of the set
+pub found_kept : (d : Descriptor) (disk : DiskState) (book : LookUp) (set set' : List Bool) → length set ≡ chunks_of d → length set' ≡ length set
+    → (IsKnown disk → HasHeader d disk.history.reads) → (IsKnown disk → HasKnown d disk.history.reads book)
+    → (IsKnown disk → (i : ℕ) → ShowsGate d disk.history.reads book set i)
+    → ((i : ℕ) → get_or set' i false ≡ (get_or set i false && has_peaks book (chunks_of d) && is_some (book 0 i)))
+    → IsScanned d disk book set'
+found_kept d disk book set set' room count begins known_is gates kept = record {
+  count = count ∙ room;
+  leaf = λ i is. (parts i is).1;
+  peaks = λ i is. (and_parts (get_or set i false) (has_peaks book (chunks_of d)) (parts i is).0).1;
+  begins = λ known. inr (begins known);
+  found = λ known i lt. kept i ∙ found_is d disk.history.reads book i (get_or set i false) (known_is known) (λ some. gates known i lt some);
+  known = known_is;
+}
+  where
+    parts : (i : ℕ) → get_or set' i false ≡ true
+        → ((get_or set i false && has_peaks book (chunks_of d)) ≡ true) × (is_some (book 0 i) ≡ true)
+    parts i is = and_parts (get_or set i false && has_peaks book (chunks_of d)) (is_some (book 0 i)) (sym (kept i) ∙ is)
+
+-- the gates under the root and the last one are all
+pub gates_all : (d : Descriptor) (reads : List ℕ) (book : LookUp) (set set' : List Bool) → chunks_of d ≤ 2 ^ height_of d
+    → ShowsGates d reads (height_of d) 0 book set
+    → ((s : ℕ) → (suc s ≡ 2 ^ height_of d → ⊥) → get_or set' s false ≡ get_or set s false)
+    → ((s : ℕ) → suc s ≡ 2 ^ height_of d → ShowsGate d reads book set' s)
+    → (s : ℕ) → ShowsGate d reads book set' s
+gates_all d reads book set set' fits under others last s inside some = ⊎_elim
+    (λ slot. others s (λ end. let to = slot.to in omega (arith, to, end)) ∙ under s slot inside some)
+    (λ end. last s end inside some)
+    (slot_or_last d s fits inside)
+
+-- ---- what hashing finds
+
 -- a file in which some peak isn't known
-pub found_none : (d : Descriptor) (disk : DiskState) (book : LookUp) (set : List Bool) → set ≡ replicate (chunks_of d) false
-    → has_peaks book (chunks_of d) ≡ false → (IsKnown disk → HasHeader d disk.history.reads) → (IsKnown disk → HasKnown d disk.history.reads book)
-    → IsScanned d disk book set
-found_none d disk book set none lacks begins known_is =
-    let out : (i : ℕ) → get_or set i false ≡ false = λ i. ap (λ (s : List Bool). get_or s i false) none ∙ none_in (chunks_of d) i in
+pub verified_none : (d : Descriptor) (disk : DiskState) (book : LookUp) (set set' : List Bool) → length set ≡ chunks_of d → length set' ≡ length set
+    → has_peaks book (chunks_of d) ≡ false → (IsKnown disk → HasKnown d disk.history.reads book)
+    → ((i : ℕ) → get_or set' i false ≡ (get_or set i false && has_peaks book (chunks_of d) && is_some (book 0 i)))
+    → IsVerified d disk book set'
+verified_none d disk book set set' room count lacks known_is kept =
+    let out : (i : ℕ) → get_or set' i false ≡ false = λ i. kept i ∙ ap (λ (b : Bool). get_or set i false && b && is_some (book 0 i)) lacks
+    ∙ ap (λ (b : Bool). b && is_some (book 0 i)) (and_false (get_or set i false)) in
     record {
-      count = ap (λ (s : List Bool). length s) none ∙ length-replicate (chunks_of d) false;
+      count = count ∙ room;
       leaf = λ i is. absurd (false≢true (sym (out i) ∙ is));
       peaks = λ i is. absurd (false≢true (sym (out i) ∙ is));
-      begins = λ known. inr (begins known);
-      held = λ known i lt. out i ∙ sym (none_found d disk.history.reads book i (known_is known) lacks);
+      held = λ known i lt. out i ∙ sym (none_held d disk.history.reads book i (known_is known) lacks);
       known = known_is;
     }
 
--- and one in which all peaks are
-pub found_held : (d : Descriptor) (disk : DiskState) (book : LookUp) (set set' : List Bool) → set ≡ replicate (chunks_of d) false → length set' ≡ length set
-    → has_peaks book (chunks_of d) ≡ true → (IsKnown disk → HasHeader d disk.history.reads) → (IsKnown disk → HasKnown d disk.history.reads book)
+-- and one in which all are
+pub verified_held : (d : Descriptor) (disk : DiskState) (book : LookUp) (set set' : List Bool) → length set ≡ chunks_of d → length set' ≡ length set
+    → has_peaks book (chunks_of d) ≡ true → (IsKnown disk → HasKnown d disk.history.reads book)
     → ((i : ℕ) → get_or set' i false ≡ true → is_some (book 0 i) ≡ true)
-    → (IsKnown disk → (i : ℕ) → i < chunks_of d → get_or set' i false ≡ is_shown d disk.history.reads book i)
-    → IsScanned d disk book set'
-found_held d disk book set set' none count all begins known_is leaf held = record {
-  count = count ∙ ap (λ (s : List Bool). length s) none ∙ length-replicate (chunks_of d) false;
+    → (IsKnown disk → (i : ℕ) → i < chunks_of d → get_or set' i false ≡ is_there d disk.history.reads book i)
+    → IsVerified d disk book set'
+verified_held d disk book set set' room count all known_is leaf held = record {
+  count = count ∙ room;
   leaf = leaf;
   peaks = λ i is. all;
-  begins = λ known. inr (begins known);
-  held = λ known i lt. held known i lt ∙ found_shown d disk.history.reads book i (known_is known) all;
+  held = λ known i lt. held known i lt ∙ held_there d disk.history.reads book i (known_is known) all;
   known = known_is;
 }
+
+-- the same, seen from before calls that changed nothing that is read
+pub verified_after : (unread : Type 0) (d : Descriptor) (old mid new : DiskState) (book : LookUp) (result : Result (List Bool) ScanFault) → KeepsAll old mid
+    → HasVerified ⊥ d mid new book result → HasVerified unread d old new book result
+verified_after unread d old mid new book (Ok set) keeps is = record {
+  count = is.count;
+  leaf = is.leaf;
+  peaks = is.peaks;
+  held = λ known i lt. is.held (known_after old mid keeps known) i lt ∙ ap (λ (h : History). holds d h.reads i) keeps.same;
+  known = λ known. subst (λ (h : History). HasKnown d h.reads book) keeps.same (is.known (known_after old mid keeps known));
+}
+verified_after unread d old mid new book (Err (NotAStore at found want)) keeps none = absurd none
+verified_after unread d old mid new book (Err Disk) keeps risen = λ below. let r : mid.faults < new.faults = risen below in omega (arith, keeps.faults)
+verified_after unread d old mid new book (Err Memory) keeps none = absurd none
 
 pub not_false : (b : Bool) → not b ≡ true → b ≡ false
 not_false b e = elim b as (λ v. not v ≡ true → v ≡ false) [ true ↦ λ h. absurd cc | false ↦ λ h. refl ] e

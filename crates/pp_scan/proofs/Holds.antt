@@ -1,18 +1,20 @@
 -- The chunks that a file holds, by its book.
-use Rattle.std.proofs.Common.{◌≡◌, ⊎_elim, ℕ, suc, ◌-◌, ◌/◌, ◌==◌, nat_eq, nat_le, Bool, true, false, cond, Option, Some, None, List, [], length, refl, sym, ◌∙◌, ap, arith}
-use Rattle.std.specs.Prelude.{◌&&◌}
+use Rattle.std.proofs.Common.{◌≡◌, ⊎_elim, ℕ, suc, ◌-◌, ◌/◌, ◌<◌, ◌==◌, nat_eq, nat_le, Bool, true, false, cond, Option, Some, None, List, [], length, refl, sym, ◌∙◌, ap, arith}
+use Rattle.std.specs.Prelude.{◌&&◌, is_some}
 use Rattle.std.specs.Cmp.Lexicographic.{pointwise}
-use Rattle.std.proofs.lemmas.Bool.{cases_lt, and_parts}
+use Rattle.std.proofs.lemmas.Bool.{cases_lt}
 use Rattle.std.proofs.lemmas.Bool.Decides.{nat_tests}
 use Rattle.sha2.specs.Sha256.{sha256}
 use Rattle.pp_terms.specs.tree.Content.{chunk_length}
 use Rattle.pp_terms.specs.tree.Book.{LookUp, has_peaks}
 use Rattle.pp_terms.specs.format.Descriptor.{Descriptor, chunks_of, height_of}
 use Rattle.pp_terms.specs.disk.Image.{slice, known, known_below, matches, holds, is_open, is_found}
-use Rattle.pp_terms.specs.disk.Store.{chunk_place, pair_place}
+use Rattle.pp_terms.specs.disk.Store.{chunk_place, pair_place, HasHeader}
+use Rattle.pp_terms.specs.disk.Sound.{IsSound}
+use Rattle.pp_terms.proofs.Founds.{found_parts}
 use Rattle.pp_tree.specs.Book.{HasRootAlone}
 use Rattle.pp_scan.specs.Layers.{HasKnown, HasOnlyKnown}
-use Rattle.pp_scan.specs.Holding.{is_there, is_shown}
+use Rattle.pp_scan.specs.Holding.{is_there}
 use Rattle.pp_scan.proofs.Children.{child_short}
 
 -- the bytes that were read have the digest that the book has
@@ -29,7 +31,7 @@ there_read d reads book i place size bytes digest b place_is size_is bytes_is lo
     test ∙ sym same ∙ sym (ap (λ (t : Bool). t && matches (book 0 i) (sha256 (slice reads (chunk_place d.chunk i) want))) whole)
 
 -- where all nodes are known, a chunk that is there is held if all peaks are known
-held_there : (d : Descriptor) (reads : List ℕ) (book : LookUp) (i : ℕ) → HasKnown d reads book → has_peaks book (chunks_of d) ≡ true
+pub held_there : (d : Descriptor) (reads : List ℕ) (book : LookUp) (i : ℕ) → HasKnown d reads book → has_peaks book (chunks_of d) ≡ true
     → is_there d reads book i ≡ holds d reads i
 held_there d reads book i known_is peaks =
     let same : book ≡ known d reads = λ t k j. known_is k j t in
@@ -38,30 +40,32 @@ held_there d reads book i known_is peaks =
     ap (λ (b : LookUp). is_there d reads b i) same
     ∙ sym (ap (λ (t : Bool). t && (length bytes == chunk_length d.size d.chunk i) && matches (known d reads 0 i) (sha256 bytes)) peaks')
 
--- and one that is shown is found
-pub found_shown : (d : Descriptor) (reads : List ℕ) (book : LookUp) (i : ℕ) → HasKnown d reads book → has_peaks book (chunks_of d) ≡ true
-    → is_shown d reads book i ≡ is_found d reads i
-found_shown d reads book i known_is peaks = ap (λ (b : Bool). is_open d reads i && b) (held_there d reads book i known_is peaks)
-
-and_false : (b : Bool) → (b && false) ≡ false
+pub and_false : (b : Bool) → (b && false) ≡ false
 and_false true = refl
 and_false false = refl
 
--- a chunk that was found is there
+-- in a sound file a chunk that was found is there
 pub found_there : (d : Descriptor) (reads : List ℕ) (book : LookUp) (i : ℕ) → HasKnown d reads book → has_peaks book (chunks_of d) ≡ true
-    → is_found d reads i ≡ true → is_there d reads book i ≡ true
-found_there d reads book i known_is peaks found =
-    held_there d reads book i known_is peaks ∙ (and_parts (is_open d reads i) (holds d reads i) found).1
+    → HasHeader d reads → IsSound d reads → i < chunks_of d → is_found d reads i ≡ true → is_there d reads book i ≡ true
+found_there d reads book i known_is peaks begins sound within found =
+    held_there d reads book i known_is peaks ∙ sound.held begins i within (found_parts d reads i found).0
 
--- a chunk whose leaf isn't known isn't there, and isn't shown
-pub none_shown : (d : Descriptor) (reads : List ℕ) (book : LookUp) (i : ℕ) → book 0 i ≡ None → is_shown d reads book i ≡ false
-none_shown d reads book i none =
-    let bytes = slice reads (chunk_place d.chunk i) (chunk_length d.size d.chunk i) in
-    ap (λ (o : Option (List ℕ)). is_open d reads i && ((length bytes == chunk_length d.size d.chunk i) && matches o (sha256 bytes))) none
-    ∙ ap (λ (b : Bool). is_open d reads i && b) (and_false (length bytes == chunk_length d.size d.chunk i))
-    ∙ and_false (is_open d reads i)
+-- What is left of a set of open gates, where it tells those of all chunks whose leaf is known.
+pub found_is : (d : Descriptor) (reads : List ℕ) (book : LookUp) (i : ℕ) (b : Bool) → HasKnown d reads book
+    → (is_some (book 0 i) ≡ true → b ≡ is_open d reads i)
+    → (b && has_peaks book (chunks_of d) && is_some (book 0 i)) ≡ is_found d reads i
+found_is d reads book i b known_is gate = by (is_some (book 0 i)) refl
+    ∙ ap (λ (e : LookUp). is_open d reads i && has_peaks e (chunks_of d) && is_some (e 0 i)) (λ t k j. known_is k j t)
+  where
+    by : (leaf : Bool) → is_some (book 0 i) ≡ leaf
+        → (b && has_peaks book (chunks_of d) && is_some (book 0 i)) ≡ (is_open d reads i && has_peaks book (chunks_of d) && is_some (book 0 i))
+    by true at = ap (λ (v : Bool). v && has_peaks book (chunks_of d) && is_some (book 0 i)) (gate at)
+    by false at =
+        ap (λ (v : Bool). b && has_peaks book (chunks_of d) && v) at ∙ and_false (b && has_peaks book (chunks_of d))
+        ∙ sym (ap (λ (v : Bool). is_open d reads i && has_peaks book (chunks_of d) && v) at ∙ and_false (is_open d reads i && has_peaks book (chunks_of d)))
 
-none_held : (d : Descriptor) (reads : List ℕ) (book : LookUp) (i : ℕ) → HasKnown d reads book → has_peaks book (chunks_of d) ≡ false
+-- without all peaks nothing is held
+pub none_held : (d : Descriptor) (reads : List ℕ) (book : LookUp) (i : ℕ) → HasKnown d reads book → has_peaks book (chunks_of d) ≡ false
     → holds d reads i ≡ false
 none_held d reads book i known_is peaks =
     let same : book ≡ known d reads = λ t k j. known_is k j t in
@@ -69,9 +73,14 @@ none_held d reads book i known_is peaks =
     let bytes = slice reads (chunk_place d.chunk i) (chunk_length d.size d.chunk i) in
     ap (λ (t : Bool). t && (length bytes == chunk_length d.size d.chunk i) && matches (known d reads 0 i) (sha256 bytes)) peaks'
 
-pub none_found : (d : Descriptor) (reads : List ℕ) (book : LookUp) (i : ℕ) → HasKnown d reads book → has_peaks book (chunks_of d) ≡ false
-    → is_found d reads i ≡ false
-none_found d reads book i known_is peaks = ap (λ (b : Bool). is_open d reads i && b) (none_held d reads book i known_is peaks) ∙ and_false (is_open d reads i)
+-- What hashing finds, whether or not all peaks are known.
+pub held_is : (d : Descriptor) (reads : List ℕ) (book : LookUp) (i : ℕ) → HasKnown d reads book
+    → (has_peaks book (chunks_of d) && is_there d reads book i) ≡ holds d reads i
+held_is d reads book i known_is = by (has_peaks book (chunks_of d)) refl
+  where
+    by : (peaks : Bool) → has_peaks book (chunks_of d) ≡ peaks → (has_peaks book (chunks_of d) && is_there d reads book i) ≡ holds d reads i
+    by true at = ap (λ (v : Bool). v && is_there d reads book i) at ∙ held_there d reads book i known_is at
+    by false at = ap (λ (v : Bool). v && is_there d reads book i) at ∙ sym (none_held d reads book i known_is at)
 
 -- an empty file
 pub empty_none : (d : Descriptor) (i : ℕ) → is_found d [] i ≡ false

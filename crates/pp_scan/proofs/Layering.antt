@@ -213,13 +213,17 @@ only_halves d image k i old new mid end looked others left others' right l j dig
 
 -- ---- the same, as the code counts layers
 
-layer_up : (k : ℕ) → 0 < k → suc (k - 1) ≡ k
+pub layer_up : (k : ℕ) → 0 < k → suc (k - 1) ≡ k
 layer_up k some = omega arith
 
 -- what was looked for and isn't there
 pub none_at : (o e : Option (List ℕ)) → o ≡ e → is_some o ≡ false → e ≡ None
 none_at None e same none = sym same
 none_at (Some x) e same none = cc
+
+-- and what is there
+pub some_at : (o e : Option (List ℕ)) → o ≡ e → is_some o ≡ true → is_some e ≡ true
+some_at o e same some = ap (λ (p : Option (List ℕ)). is_some p) (sym same) ∙ some
 
 -- what of the tree is meant
 pub low_from_first : (k i : ℕ) → (i + 1) * 2 ^ k ≤ 2 ^ 20 → k ≤ 20

@@ -1,5 +1,5 @@
 -- Calls that only read, one after the other, and what they read.
-use Rattle.std.proofs.Common.{◌≡◌, ℕ, ◌+◌, ◌<◌, ◌≤◌, List, [], ◌∷◌, length, get_or, take, drop, Result, Ok, Err, refl, sym, ◌∙◌, arith}
+use Rattle.std.proofs.Common.{◌≡◌, ℕ, ◌+◌, ◌<◌, ◌≤◌, List, [], ◌∷◌, length, get_or, take, drop, Result, Ok, Err, refl, sym, ◌∙◌, ap, arith}
 use Rattle.std.proofs.lemmas.Grind.{same_number_lists}
 use Rattle.std.proofs.lemmas.List.{places, length-take, length-drop}
 use Rattle.pp_terms.specs.disk.Disk.{DiskState, IsKnown, IsRead, DoesRead, DoesLen}
@@ -71,3 +71,14 @@ read_slice reads place into is inside =
   where
     at : (k : ℕ) → k < length into → get_or (take (length into) (drop place reads)) k 0 ≡ get_or reads (place + k) 0
     at k lt = grind (arith, places)
+
+-- the front of what was read, where it lies inside the file
+pub read_prefix : (reads : List ℕ) (place n : ℕ) (into : List ℕ) → IsRead reads place into → n ≤ length into → place + n ≤ length reads
+    → take n into ≡ slice reads place n
+read_prefix reads place n into is le inside =
+    let long : length (take n into) ≡ n = length-take n into ∙ omega (arith, le) in
+    let is' : IsRead reads place (take n into) = λ k lt. front k (omega (arith, long, lt)) ∙ is k (omega (arith, le, long, lt)) in
+    read_slice reads place (take n into) is' (omega (arith, inside, long)) ∙ ap (λ (m : ℕ). slice reads place m) long
+  where
+    front : (k : ℕ) → k < n → get_or (take n into) k 0 ≡ get_or into k 0
+    front k lt = grind (arith, places)

@@ -1,11 +1,5 @@
--- Whether a file begins with a descriptor's header.
+-- Where a file differs from a descriptor's header.
 use Rattle.std.specs.Prelude.{◌≡◌, ℕ, ◌<◌, List, slice_index}
-use Rattle.pp_terms.specs.format.Descriptor.{Descriptor}
-use Rattle.pp_terms.specs.disk.Store.{header}
-
--- Its first 64 bytes, zeros past its end, are the header.
-abbrev pub HasHeader : Descriptor → List ℕ → Type 0
-HasHeader d reads = (k : ℕ) → k < 64 → slice_index reads k ≡ slice_index (header d) k
 
 -- This is the first of 64 bytes that differs from those that are wanted.
 pub record IsDifference (bytes wanted : List ℕ) (at found want : ℕ) : Type 0 where

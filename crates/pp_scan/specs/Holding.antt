@@ -4,7 +4,7 @@ use Rattle.sha2.specs.Sha256.{sha256}
 use Rattle.pp_terms.specs.tree.Content.{chunk_length}
 use Rattle.pp_terms.specs.tree.Book.{LookUp}
 use Rattle.pp_terms.specs.format.Descriptor.{Descriptor}
-use Rattle.pp_terms.specs.disk.Image.{matches, slice, is_open}
+use Rattle.pp_terms.specs.disk.Image.{matches, slice}
 use Rattle.pp_terms.specs.disk.Store.{chunk_place}
 
 -- chunk i's bytes lie inside the file and have the digest of its leaf in the book
@@ -12,7 +12,3 @@ abbrev pub is_there : Descriptor → List ℕ → LookUp → ℕ → Bool
 is_there d reads book i =
     let bytes = slice reads (chunk_place d.chunk i) (chunk_length d.size d.chunk i) in
     (length bytes == chunk_length d.size d.chunk i) && matches (book 0 i) (sha256 bytes)
-
--- the chunk's gate is open, and its bytes are there
-abbrev pub is_shown : Descriptor → List ℕ → LookUp → ℕ → Bool
-is_shown d reads book i = is_open d reads i && is_there d reads book i

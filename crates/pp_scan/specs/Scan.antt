@@ -12,13 +12,13 @@ use Rattle.pp_scan.specs.Header.{IsDifference}
 use Rattle.pp_scan.specs.Layers.{HasKnown}
 
 -- The set that was found: each chunk in it has its leaf and all peaks in the book. Over a disk that is honest and tells it
--- is exactly the held set of what reads give, and the book has exactly the known nodes.
+-- is exactly the chunks that an opening finds in what reads give, and the book has exactly the known nodes.
 pub record IsScanned (d : Descriptor) (disk : DiskState) (book : LookUp) (set : List Bool) : Type 0 where
   pub count : length set ≡ chunks_of d
   pub leaf : (i : ℕ) → slice_index_or set i false ≡ true → is_some (book 0 i) ≡ true
   pub peaks : (i : ℕ) → slice_index_or set i false ≡ true → has_peaks book (chunks_of d) ≡ true
   pub begins : IsKnown disk → (disk.history.reads ≡ []) ⊎ HasHeader d disk.history.reads
-  pub held : IsKnown disk → (i : ℕ) → i < chunks_of d → slice_index_or set i false ≡ is_found d disk.history.reads i
+  pub found : IsKnown disk → (i : ℕ) → i < chunks_of d → slice_index_or set i false ≡ is_found d disk.history.reads i
   pub known : IsKnown disk → HasKnown d disk.history.reads book
 
 -- The file isn't empty and is no store of the descriptor's: its first byte that differs from the header is named, with what

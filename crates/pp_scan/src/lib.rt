@@ -1,13 +1,15 @@
-//! Reads a store from the root of its hash tree down, believing nothing that isn't the root's: which nodes are known in it
-//! and which chunks it holds.
+//! Reads a store from the root of its hash tree down, believing nothing that isn't the root's: which nodes are known in it,
+//! which chunks' gates are open, and which chunks it holds.
 #![tactic(auto)]
 
-mod holding;
+mod gates;
 mod layers;
 mod layout;
 mod scanning;
+mod verifying;
 
 pub use layout::{
     Difference, OPEN_GATE, file_size, gate_place, header_difference, header_of, slot_place,
 };
 pub use scanning::{ScanFault, scan, scan_into};
+pub use verifying::verify;

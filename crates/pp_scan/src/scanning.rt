@@ -1,14 +1,15 @@
 // A store is read from the root down.
 ghost use Rattle.std.specs.Prelude.{◌≡◌, ℕ, ◌<◌, Some, false, length, replicate};
-ghost use Rattle.pp_terms.specs.format.Descriptor.{chunks_of, IsDescriptor};
+ghost use Rattle.pp_terms.specs.format.Descriptor.{chunks_of, height_of, IsDescriptor};
 ghost use Rattle.pp_terms.specs.disk.Disk.{IsKnown};
 ghost use Rattle.pp_terms.specs.disk.Store.{HasHeader};
 ghost use Rattle.pp_tree.specs.Book.{entry, IsBookOf, HasRootAlone};
 ghost use Rattle.pp_scan.specs.Look.{KeepsAll, OnlySyncs, synced};
 ghost use Rattle.pp_scan.specs.Layers.{HasKnown, HasOnlyKnown};
+ghost use Rattle.pp_scan.specs.Gates.{ShowsGates};
 ghost use Rattle.pp_scan.specs.Scan.{HasFound, OnRead};
 
-use crate::holding::hold_chunks;
+use crate::gates::{keep_known, mark_last};
 use crate::layers::know_nodes;
 use crate::layout::{Difference, header_difference};
 use pp_outside::Disk;
@@ -31,10 +32,12 @@ pub enum ScanFault {
     Memory,
 }
 
-/// Finds out which chunks a store holds, and fills the book with the nodes that it lets be known. The book is prepared and
-/// has the root alone. It takes its memory first, then syncs, so that what it reads is on the disk.
+/// Finds the chunks of a store whose gates are open and whose leaf and all peaks are known, and fills the book with the
+/// nodes that the file lets be known. No byte of a chunk is read. The book is prepared and has the root alone. It takes its
+/// memory first, then syncs, so that what it reads is on the disk.
 ///
-/// An empty file holds no chunk. The header, each pair that may be known and each chunk are read once.
+/// An empty file has no chunk. The header is read once, and of each slot whose pair may be known the pair and the gate
+/// together, once.
 pub fn scan<D: Disk>(
     alloc: Global,
     descriptor: &Descriptor,
@@ -143,7 +146,7 @@ fn scan_tree<D: Disk>(
     len: u64,
     disk: &mut D,
     book: &mut Book,
-    set: ChunkSet,
+    mut set: ChunkSet,
 ) -> Result<ChunkSet, ScanFault>
     requires valid { IsDescriptor descriptor.now }
     requires alone { HasRootAlone descriptor.now (entry book.old) }
@@ -157,34 +160,34 @@ fn scan_tree<D: Disk>(
     ensures book { IsBookOf descriptor.now book.new }
     ensures only { IsKnown (D.state disk.old) → HasOnlyKnown descriptor.now (D.state disk.old).history.reads (entry book.new) }
 {
-    match know_nodes(descriptor, len, disk, book) {
-        Ok(()) => scan_chunks(descriptor, len, disk, book, set),
+    match know_nodes(descriptor, len, disk, book, &mut set) {
+        Ok(()) => scan_gates(descriptor, disk, book, set),
         Err(_) => Err(ScanFault::Disk),
     }
 }
 
-// The book has the known nodes.
-fn scan_chunks<D: Disk>(
+// The book has the known nodes, and the set tells the gates that were read beside them.
+fn scan_gates<D: Disk>(
     descriptor: &Descriptor,
-    len: u64,
     disk: &mut D,
     book: &Book,
     mut set: ChunkSet,
 ) -> Result<ChunkSet, ScanFault>
     requires descriptor { book.now.descriptor ≡ Some descriptor.now }
-    requires none { set ≡ replicate (chunks_of descriptor.now) false }
-    requires counted { IsKnown (D.state disk.old) → len ≡ length (D.state disk.old).history.reads }
+    requires room { length set ≡ chunks_of descriptor.now }
     requires begins { IsKnown (D.state disk.old) → HasHeader descriptor.now (D.state disk.old).history.reads }
+    requires gates { IsKnown (D.state disk.old)
+        → ShowsGates descriptor.now (D.state disk.old).history.reads (height_of descriptor.now) 0 (entry book.now) set }
     requires known { IsKnown (D.state disk.old) → HasKnown descriptor.now (D.state disk.old).history.reads (entry book.now) }
 
     ensures found { HasFound ⊥ descriptor.now (D.state disk.old) (D.state disk.new) (entry book.now) result }
     ensures looks { KeepsAll (D.state disk.old) (D.state disk.new) }
 {
-    if !book.has_peaks() {
-        return Ok(set);
-    }
-    match hold_chunks(descriptor, len, disk, book, &mut set) {
-        Ok(()) => Ok(set),
+    match mark_last(descriptor, disk, book, &mut set) {
+        Ok(()) => {
+            keep_known(book, &mut set);
+            Ok(set)
+        }
         Err(_) => Err(ScanFault::Disk),
     }
 }

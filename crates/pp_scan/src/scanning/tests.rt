@@ -1,5 +1,6 @@
 // Scans of the store of `abc`.
 use super::*;
+use crate::verify;
 use pp_outside::MemoryDisk;
 use pp_tree::{Method, leaf};
 use std::test::Fail;
@@ -24,7 +25,7 @@ fn store_of_abc() -> [u8; 1153] {
     image
 }
 
-// How many chunks a file holds of the descriptor's one.
+// How many chunks a scan finds in a file of the descriptor's one.
 fn held(alloc: Global, image: &[u8]) -> Result<Result<u32, ScanFault>, Fail> {
     let Ok(descriptor) = Descriptor::new(leaf(b"abc"), 1024, 3, Method::Range32) else {
         return Err("no descriptor".into());
@@ -38,21 +39,54 @@ fn held(alloc: Global, image: &[u8]) -> Result<Result<u32, ScanFault>, Fail> {
     })
 }
 
+// How many chunks hashing finds in a file of the descriptor's one.
+fn verified(alloc: Global, image: &[u8]) -> Result<Result<u32, ScanFault>, Fail> {
+    let Ok(descriptor) = Descriptor::new(leaf(b"abc"), 1024, 3, Method::Range32) else {
+        return Err("no descriptor".into());
+    };
+    let mut disk = MemoryDisk::new(alloc, image)?;
+    let mut book = Book::empty(alloc);
+    book.prepare(alloc, &descriptor)?;
+    Ok(match verify(alloc, &descriptor, &mut disk, &mut book) {
+        Ok(set) => Ok(set.count()),
+        Err(fault) => Err(fault),
+    })
+}
+
 #[test]
-fn holds_what_is_there(rt: HostRuntime) -> Result<(), Fail> {
+fn finds_what_is_there(rt: HostRuntime) -> Result<(), Fail> {
     let alloc = rt.alloc();
     let store = store_of_abc();
-    let mut other = store;
-    other[66] = b'd';
     assert_eq!(rt; held(alloc, &store)?, Ok(1));
-    assert_eq!(rt; held(alloc, &other)?, Ok(0));
     assert_eq!(rt; held(alloc, &[])?, Ok(0));
+    Ok(())
+}
+
+// A scan reads no chunk, so another byte in it changes nothing; hashing finds it out.
+#[test]
+fn reads_no_chunk(rt: HostRuntime) -> Result<(), Fail> {
+    let alloc = rt.alloc();
+    let mut other = store_of_abc();
+    other[64] = b'b';
+    assert_eq!(rt; held(alloc, &other)?, Ok(1));
+    assert_eq!(rt; verified(alloc, &other)?, Ok(0));
+    Ok(())
+}
+
+// A file is verified whatever its header and its gates are.
+#[test]
+fn verifies_without_header_and_gate(rt: HostRuntime) -> Result<(), Fail> {
+    let alloc = rt.alloc();
+    let mut image = [0u8; 67];
+    image[64..].copy_from_slice(b"abc");
+    assert_eq!(rt; verified(alloc, &image)?, Ok(1));
+    assert_eq!(rt; verified(alloc, &image[..66])?, Ok(0));
     Ok(())
 }
 
 // The gate lies past the end.
 #[test]
-fn holds_nothing_without_its_gate(rt: HostRuntime) -> Result<(), Fail> {
+fn finds_nothing_without_its_gate(rt: HostRuntime) -> Result<(), Fail> {
     let mut image = [0u8; 1152];
     image[..67].copy_from_slice(&FRONT);
     assert_eq!(rt; held(rt.alloc(), &image)?, Ok(0));
@@ -61,7 +95,7 @@ fn holds_nothing_without_its_gate(rt: HostRuntime) -> Result<(), Fail> {
 
 // A gate with any other value is closed.
 #[test]
-fn holds_nothing_behind_a_closed_gate(rt: HostRuntime) -> Result<(), Fail> {
+fn finds_nothing_behind_a_closed_gate(rt: HostRuntime) -> Result<(), Fail> {
     let mut store = store_of_abc();
     store[1152] = 0x4e;
     assert_eq!(rt; held(rt.alloc(), &store)?, Ok(0));

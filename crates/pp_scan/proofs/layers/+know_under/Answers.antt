@@ -5,7 +5,9 @@ use Rattle.pp_terms.specs.disk.Image as image
 use Rattle.pp_tree.specs.Book.{entry}
 use Rattle.pp_scan.specs.Layers.{HasKnownUnder, HasOnlyKnownUnder}
 use Rattle.pp_scan.proofs.Reading.{known_after}
-use Rattle.pp_scan.proofs.Layering.{low_from_first, halves_first, bare_children, bare_half, bare_beside, elsewhere_children, elsewhere_half, only_from, child_found, none_at, found_none, found_left, found_beside, found_both, found_only}
+use Rattle.pp_scan.proofs.Layering.{low_from_first, halves_first, bare_children, bare_half, bare_beside, elsewhere_children, elsewhere_half, only_from, child_found, none_at, some_at, found_none, found_left, found_beside, found_both, found_only}
+use Rattle.pp_scan.proofs.Slots.{gates_bare, gates_both, elsewhere_slot, elsewhere_side}
+use Rattle.pp_scan.specs.Gates.{ShowsGates}
 use Rattle.pp_scan.proofs.layers.+know_under.Goals as goal
 
 pub know_children-requires-clause-low : goal.know_children-requires-clause-low
@@ -156,3 +158,44 @@ returns-clause-known g t c known parent =
     c.know_under-2.ensures.others
     (subst (λ (h : History). HasKnownUnder c.args.descriptor.now h.reads (c.args.node.layer - 1) (2 * c.args.node.offset + 1) (entry c.know_under-2.new.book)) same_third right))
     (c.know_under-2.ensures.known known_third right_is)
+
+pub returns-then-is_none-clause-gates : goal.returns-then-is_none-clause-gates
+returns-then-is_none-clause-gates g t c known =
+    gates_bare c.args.descriptor.now (g.D.Disk.state c.args.disk.now).history.reads c.args.node.layer c.args.node.offset (entry c.args.book.now)
+    (entry c.know_children.new.book) c.know_children.new.set (omega (arith, c.if-node-eq0.false)) c.requires.bare c.know_children.ensures.others
+    (none_at c.get.result _ c.get.ensures.get c.if-is_none.ensures)
+
+pub returns-in-Err-know_under-clause-elsewhere : goal.returns-in-Err-know_under-clause-elsewhere
+returns-in-Err-know_under-clause-elsewhere g t c s off =
+    elsewhere_side c.args.node.layer c.args.node.offset (2 * c.args.node.offset) s c.args.set.now c.know_children.new.set c.know_under.new.set (omega (arith, c.if-node-eq0.false)) (omega arith)
+    (λ s off. elsewhere_slot c.args.node.layer c.args.node.offset s c.args.set.now c.know_children.new.set (omega (arith, c.if-node-eq0.false)) c.know_children.ensures.elsewhere off)
+    c.know_under.ensures.elsewhere off
+
+pub returns-clause-elsewhere : goal.returns-clause-elsewhere
+returns-clause-elsewhere g t c s off =
+    elsewhere_side c.args.node.layer c.args.node.offset (2 * c.args.node.offset + 1) s c.args.set.now c.know_under.new.set c.know_under-2.new.set (omega (arith, c.if-node-eq0.false)) (omega arith)
+    (λ s off. elsewhere_side c.args.node.layer c.args.node.offset (2 * c.args.node.offset) s c.args.set.now c.know_children.new.set c.know_under.new.set (omega (arith, c.if-node-eq0.false)) (omega arith)
+    (λ s off. elsewhere_slot c.args.node.layer c.args.node.offset s c.args.set.now c.know_children.new.set (omega (arith, c.if-node-eq0.false)) c.know_children.ensures.elsewhere off)
+    c.know_under.ensures.elsewhere off)
+    c.know_under-2.ensures.elsewhere off
+
+pub returns-clause-gates : goal.returns-clause-gates
+returns-clause-gates g t c known =
+    let d = c.args.descriptor.now in
+    let old = g.D.Disk.state c.args.disk.now in
+    let mid = g.D.Disk.state c.know_children.new.disk in
+    let third = g.D.Disk.state c.know_under.new.disk in
+    let same = c.know_children.ensures.looks.keeps.same in
+    let same_third = c.know_under.ensures.looks.keeps.same ∙ same in
+    let known_mid = known_after old mid c.know_children.ensures.looks.keeps known in
+    let known_third = known_after mid third c.know_under.ensures.looks.keeps known_mid in
+    let left : ShowsGates d old.history.reads (c.args.node.layer - 1) (2 * c.args.node.offset) (entry c.know_under.new.book) c.know_under.new.set =
+    subst (λ (h : History). ShowsGates d h.reads (c.args.node.layer - 1) (2 * c.args.node.offset) (entry c.know_under.new.book) c.know_under.new.set) same
+    (c.in_default-know_under.ensures.gates known_mid) in
+    on_ok_weaker c.know_under-2.result
+    (λ right. gates_both d old.history.reads c.args.node.layer c.args.node.offset (entry c.know_under.new.book) (entry c.know_under-2.new.book)
+    c.know_children.new.set c.know_under.new.set c.know_under-2.new.set (omega (arith, c.if-node-eq0.false))
+    (c.in_default.ensures.gate known (some_at c.get.result _ c.get.ensures.get c.if-is_none.ensures))
+    c.know_under.ensures.elsewhere left c.know_under-2.ensures.others c.know_under-2.ensures.elsewhere
+    (subst (λ (h : History). ShowsGates d h.reads (c.args.node.layer - 1) (2 * c.args.node.offset + 1) (entry c.know_under-2.new.book) c.know_under-2.new.set) same_third right))
+    (c.know_under-2.ensures.gates known_third)

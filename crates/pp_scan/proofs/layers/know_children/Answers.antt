@@ -2,7 +2,6 @@ use Rattle.std.proofs.Common.{◌≡◌, ◌+◌, ◌-◌, ◌<◌, ◌≤◌, �
 use Rattle.pp_terms.specs.disk.Store.{pair_place}
 use Rattle.pp_terms.specs.disk.Image.{child, slice}
 use Rattle.pp_scan.proofs.Children.{child_short}
-use Rattle.pp_scan.proofs.Reading.{read_slice}
 use Rattle.pp_scan.proofs.Layering.{children_place}
 use Rattle.pp_scan.proofs.layers.know_children.Goals as goal
 
@@ -20,14 +19,10 @@ pub returns-in-Ok-clause-children : goal.returns-in-Ok-clause-children
 returns-in-Ok-clause-children g c known j under =
     let reads = (g.D.Disk.state c.args.disk.now).history.reads in
     let at = pair_place c.args.descriptor.now.chunk (c.args.node.layer - 1) c.args.node.offset in
-    let pair = c.read_at.new.into in
     let place : c.slot_place.result + c.from.result ≡ at =
     children_place c.chunk-chunk.result c.args.node.layer c.args.node.offset c.slot_place.result c.from.result c.requires.inner c.requires.low c.requires.first c.slot_place.ensures c.from.ensures
     ∙ ap (λ (n : ℕ). pair_place n (c.args.node.layer - 1) c.args.node.offset) c.chunk-chunk.ensures.chunk in
-    let long : length pair ≡ 64 = omega (arith, c.read_at.auto.into) in
-    let inside : c.slot_place.result + c.from.result + length pair ≤ length reads = omega (arith, c.requires.counted known) in
-    let is : pair ≡ slice reads at 64 =
-    read_slice reads (c.slot_place.result + c.from.result) pair (c.in-Ok.ensures.filled known) inside
-    ∙ ap (λ (n : ℕ). slice reads (c.slot_place.result + c.from.result) n) long ∙ ap (λ (n : ℕ). slice reads n 64) place in
+    let inside : c.slot_place.result + c.from.result + 64 ≤ length reads = omega (arith, c.requires.counted known) in
+    let is : c.in-Ok.tail.pair ≡ slice reads at 64 = c.in-Ok.ensures.pair known inside ∙ ap (λ (n : ℕ). slice reads n 64) place in
     c.adopt.ensures.children j under ∙ ap (λ (both : List ℕ). child both j (Some c.in-Some.digest)) is
     ∙ ap (λ (o : Option (List ℕ)). child (slice reads at 64) j o) c.in-Some.ensures.get

@@ -7,7 +7,7 @@ use Rattle.pp_terms.specs.disk.Store.{chunk_place}
 use Rattle.pp_tree.specs.Book.{entry}
 use Rattle.pp_scan.proofs.Reading.{read_slice}
 use Rattle.pp_scan.proofs.Holds.{there_read}
-use Rattle.pp_scan.proofs.holding.is_held.Goals as goal
+use Rattle.pp_scan.proofs.verifying.is_held.Goals as goal
 
 pub returns-in-Ok-clause-held : goal.returns-in-Ok-clause-held
 returns-in-Ok-clause-held g c known =
