@@ -1,12 +1,14 @@
 -- A store that was opened agrees with its file.
 use Rattle.std.proofs.Common.{◌≡◌, inl, ⊎_elim, ℕ, ◌*◌, ◌<◌, Bool, true, false, List, [], length, get_or, replicate, sym, ◌∙◌, ap, subst, arith}
 use Rattle.std.proofs.lemmas.Bool.{cases_lt, false≢true}
-use Rattle.std.specs.Prelude.{◌&&◌}
 use Rattle.std.proofs.lemmas.List.{length-append, length-replicate}
 use Rattle.pp_terms.specs.tree.Book.{LookUp, IsRooted}
 use Rattle.pp_terms.specs.format.Descriptor.{Descriptor, chunks_of, IsDescriptor}
 use Rattle.pp_terms.specs.disk.Image.{is_found, StandsIn}
 use Rattle.pp_terms.specs.disk.Disk.{DiskState, History, IsImage, IsKnown, MayLeave, Throughout, moment_of}
+use Rattle.pp_terms.specs.disk.Store.{HasHeader}
+use Rattle.pp_terms.specs.disk.Sound.{IsSound}
+use Rattle.pp_terms.proofs.Founds.{held_found}
 use Rattle.pp_terms.proofs.Images.{sole_image}
 use Rattle.pp_terms.proofs.Facts.{member_below, none_in}
 use Rattle.pp_scan.specs.Look.{synced}
@@ -52,7 +54,7 @@ module _ (d : Descriptor) (disk : DiskState) (book : LookUp) (committed pending 
   module _ (new : History) (live : Bool) (known_disk : IsKnown disk) (opened : IsOpened d disk.history new) where
     in_empty : disk.history.reads ≡ [] → (i : ℕ) → get_or committed i false ≡ true → ⊥
     in_empty empty i at =
-        false≢true (sym (ap (λ (r : List ℕ). is_found d r i) empty ∙ empty_none d i) ∙ sym (scanned.held known_disk i (within i at)) ∙ at)
+        false≢true (sym (ap (λ (r : List ℕ). is_found d r i) empty ∙ empty_none d i) ∙ sym (scanned.found known_disk i (within i at)) ∙ at)
 
     no_pair : (reads : List ℕ) (k j : ℕ) → reads ≡ [] → PairStands d book reads k j → ⊥
     no_pair reads k j empty stands =
@@ -61,18 +63,21 @@ module _ (d : Descriptor) (disk : DiskState) (book : LookUp) (committed pending 
         let nothing : length reads ≡ 0 = ap (λ (r : List ℕ). length r) empty in
         omega (arith, inside, long, length-append stands.left stands.right, nothing)
 
-    pub opened_agrees : AgreesWith (record { descriptor = d; committed = committed; pending = pending; pairs = pairs; live = live }) book new.reads
-    opened_agrees = ⊎_elim
+    pub opened_agrees : IsSound d disk.history.reads
+        → AgreesWith (record { descriptor = d; committed = committed; pending = pending; pairs = pairs; live = live }) book new.reads
+    opened_agrees sound = ⊎_elim
         (λ some.
         let same : new.reads ≡ disk.history.reads = ap (λ (h : History). h.reads) (opened.scanned some) in
+        let begins : HasHeader d disk.history.reads = ⊎_elim
+        (λ empty. absurd (let nothing : length disk.history.reads ≡ 0 = ap (λ (r : List ℕ). length r) empty in omega arith))
+        (λ begins. begins)
+        (scanned.begins known_disk) in
         subst (λ (r : List ℕ). AgreesWith (record { descriptor = d; committed = committed; pending = pending; pairs = pairs; live = live }) book r) (sym same) (record {
-          begins = ⊎_elim
-              (λ empty. absurd (let nothing : length disk.history.reads ≡ 0 = ap (λ (r : List ℕ). length r) empty in omega arith))
-              (λ begins. begins)
-              (scanned.begins known_disk);
+          begins = begins;
           chunks = λ i held.
               let at = only_committed committed pending (chunks_of d) i none held in
-              found_there d disk.history.reads book i (scanned.known known_disk) (scanned.peaks i at) (sym (scanned.held known_disk i (within i at)) ∙ at);
+              found_there d disk.history.reads book i (scanned.known known_disk) (scanned.peaks i at) begins sound (within i at)
+              (sym (scanned.found known_disk i (within i at)) ∙ at);
           pairs_stand = marked_stand d book pairs disk.history.reads marked size (scanned.known known_disk);
         }))
         (λ nothing.
@@ -91,7 +96,7 @@ module _ (d : Descriptor) (disk : DiskState) (book : LookUp) (committed pending 
       → Throughout disk.history (moment_of disk.history) (λ image. StandsIn d image i) → get_or committed i false ≡ true
   opened_taken known_disk whole i all =
       let stood = all disk.history.reads (inl whole) in
-      scanned.held known_disk i stood.within ∙ (λ t. stood.opened t && stood.held t)
+      scanned.found known_disk i stood.within ∙ held_found d disk.history.reads i (sym (sym stood.opened)) (sym (sym stood.held))
 
 -- afterwards there is one image
 pub opened_one : (d : Descriptor) (old new : History) → IsOpened d old new → (image : List ℕ) → MayLeave new image → image ≡ new.reads

@@ -21,7 +21,8 @@ use Rattle.pp_store.specs.Front.{DoesFront, Leaves}
 use Rattle.pp_store.specs.Import.{most_bytes, TakesAtMost, IsUnbegun, IsDiskFault, HasAnswer, HasFault, LeavesWholeStores, DoesImport, IsLeft, unfinished, finished}
 use Rattle.pp_store.proofs.Nexts.{counted_more, counted_all, counted_below, full_whole}
 use Rattle.pp_store.proofs.Writings.{behind_more, behind_keeps}
-use Rattle.pp_store.proofs.Sealing.{cleared, cleared-moment-of, clearing_right, walking_right, sealing_right, walking_none, walking_reads, unsynced_none, leaves-moment, stored, attachment_left}
+use Rattle.pp_store.specs.Store.{cleared}
+use Rattle.pp_store.proofs.Sealing.{cleared-moment-of, clearing_right, walking_right, sealing_right, walking_none, walking_reads, unsynced_none, leaves-moment, stored, attachment_left}
 
 -- what was read is the content's next chunks
 pub piece_next : (chunk : ℕ) (content : List ℕ) (count n : ℕ) (buffer : List ℕ) → IsChunkSize chunk → length buffer ≡ 65536 → count * chunk ≤ length content

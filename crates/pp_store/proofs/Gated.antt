@@ -8,9 +8,11 @@ use Rattle.pp_terms.specs.disk.Image.{holds, is_open}
 use Rattle.pp_terms.specs.tree.Book.{LookUp}
 use Rattle.pp_terms.specs.disk.Disk.{DiskState, History, IsKnown, IsOver, Throughout, moment_of}
 use Rattle.pp_terms.proofs.Images.{since_now}
+use Rattle.pp_terms.proofs.Founds.{held_found}
 use Rattle.pp_scan.specs.Scan.{IsScanned}
 use Rattle.pp_scan.proofs.Reading.{no_bytes}
-use Rattle.pp_store.specs.Sound.{IsSound, IsGated}
+use Rattle.pp_terms.specs.disk.Sound.{IsSound}
+use Rattle.pp_store.specs.Sound.{IsGated}
 use Rattle.pp_store.specs.Store.{HoldsIn, IsOpened}
 use Rattle.pp_store.proofs.Opening.{has_header, only_image, made_reads, made_image, made_begins, made_long, made_closed}
 use Rattle.pp_store.proofs.Pieces.{slot_order}
@@ -81,7 +83,7 @@ scanned_gated d disk book set scanned known some sound = by (scanned.begins know
     by (inr begins) = record {
       begins = begins;
       long = sound.long begins;
-      gates = λ i lt is. scanned.held known i lt ∙ (λ t. is t && sound.held begins i lt is t);
+      gates = λ i lt is. scanned.found known i lt ∙ held_found d disk.history.reads i is (sound.held begins i lt is);
       held = sound.held begins;
     }
 

@@ -24,3 +24,4 @@ pub mod Puttings
 pub mod Committing
 pub mod Beginnings
 pub mod Writtens
+pub mod Freshening

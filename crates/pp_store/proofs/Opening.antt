@@ -2,7 +2,7 @@
 use Rattle.std.proofs.Common.{◌≡◌, ◌⊎◌, inl, inr, ⊎_elim, ℕ, ◌+◌, ◌-◌, ◌<◌, ◌≤◌, ◌==◌, nat_eq, Bool, true, false, Option, Some, List, [], ◌∷◌, ◌++◌, length, get_or, take, drop, replicate, Result, Ok, Err, IfOk, IfErr, refl, sym, ◌∙◌, ap, subst, arith}
 use Rattle.std.specs.Prelude.{◌&&◌}
 use Rattle.std.specs.Cmp.Lexicographic.{pointwise, same_text, other_text}
-use Rattle.std.proofs.lemmas.Bool.{cases_lt, cases_eq, false≢true, eqb-true, and_parts}
+use Rattle.std.proofs.lemmas.Bool.{cases_lt, cases_eq, false≢true, eqb-true}
 use Rattle.std.proofs.lemmas.List.{length-take, length-drop, take_at, get_or_past}
 use Rattle.sha2.specs.Sha256.{sha256}
 use Rattle.pp_terms.specs.Count.{HasRisen}
@@ -13,8 +13,10 @@ use Rattle.pp_terms.specs.disk.Store.{header, chunk_place, gate_place, file_size
 use Rattle.pp_terms.specs.disk.Image.{slice, known, matches, holds, is_open, StandsIn}
 use Rattle.pp_terms.specs.disk.Disk.{DiskState, History, IsImage, IsKnown, IsRead, DoesLen, MayLeave, MayLeaveSince, Throughout, moment_of, written}
 use Rattle.pp_terms.proofs.Headers.{length-header}
-use Rattle.pp_terms.proofs.Images.{length-written, written_inside, written_outside, sole_image, since_now, since_settled}
+use Rattle.pp_terms.proofs.Images.{length-written, written_inside, written_outside, sole_image, since_now, since_settled, throughout_settled}
 use Rattle.pp_terms.proofs.Facts.{member_below}
+use Rattle.pp_terms.proofs.Founds.{found_parts}
+use Rattle.pp_terms.specs.disk.Sound.{IsSound}
 use Rattle.pp_tree.specs.Book.{HasRootAlone}
 use Rattle.pp_scan.specs.declared.scanning.ScanFault.{ScanFault}
 use Rattle.pp_scan.specs.declared.scanning.ScanFault.TheVariants.{Disk}
@@ -25,6 +27,7 @@ use Rattle.pp_scan.proofs.Reading.{no_bytes, read_slice}
 use Rattle.pp_scan.proofs.Finding.{found_empty, some_bytes}
 use Rattle.pp_store.specs.Keep.{kept}
 use Rattle.pp_store.specs.Store.{made, IsOpened, AllStand, GoesOn}
+use Rattle.pp_store.specs.Sound.{StaysSound}
 use Rattle.pp_store.specs.ReadChunk.{IsRightChunk, IsDamaged}
 
 -- an empty file
@@ -85,6 +88,13 @@ made_begins d old valid k lt =
     let lt' : k < length (header d) = omega (arith, length-header d valid.root_length) in
     ap (λ (n : ℕ). get_or (written before 0 (header d)) n 0) (sym at) ∙ written_inside before 0 (header d) k lt'
 
+-- where a gate is open the file isn't empty
+pub some_file : (d : Descriptor) (reads : List ℕ) (i : ℕ) → is_open d reads i ≡ true → 0 < length reads
+some_file d reads i opened = ⊎_elim
+    (λ some. some)
+    (λ none. absurd (false≢true (sym (ap (λ (r : List ℕ). is_open d r i) (no_bytes reads (omega arith))) ∙ opened)))
+    (cases_lt 0 (length reads))
+
 module _ (d : Descriptor) (old new : DiskState) (book : LookUp) (set : List Bool) (valid : IsDescriptor d) (scanned : IsScanned d old book set)
     (known : IsKnown old) (opened : IsOpened d old.history new.history) where
   pub opened_begins : Throughout new.history (moment_of new.history) (HasHeader d)
@@ -99,21 +109,22 @@ module _ (d : Descriptor) (old new : DiskState) (book : LookUp) (set : List Bool
       λ k lt. ap (λ (x : List ℕ). get_or x k 0) image_is ∙ made_begins d old.history valid k lt)
       (cases_lt 0 (length old.history.reads))
 
-  pub opened_stands : AllStand d set new.history
-  opened_stands i is image since =
+  pub opened_stands : IsSound d old.history.reads → AllStand d set new.history
+  opened_stands sound i is image since =
       let within : i < chunks_of d = omega (arith, member_below set i is, scanned.count) in
-      let both = and_parts (is_open d old.history.reads i) (holds d old.history.reads i) (sym (scanned.held known i within) ∙ is) in
-      let held : holds d old.history.reads i ≡ true = both.1 in
+      let parts = found_parts d old.history.reads i (sym (scanned.found known i within) ∙ is) in
       let bytes = some_bytes d i valid within in
-      let long = held_inside d old.history.reads i bytes held in
-      let some : 0 < length old.history.reads = omega arith in
+      let some : 0 < length old.history.reads = some_file d old.history.reads i parts.0 in
       let image_is = only_image new.history old.history image (opened.scanned some) since in
       ⊎_elim
       (λ empty. absurd (let none : length old.history.reads ≡ 0 = ap (λ (r : List ℕ). length r) empty in omega arith))
-      (λ begins. subst (λ (x : List ℕ). StandsIn d x i) (sym image_is) (record {
+      (λ begins.
+      let held = sound.held begins i within parts.0 in
+      let long = held_inside d old.history.reads i bytes held in
+      subst (λ (x : List ℕ). StandsIn d x i) (sym image_is) (record {
         begins = has_header d old.history.reads valid begins (omega arith);
         within = within;
-        opened = sym (sym both.0);
+        opened = sym (sym parts.0);
         held = sym (sym held);
       }))
       (scanned.begins known)
@@ -173,6 +184,15 @@ goes_on_synced d old mid new whole unmoved (inr is) = λ i all image since.
     (λ read. subst (λ (x : List ℕ). StandsIn d x i) (sym read) (all old.reads (inl whole)))
     (since_settled old (moment_of old) old.reads image (omega arith) (subst (λ (h : History). MayLeaveSince h (moment_of old) image) (is ∙ ap synced unmoved) since))
 
+pub sound_same : (d : Descriptor) (old new : History) → new ≡ old → StaysSound d old new
+sound_same d old new same moment le all = subst (λ (h : History). Throughout h moment (IsSound d)) (sym same) all
+
+pub sound_synced : (d : Descriptor) (old mid new : History) → IsImage old.epoch old.reads → mid ≡ old → (new ≡ mid) ⊎ (new ≡ synced mid) → StaysSound d old new
+sound_synced d old mid new whole unmoved (inl same) = sound_same d old new (same ∙ unmoved)
+sound_synced d old mid new whole unmoved (inr is) = λ moment le all.
+    subst (λ (h : History). Throughout h moment (IsSound d)) (sym (is ∙ ap synced unmoved))
+    (throughout_settled old moment old.reads (IsSound d) le all (all old.reads (inl whole)))
+
 -- at most one sync, seen from before calls that changed nothing
 pub syncs_after : (old mid new : History) → mid ≡ old → SyncsAtMost mid new → SyncsAtMost old new
 syncs_after old mid new unmoved syncs = subst (λ (h : History). SyncsAtMost h new) unmoved syncs
@@ -188,10 +208,10 @@ goes_on_empty d old new n mid valid whole counts none known i all =
 
 -- the file that was made is as long as the store, and none of its gates is open
 module _ (d : Descriptor) (old : History) (valid : IsDescriptor d) (empty : old.reads ≡ []) where
-  abbrev cleared_bytes : List ℕ
+  abbrev pub cleared_bytes : List ℕ
   cleared_bytes = written old.reads 0 (replicate 8 0)
 
-  abbrev stretched_bytes : List ℕ
+  abbrev pub stretched_bytes : List ℕ
   stretched_bytes = written cleared_bytes (file_size d - 1) (0 ∷ [])
 
   none : length old.reads ≡ 0
@@ -200,7 +220,7 @@ module _ (d : Descriptor) (old : History) (valid : IsDescriptor d) (empty : old.
   pub made_long : 64 < file_size d → file_size d ≤ length (made_reads d old)
   made_long large = omega (arith, length-written stretched_bytes 0 (header d), length-written cleared_bytes (file_size d - 1) (0 ∷ []), large)
 
-  stretched_gate : (i : ℕ) → get_or stretched_bytes (gate_place d.chunk i) 0 ≡ 0
+  pub stretched_gate : (i : ℕ) → get_or stretched_bytes (gate_place d.chunk i) 0 ≡ 0
   stretched_gate i = ⊎_elim
       (λ last. let at : file_size d - 1 + 0 ≡ gate_place d.chunk i = omega (arith, last) in
       ap (λ (n : ℕ). get_or stretched_bytes n 0) (sym at) ∙ written_inside cleared_bytes (file_size d - 1) (0 ∷ []) 0 (omega arith))

@@ -12,6 +12,7 @@ use Rattle.pp_terms.proofs.Images.{length-written, written_outside, written_insi
 use Rattle.pp_terms.proofs.Headers.{header-first}
 use Rattle.pp_tree.proofs.Sizes.{size_of_chunk_size}
 use Rattle.pp_store.specs.Keep.{kept, SameAttachment}
+use Rattle.pp_store.specs.Store.{cleared}
 use Rattle.pp_store.specs.Behind.{IsBehind}
 use Rattle.pp_store.specs.Imported.{imported}
 use Rattle.pp_store.specs.Growing.{IsBuilt, IsWhole}
@@ -128,10 +129,6 @@ since_later h one two image le (inr was) = inr (was_later h.past one two le was)
 
 pub throughout_later : (h : History) (one two : ℕ) (P : List ℕ → Type 0) → one ≤ two → Throughout h one P → Throughout h two P
 throughout_later h one two P le all image since = all image (since_later h one two image le since)
-
--- The file was cleared: it begins with eight zero bytes, and nothing else was ever there since the sync before that.
-abbrev pub cleared : History → History
-cleared h = kept (synced h) 0 (replicate 8 0)
 
 -- of the images since the first sync all that is wanted is said of short ones, and of those that begin with a zero byte
 module _ (P : List ℕ → Type 0) (short : (image : List ℕ) → length image ≤ 10 → P image) (zero_first : (image : List ℕ) → get_or image 0 0 ≡ 0 → P image)

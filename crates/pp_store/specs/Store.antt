@@ -38,10 +38,14 @@ pub record IsSized (d : Descriptor) (committed pending pairs : List Bool) : Type
 abbrev pub filled : Descriptor → History → History
 filled d h = kept (kept h (file_size d - 1) (0 ∷ [])) 0 (header d)
 
--- The disk once an empty file was made a store that holds no chunk: before that eight zero bytes are kept at its front, so
--- that no crash leaves a header before the file has its length.
+-- the disk once eight zero bytes are kept at the front of its file
+abbrev pub cleared : History → History
+cleared h = kept (synced h) 0 (replicate 8 0)
+
+-- The disk once an empty file was made a store that holds no chunk: before that it is cleared, so that no crash leaves a
+-- header before the file has its length.
 abbrev pub made : Descriptor → History → History
-made d h = filled d (kept (synced h) 0 (replicate 8 0))
+made d h = filled d (cleared h)
 
 -- An empty file was made a store; of any other what was written is on the disk.
 pub record IsOpened (d : Descriptor) (old new : History) : Type 0 where

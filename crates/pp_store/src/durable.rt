@@ -1,11 +1,13 @@
 // Writes that are on the disk when the call returns.
-ghost use Rattle.std.specs.Prelude.{◌≡◌, ◌+◌, ◌^◌, ◌≤◌, length, OnOk};
+ghost use Rattle.std.specs.Prelude.{◌≡◌, ◌+◌, ◌^◌, ◌≤◌, [], length, OnOk};
 ghost use Rattle.pp_store.specs.Keep.{DoesKeep};
 ghost use Rattle.pp_terms.specs.Count.{HasCause};
-ghost use Rattle.pp_terms.specs.disk.Disk.{IsKnown};
+ghost use Rattle.pp_terms.specs.format.Descriptor.{IsDescriptor};
+ghost use Rattle.pp_terms.specs.disk.Disk.{History, IsKnown};
 ghost use Rattle.pp_store.specs.Keep.{KeepsDisk};
 ghost use Rattle.pp_store.specs.Front.{DoesFront};
-ghost use Rattle.pp_store.specs.Store.{made, filled};
+ghost use Rattle.pp_store.specs.Sound.{StaysSound};
+ghost use Rattle.pp_store.specs.Store.{cleared, made, filled};
 
 use pp_outside::{Disk, DiskFault};
 use pp_scan::{file_size, header_of};
@@ -36,6 +38,8 @@ pub(crate) fn keep_front<D: Disk>(disk: &mut D, bytes: &[u8]) -> Result<(), Disk
 // Makes an empty file a store that holds no chunk.
 pub(crate) fn make_file<D: Disk>(descriptor: &Descriptor, disk: &mut D) -> Result<(), DiskFault>
     ensures made { IsKnown (D.state disk.old) → OnOk result ((D.state disk.new).history ≡ made descriptor.now (D.state disk.old).history) }
+    ensures sound { IsDescriptor descriptor.now → IsKnown (D.state disk.old) → (D.state disk.old).history.reads ≡ []
+        → StaysSound descriptor.now (D.state disk.old).history (D.state disk.new).history }
     ensures cause { HasCause (D.state disk.old).faults (D.state disk.new).faults result }
     ensures disk { KeepsDisk (D.state disk.old) (D.state disk.new) }
 {
@@ -48,6 +52,8 @@ pub(crate) fn make_file<D: Disk>(descriptor: &Descriptor, disk: &mut D) -> Resul
 // Gives a file that begins with zeros its length, and then its header.
 fn fill_file<D: Disk>(descriptor: &Descriptor, disk: &mut D) -> Result<(), DiskFault>
     ensures made { IsKnown (D.state disk.old) → OnOk result ((D.state disk.new).history ≡ filled descriptor.now (D.state disk.old).history) }
+    ensures sound { IsDescriptor descriptor.now → IsKnown (D.state disk.old) → (begun : History) → begun.reads ≡ []
+        → (D.state disk.old).history ≡ cleared begun → StaysSound descriptor.now (D.state disk.old).history (D.state disk.new).history }
     ensures cause { HasCause (D.state disk.old).faults (D.state disk.new).faults result }
     ensures disk { KeepsDisk (D.state disk.old) (D.state disk.new) }
 {

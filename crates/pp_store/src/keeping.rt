@@ -1,5 +1,5 @@
 // A store that is open.
-ghost use Rattle.std.specs.Prelude.{◌≡◌, ◌↔◌, ℕ, ◌^◌, ◌<◌, ◌≤◌, true, false, None, Some, Ok, Err, List, length, replicate, drop, count_by, is_some, slice_index_or, IsOk, OnOk, OnErr, IfOk, IfErr};
+ghost use Rattle.std.specs.Prelude.{◌≡◌, ◌↔◌, ℕ, ◌^◌, ◌<◌, ◌≤◌, true, false, None, Some, Ok, Err, List, [], length, replicate, drop, count_by, is_some, slice_index_or, IsOk, OnOk, OnErr, IfOk, IfErr};
 ghost use Rattle.std.specs.Result.{result_map_both};
 ghost use Rattle.pp_terms.specs.Count.{HasCause, HasRisen};
 ghost use Rattle.pp_terms.specs.tree.Content.{chunk_length};
@@ -23,7 +23,8 @@ ghost use Rattle.pp_store.specs.ReadChunk.{HasRead};
 ghost use Rattle.pp_store.specs.Answer.{put_answer, put_learned};
 ghost use Rattle.pp_store.specs.Pairs.{HasItsPairs, HasMarked, GoesOnSince};
 ghost use Rattle.pp_store.specs.Writes.{after_writes, put_writes};
-ghost use Rattle.pp_store.specs.Sound.{IsSound, IsGated, StaysGated};
+ghost use Rattle.pp_terms.specs.disk.Sound.{IsSound};
+ghost use Rattle.pp_store.specs.Sound.{IsGated, StaysGated, StaysSound};
 ghost use Rattle.pp_store.specs.Store.{made, IsOpened, AllStand, GoesOn, in_either, is_committed, is_held, AgreesWith, HoldsAll, KnowsHeld, HasCommitted, after_put};
 
 use crate::admitting::{Put, admit};
@@ -55,6 +56,7 @@ pub(crate) fn open_file<D: Disk>(
         → OnOk result (IsOpened descriptor.now (D.state disk.old).history (D.state disk.new).history) }
     ensures unwritten { IsKnown (D.state disk.old) → 0 < length (D.state disk.old).history.reads
         → SyncsAtMost (D.state disk.old).history (D.state disk.new).history }
+    ensures sound { IsKnown (D.state disk.old) → StaysSound descriptor.now (D.state disk.old).history (D.state disk.new).history }
     ensures goes_on { IsKnown (D.state disk.old) → GoesOn descriptor.now (D.state disk.old).history (D.state disk.new).history }
     ensures disk { KeepsDisk (D.state disk.old) (D.state disk.new) }
     ensures book { IsBookOf descriptor.now book.new }
@@ -77,6 +79,8 @@ fn begin<D: Disk>(
     ensures fault { IfErr result (λ fault. (fault ≡ ScanFault.Disk) × HasRisen (D.state disk.old).faults (D.state disk.new).faults) }
     ensures written { IsKnown (D.state disk.old)
         → OnOk result ((D.state disk.new).history ≡ made descriptor.now (D.state disk.old).history) }
+    ensures sound { IsDescriptor descriptor.now → IsKnown (D.state disk.old) → (D.state disk.old).history.reads ≡ []
+        → StaysSound descriptor.now (D.state disk.old).history (D.state disk.new).history }
     ensures disk { KeepsDisk (D.state disk.old) (D.state disk.new) }
 {
     match make_file(descriptor, disk) {
@@ -148,14 +152,16 @@ impl Store {
         // Whatever it answers, a file that isn't empty is not written to, and synced once at the most.
         ensures unwritten { IsKnown (D.state disk.old) → 0 < length (D.state disk.old).history.reads
             → SyncsAtMost (D.state disk.old).history (D.state disk.new).history }
-        // Each image begins with the header, and each committed chunk stands in it.
+        // Each image begins with the header, and each committed chunk stands in it where what reads gave is sound.
         ensures begins { IsKnown (D.state disk.old)
             → OnOk result (Throughout (D.state disk.new).history (moment_of (D.state disk.new).history) (HasHeader descriptor.now)) }
-        ensures stands { IsKnown (D.state disk.old) → IfOk result (λ s. AllStand descriptor.now s.committed (D.state disk.new).history) }
-        // What reads give is the one image, and agrees with the store.
+        ensures stands { IsKnown (D.state disk.old) → IsSound descriptor.now (D.state disk.old).history.reads
+            → IfOk result (λ s. AllStand descriptor.now s.committed (D.state disk.new).history) }
+        // What reads give is the one image, and agrees with the store where it was sound.
         ensures one { IsKnown (D.state disk.old) → OnOk result ((image : List ℕ)
             → MayLeave (D.state disk.new).history image → image ≡ (D.state disk.new).history.reads) }
-        ensures agrees { IsKnown (D.state disk.old) → IfOk result (λ s. AgreesWith s (entry book.new) (D.state disk.new).history.reads) }
+        ensures agrees { IsKnown (D.state disk.old) → IsSound descriptor.now (D.state disk.old).history.reads
+            → IfOk result (λ s. AgreesWith s (entry book.new) (D.state disk.new).history.reads) }
         // Where what reads gave is sound, each image is, and no gate but a committed chunk's is open.
         ensures gated { IsKnown (D.state disk.old) → IsSound descriptor.now (D.state disk.old).history.reads → IfOk result (λ s.
             Throughout (D.state disk.new).history (moment_of (D.state disk.new).history) (IsGated descriptor.now (is_committed s))) }
@@ -163,7 +169,8 @@ impl Store {
         ensures taken { IsKnown (D.state disk.old) → IfOk result (λ s. (i : ℕ)
             → Throughout (D.state disk.old).history (moment_of (D.state disk.old).history) (λ image. StandsIn descriptor.now image i)
             → slice_index_or s.committed i false ≡ true) }
-        // Whatever it answers, what stood in every image goes on standing.
+        // Whatever it answers, images that were sound stay so, and what stood in every image goes on standing.
+        ensures sound { IsKnown (D.state disk.old) → StaysSound descriptor.now (D.state disk.old).history (D.state disk.new).history }
         ensures goes_on { IsKnown (D.state disk.old) → GoesOn descriptor.now (D.state disk.old).history (D.state disk.new).history }
 
         ensures disk { KeepsDisk (D.state disk.old) (D.state disk.new) }

@@ -1,11 +1,13 @@
-use Rattle.std.proofs.Common.{inl, arith}
+use Rattle.std.proofs.Common.{◌≡◌, inl, [], sym, ◌∙◌, ap, subst, arith}
+use Rattle.pp_terms.specs.disk.Disk.{History}
+use Rattle.pp_store.specs.Sound.{StaysSound}
 use Rattle.pp_tree.specs.Book.{entry}
 use Rattle.pp_tree.proofs.Rootedness.{book_alone}
 use Rattle.pp_terms.proofs.Knowing.{known_on}
-use Rattle.pp_scan.proofs.Reading.{len_keeps}
+use Rattle.pp_scan.proofs.Reading.{len_keeps, no_bytes}
 use Rattle.pp_scan.proofs.Finding.{found_after, only_after}
 use Rattle.pp_scan.proofs.Holds.{root_known}
-use Rattle.pp_store.proofs.Opening.{fresh_found, goes_on_same, goes_on_synced, goes_on_empty, syncs_after}
+use Rattle.pp_store.proofs.Opening.{fresh_found, goes_on_same, goes_on_synced, goes_on_empty, sound_synced, syncs_after}
 use Rattle.pp_store.proofs.keeping.open_file.Goals as goal
 
 pub returns-in-Ok-eq0-clause-found : goal.returns-in-Ok-eq0-clause-found
@@ -60,3 +62,18 @@ returns-in-Ok-eq0-clause-unwritten g c known some =
 
 pub returns-in-Err-clause-unwritten : goal.returns-in-Err-clause-unwritten
 returns-in-Err-clause-unwritten g c known some = inl c.len.ensures.same
+
+pub returns-in-Ok-clause-sound : goal.returns-in-Ok-clause-sound
+returns-in-Ok-clause-sound g c known =
+    sound_synced c.args.descriptor.now (g.D.Disk.state c.args.disk.now).history (g.D.Disk.state c.len.new.self).history (g.D.Disk.state c.scan_into.new.disk).history
+    (g.met.D.Disk.whole c.args.disk.now known) c.len.ensures.same
+    (c.scan_into.ensures.looks.either (known_on (g.D.Disk.state c.args.disk.now) (g.D.Disk.state c.len.new.self) c.len.ensures.call.tells c.len.ensures.call.honest known))
+
+pub returns-in-Ok-eq0-clause-sound : goal.returns-in-Ok-eq0-clause-sound
+returns-in-Ok-eq0-clause-sound g c known =
+    let old = g.D.Disk.state c.args.disk.now in
+    let mid = g.D.Disk.state c.len.new.self in
+    let empty : old.history.reads ≡ [] = no_bytes old.history.reads (sym (c.in-Ok-eq0.ensures.counted known) ∙ c.in-Ok-eq0.field-0-test) in
+    subst (λ (h : History). StaysSound c.args.descriptor.now h (g.D.Disk.state c.begin.new.disk).history) c.len.ensures.same
+    (c.begin.ensures.sound c.requires.valid (known_on old mid c.len.ensures.call.tells c.len.ensures.call.honest known)
+    (ap (λ (h : History). h.reads) c.len.ensures.same ∙ empty))
