@@ -4,6 +4,8 @@ use Rattle.std.specs.Prelude.{ℕ, ◌+◌, ◌-◌, ◌^◌, ◌<◌}
 use Rattle.pp_terms.specs.Count.{HasRisen}
 use Rattle.pp_terms.specs.command.Stream.{SinkState}
 use Rattle.pp_terms.specs.disk.Disk.{DiskState, IsKnown}
+use Rattle.pp_terms.specs.disk.Sound.{BeganSound}
+use Rattle.pp_terms.specs.format.Descriptor.{Descriptor}
 use Rattle.pp_terms.specs.format.Traffic.{LinkState}
 
 -- the devices of a run at one time
@@ -17,9 +19,14 @@ abbrev pub IsCalm : ℕ → ℕ → Type 0
 IsCalm before now = HasRisen before now → ⊥
 
 -- The disk is honest and tells, and refused nothing but readings.
-pub record IsSound (old new : DiskState) : Type 0 where
+pub record IsWilling (old new : DiskState) : Type 0 where
   pub known : IsKnown old
   pub hard : IsCalm old.hard new.hard
+
+-- And every image was sound when the store was attached, so that its open gates can be believed.
+pub record IsSteady (d : Descriptor) (old new : DiskState) : Type 0 where
+  pub willing : IsWilling old new
+  pub began : BeganSound d new.history
 
 -- Neither count stands at the greatest number, so both say how far they rose.
 pub record CountsTell (new : Devices) : Type 0 where

@@ -13,7 +13,7 @@ use Rattle.pp_traffic.specs.Keeping.{Keeps}
 use Rattle.pp_traffic.specs.Serving.{window_of, ServesAll}
 use Rattle.pp_traffic.specs.Tallied.{TookTurns, IsTallied}
 use Rattle.pp_traffic.specs.Turns.{ClosesLast}
-use Rattle.pp_promises.specs.Premises.{Devices, IsCalm, IsSound, CountsTell, refusals}
+use Rattle.pp_promises.specs.Premises.{Devices, IsCalm, IsWilling, IsSteady, CountsTell, refusals}
 use Rattle.pp_promises.specs.Stored.{StoresAll}
 use Rattle.pp_promises.specs.Served.{ServesBut}
 use Rattle.pp_promises.specs.Announced.{AcknowledgesAll, TellsAll}
@@ -45,7 +45,7 @@ pub record IsSafe (d : Descriptor) (book : LookUp) (added : List Record) : Type 
   pub whole : AllByRecursion (IsWhole d) added
   pub closes_last : ClosesLast d added
 
--- While the disk is honest, tells and refuses nothing but readings, what is proved is stored.
+-- While the disk is honest and tells, began sound and refuses nothing but readings, what is proved is stored.
 abbrev pub IsStored : Descriptor → LookUp → DiskState → List Record → Type 0
 IsStored d book new added = StoresAll d book new.history.reads added
 
@@ -54,10 +54,8 @@ pub record IsAnnounced (d : Descriptor) (book : LookUp) (new : DiskState) (added
   pub acknowledges : AcknowledgesAll d book added
   pub tells : TellsAll d new.history added
 
--- But for so many turns, chunks, peers or addresses: who asks is served, who knocks is let in, nobody is choked without need
--- or left in silence.
-pub record IsPrompt (r : ℕ) (d : Descriptor) (new : DiskState) (added : List Record) : Type 0 where
-  pub serves : ServesBut r d (window_of d) new.history added
+-- But for so many turns or peers: who knocks is let in, nobody is choked without need or left in silence.
+pub record IsPrompt (r : ℕ) (d : Descriptor) (added : List Record) : Type 0 where
   pub lets_in : LetsInBut r d added
   pub chokes_none : ChokesNone r d added
   pub keeps_up : KeepsUpBut r d added
@@ -85,11 +83,12 @@ pub record Promises (d : Descriptor) (task : Task) (old new : Devices) (run : Co
   pub safe : IsSafe d run.book run.added
   pub keeps : IsKnown old.disk → Keeps d new.disk.history run.added
   pub requests : AsksAsTold d task run.added
-  pub stores : IsSound old.disk new.disk → IsStored d run.book new.disk run.added
-  pub announces : IsSound old.disk new.disk → IsCalm old.link.faults new.link.faults
+  pub stores : IsSteady d old.disk new.disk → IsStored d run.book new.disk run.added
+  pub announces : IsSteady d old.disk new.disk → IsCalm old.link.faults new.link.faults
       → IsAnnounced d run.book new.disk run.added
-  pub prompt : IsSound old.disk new.disk → CountsTell new → IsPrompt (refusals old new) d new.disk run.added
-  pub asks : IsSound old.disk new.disk → CountsTell new → Asks (refusals old new) d task new.disk run
+  pub serves : IsSteady d old.disk new.disk → CountsTell new → ServesBut (refusals old new) d (window_of d) new.disk.history run.added
+  pub prompt : IsWilling old.disk new.disk → CountsTell new → IsPrompt (refusals old new) d run.added
+  pub asks : IsSteady d old.disk new.disk → CountsTell new → Asks (refusals old new) d task new.disk run
 
 -- ---- the ends that report
 

@@ -1,5 +1,5 @@
 -- Worked examples on small traffic.
-use Rattle.std.proofs.Common.{◌≡◌, inl, inr, ⊎_elim, ℕ, ◌+◌, leb, true, false, ◌&&◌, List, [], ◌++◌, replicate, codes, refl, sym, ◌∙◌, ap, subst, arith}
+use Rattle.std.proofs.Common.{◌≡◌, inl, inr, ⊎_elim, ℕ, ◌+◌, leb, true, false, ◌&&◌, List, [], ◌++◌, length, replicate, codes, refl, sym, ◌∙◌, ap, subst, arith}
 use Rattle.std.specs.Prelude.{slice_index}
 use Rattle.std.proofs.lemmas.Bool.{false≢true, leb-true, and_parts, or_cases}
 use Rattle.std.proofs.lemmas.List.{get_or_append_left, length-append, append_assoc}
@@ -7,8 +7,9 @@ use Rattle.sha2.specs.Sha256.{first_words, schedule, rounds, compress, hash_afte
 use Rattle.pp_terms.specs.Example.{abc, store_of_abc}
 use Rattle.pp_terms.specs.tree.Tree.{node, height}
 use Rattle.pp_terms.specs.disk.Disk.{History, IsImage, fresh, settled}
-use Rattle.pp_terms.specs.disk.Store.{header, open_gate, Has}
-use Rattle.pp_terms.specs.disk.Image.{StandsIn}
+use Rattle.pp_terms.specs.disk.Store.{header, open_gate, file_size, Has}
+use Rattle.pp_terms.specs.disk.Image.{is_open, StandsIn}
+use Rattle.pp_terms.specs.disk.Sound.{IsSound}
 use Rattle.pp_terms.specs.format.Traffic.{Sent}
 use Rattle.pp_terms.specs.format.Messages.{leaves_of, span_in, handshake_at, data_at, ack_at, integrity_at, span_at, address_at, message_at, next_message, messages_from, datagram}
 use Rattle.pp_terms.specs.format.Descriptor.{chunks_of}
@@ -16,7 +17,7 @@ use Rattle.pp_terms.specs.format.Options.{fault_at, read_from, read_options}
 use Rattle.pp_terms.proofs.Images.{sole_image}
 use Rattle.pp_traffic.specs.Past.{read}
 use Rattle.pp_traffic.specs.Keeping.{announces, StandsSince, KeepsFrom, Keeps}
-use Rattle.pp_traffic.specs.Example.{have, peer, announced, pending, TurnExamples, CountExamples, WindowExamples, ClaimedExamples, KeepExamples}
+use Rattle.pp_traffic.specs.Example.{have, peer, announced, empty_store, pending, TurnExamples, CountExamples, WindowExamples, ClaimedExamples, KeepExamples}
 
 pub turn_examples : TurnExamples
 unfolding leaves_of span_in handshake_at data_at ack_at integrity_at span_at address_at message_at next_message messages_from datagram fault_at read_from read_options
@@ -82,22 +83,33 @@ at_zero h moment i is since = subst (λ (n : ℕ). StandsSince abc h moment n) (
 kept : Keeps abc (fresh store_of_abc) (announced 0)
 kept = record {
   held = λ i each image leaves. elim leaves [ inl is ↦ each image is | inr was ↦ absurd was ];
-  announced = (λ i e. at_zero (fresh store_of_abc) 0 i (announces_zero 0 i e) (λ image leaves. elim leaves [ inl is ↦ only_store image is | inr was ↦ absurd was ]), tt);
+  announced = λ sound. (λ i e. at_zero (fresh store_of_abc) 0 i (announces_zero 0 i e) (λ image leaves. elim leaves [ inl is ↦ only_store image is | inr was ↦ absurd was ]), tt);
 }
 
 synced : KeepsFrom abc (settled pending store_of_abc) 1 (settled pending store_of_abc).epoch (announced 1)
 synced = record {
   held = λ i each image leaves. elim leaves [ inl is ↦ each image is | inr was ↦ absurd was ];
-  announced = (λ i e. at_zero (settled pending store_of_abc) 1 i (announces_zero 1 i e) (λ image leaves. elim leaves [ inl is ↦ only_store image is | inr was ↦ absurd was ]), tt);
+  announced = λ sound. (λ i e. at_zero (settled pending store_of_abc) 1 i (announces_zero 1 i e) (λ image leaves. elim leaves [ inl is ↦ only_store image is | inr was ↦ absurd was ]), tt);
 }
 
--- a crash may leave the header alone
-header_alone : IsImage pending.epoch (header abc)
-header_alone = record { no_shorter = omega arith; no_longer = omega arith; stays = λ k lt free. refl }
+-- a crash may leave the store without the chunk
+nothing_yet : IsImage pending.epoch empty_store
+nothing_yet = record { no_shorter = omega arith; no_longer = omega arith; stays = λ k lt free. refl }
 
-not_held : StandsIn abc (header abc) 0 → ⊥
+not_held : StandsIn abc empty_store 0 → ⊥
 unfolding header first_words schedule rounds compress hash_after digest_bytes sha256 node height
-not_held s = let e : false ≡ true = s.held in cc
+not_held s = let e : false ≡ true = s.opened in cc
+
+-- which is a sound one
+began_sound : (image : List ℕ) → IsImage pending.first image → IsSound abc image
+unfolding header first_words schedule rounds compress hash_after digest_bytes sha256 node height
+began_sound image is = subst (IsSound abc) (sym (sole_image empty_store image is)) (record {
+  long = λ begins. let size : file_size abc ≡ 1153 = refl in let long : length empty_store ≡ 1153 = refl in omega (arith, size, long);
+  held = λ begins i lt opened.
+      let one : chunks_of abc ≡ 1 = refl in
+      let zero_is : i ≡ 0 = omega (arith, one) in
+      let e : false ≡ true = subst (λ (n : ℕ). is_open abc empty_store n ≡ true) zero_is opened in cc;
+})
 
 announced_zero : announces 0 (read abc (Sent 0 peer have)).messages.read ≡ true
 unfolding leaves_of span_in handshake_at data_at ack_at integrity_at span_at address_at message_at next_message messages_from datagram
@@ -106,6 +118,6 @@ announced_zero = refl
 pub keep_examples : KeepExamples
 keep_examples = record {
   kept = kept;
-  too_early = λ keeps. not_held (keeps.announced.0 0 announced_zero (header abc) (inl header_alone));
+  too_early = λ keeps. not_held ((keeps.announced began_sound).0 0 announced_zero empty_store (inl nothing_yet));
   synced = synced;
 }

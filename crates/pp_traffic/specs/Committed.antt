@@ -3,6 +3,7 @@
 use Rattle.std.specs.Prelude.{◌≡◌, ℕ, Bool, true, false, List, [], ◌∷◌, length, slice_index_or}
 use Rattle.std.specs.List.{list_any}
 use Rattle.pp_terms.specs.disk.Disk.{DiskState, IsKnown, moment_of}
+use Rattle.pp_terms.specs.disk.Sound.{BeganSound}
 use Rattle.pp_terms.specs.format.Descriptor.{Descriptor, chunks_of}
 use Rattle.pp_terms.specs.format.Messages.{Message, Request}
 use Rattle.pp_terms.specs.format.Traffic.{Record, Received, Quiet, Sent}
@@ -13,11 +14,11 @@ abbrev pub is_in : List Bool → ℕ → Bool
 is_in committed i = slice_index_or committed i false
 
 -- Each chunk that was announced is in the set. Over a disk that is honest and tells, each in it stands in every image that a
--- crash now may leave, and each that stood in every image at the attachment is in it.
+-- crash now may leave, if every image was sound at the attachment; and each that stood in every image then is in it.
 pub record AreCommitted (d : Descriptor) (disk' : DiskState) (added : List Record) (committed : List Bool) : Type 0 where
   pub size : length committed ≡ chunks_of d
   pub announced : EachAnnounced d (λ moment i. is_in committed i ≡ true) added
-  pub stand : IsKnown disk' → (i : ℕ) → is_in committed i ≡ true → StandsSince d disk'.history (moment_of disk'.history) i
+  pub stand : IsKnown disk' → BeganSound d disk'.history → (i : ℕ) → is_in committed i ≡ true → StandsSince d disk'.history (moment_of disk'.history) i
   pub kept : IsKnown disk' → (i : ℕ) → StoodThroughout d disk'.history i → is_in committed i ≡ true
 
 -- the record was sent, and asks for chunks

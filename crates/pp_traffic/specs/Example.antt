@@ -102,9 +102,13 @@ pub record ClaimedExamples : Type 0 where
 abbrev pub announced : ℕ → List Record
 announced moment = Sent moment peer have ∷ []
 
--- the chunk was written over a header, and is pending
+-- the store while it holds no chunk: its gate is closed
+abbrev pub empty_store : List ℕ
+empty_store = header abc ++ replicate 1089 0
+
+-- the chunk was written there, and is pending
 abbrev pub pending : History
-pending = after_write (fresh (header abc)) 64 (codes "abc")
+pending = after_write (fresh empty_store) 64 (codes "abc")
 
 pub record KeepExamples : Type 0 where
   -- a chunk that is on the disk may be announced
