@@ -9,7 +9,9 @@ use Rattle.pp_terms.specs.format.Traffic.{Record, Received}
 use Rattle.pp_terms.specs.format.Descriptor.{Descriptor, IsDescriptor, chunks_of}
 use Rattle.pp_terms.specs.tree.Book.{LookUp, IsRooted}
 use Rattle.pp_terms.specs.disk.Disk.{DiskState, History, IsKnown}
+use Rattle.pp_terms.specs.disk.Store.{HasHeader}
 use Rattle.pp_terms.specs.disk.Image.{is_found}
+use Rattle.pp_terms.specs.disk.Sound.{IsSound}
 use Rattle.pp_terms.proofs.Facts.{member_below}
 use Rattle.pp_scan.specs.Holding.{is_there}
 use Rattle.pp_scan.proofs.Holds.{found_there, empty_none}
@@ -223,19 +225,24 @@ paths_found d disk book set rooted found = record {
   peaks = found.peaks;
 }
 
--- the chunks that were found are there since
-pub there_found : (d : Descriptor) (disk disk' : DiskState) (book : LookUp) (set : List Bool) (i : ℕ) → IsDescriptor d → IsKnown disk → IsScanned d disk book set → IsOpened d disk.history disk'.history
-    → slice_index_or set i false ≡ true → is_there d disk'.history.reads book i ≡ true
-there_found d disk disk' book set i valid known found opened e = by disk.history.reads refl
+-- the chunks that were found in a sound file are there since
+pub there_found : (d : Descriptor) (disk disk' : DiskState) (book : LookUp) (set : List Bool) (i : ℕ) → IsKnown disk → IsSound d disk.history.reads → IsScanned d disk book set
+    → IsOpened d disk.history disk'.history → slice_index_or set i false ≡ true → is_there d disk'.history.reads book i ≡ true
+there_found d disk disk' book set i known sound found opened e = by disk.history.reads refl
   where
     lt : i < chunks_of d
     lt = let within = member_below set i e in omega (arith, found.count, within)
 
     by : (reads : List ℕ) → disk.history.reads ≡ reads → is_there d disk'.history.reads book i ≡ true
-    by [] empty = absurd (false≢true (sym (ap (λ (r : List ℕ). is_found d r i) empty ∙ empty_none d i) ∙ sym (found.held known i lt) ∙ e))
+    by [] empty = absurd (false≢true (sym (ap (λ (r : List ℕ). is_found d r i) empty ∙ empty_none d i) ∙ sym (found.found known i lt) ∙ e))
     by (x ∷ rest) some =
         let again : disk'.history.reads ≡ disk.history.reads = ap (λ (h : History). h.reads) (opened.scanned (omega (arith, ap length some))) in
-        ap (λ (r : List ℕ). is_there d r book i) again ∙ found_there d disk.history.reads book i (found.known known) (found.peaks i e) (sym (found.held known i lt) ∙ e)
+        let begins : HasHeader d disk.history.reads = ⊎_elim
+        (λ empty. absurd (let none : length disk.history.reads ≡ 0 = ap length empty in let more : length disk.history.reads ≡ length (x ∷ rest) = ap length some in omega (arith, none, more)))
+        (λ begins. begins)
+        (found.begins known) in
+        ap (λ (r : List ℕ). is_there d r book i) again
+        ∙ found_there d disk.history.reads book i (found.known known) (found.peaks i e) begins sound lt (sym (found.found known i lt) ∙ e)
 
 none_plain : (d : Descriptor) → NonePlain d []
 none_plain d other plain = by other.is_dialled plain.begins

@@ -7,11 +7,13 @@ ghost use Rattle.pp_terms.specs.tree.Book.{IsRooted};
 ghost use Rattle.pp_terms.specs.format.Descriptor.{IsDescriptor, chunks_of};
 ghost use Rattle.pp_terms.specs.disk.Disk.{IsKnown, Throughout, moment_of};
 ghost use Rattle.pp_terms.specs.disk.Image.{is_found, StandsIn};
+ghost use Rattle.pp_terms.specs.disk.Sound.{IsSound};
 ghost use Rattle.pp_tree.specs.Book.{entry, empty_book, IsBookOf, HasRootAlone};
 ghost use Rattle.pp_scan.specs.Look.{SyncsAtMost};
 ghost use Rattle.pp_scan.specs.Holding.{is_there};
 ghost use Rattle.pp_scan.specs.Scan.{HasFound};
 ghost use Rattle.pp_store.specs.Keep.{KeepsDisk};
+ghost use Rattle.pp_store.specs.Sound.{StaysSound};
 ghost use Rattle.pp_store.specs.Store.{IsOpened, AllStand, GoesOn};
 ghost use Rattle.pp_core.specs.Opening.{HasBegun, HasOpened};
 ghost use Rattle.pp_core.specs.Serving.{HasPaths};
@@ -96,7 +98,7 @@ fn make_rooms(alloc: Global, descriptor: &Descriptor, book: &mut Book) -> Result
 impl Peer {
     /// Opens the descriptor's store and begins as a peer of it. `seed` are 32 bytes that nobody can guess, from which channel
     /// numbers are drawn. The book is empty, and has afterwards the nodes that the store lets be known. All memory is taken
-    /// first; an empty file gets the header and is synced, any other is synced and scanned.
+    /// first; an empty file becomes a store that holds no chunk, any other is synced and scanned.
     pub fn open<D: Disk>(
         alloc: Global,
         descriptor: &Descriptor,
@@ -120,11 +122,15 @@ impl Peer {
         // Exactly the chunks are committed that are found in what reads gave.
         ensures held { IsKnown (D.state disk.old) → IfOk result (λ p. (i : ℕ) → i < chunks_of descriptor.now
             → slice_index_or p.committed i false ≡ is_found descriptor.now (D.state disk.old).history.reads i) }
-        // Each committed chunk is there,
-        ensures there { IsKnown (D.state disk.old) → IfOk result (λ p. (i : ℕ) → slice_index_or p.committed i false ≡ true
+        // Where what reads gave was sound, each committed chunk is there,
+        ensures there { IsKnown (D.state disk.old) → IsSound descriptor.now (D.state disk.old).history.reads
+            → IfOk result (λ p. (i : ℕ) → slice_index_or p.committed i false ≡ true
             → is_there descriptor.now (D.state disk.new).history.reads (entry book.new) i ≡ true) }
-        // and stands in every image; and whatever it answers, what stood in every image goes on standing.
-        ensures kept { IsKnown (D.state disk.old) → IfOk result (λ p. AllStand descriptor.now p.committed (D.state disk.new).history) }
+        // and stands in every image; and whatever it answers, images that were sound stay so, and what stood in every image
+        // goes on standing.
+        ensures kept { IsKnown (D.state disk.old) → IsSound descriptor.now (D.state disk.old).history.reads
+            → IfOk result (λ p. AllStand descriptor.now p.committed (D.state disk.new).history) }
+        ensures sound { IsKnown (D.state disk.old) → StaysSound descriptor.now (D.state disk.old).history (D.state disk.new).history }
         ensures goes_on { IsKnown (D.state disk.old) → GoesOn descriptor.now (D.state disk.old).history (D.state disk.new).history }
         ensures disk { KeepsDisk (D.state disk.old) (D.state disk.new) }
         // A chunk that stood in every image is committed.

@@ -12,15 +12,15 @@ returns-in-Ok-open-clause-stands g c =
     (paths_found c.args.descriptor.now _ (entry c.open.new.book) c.in-Ok-open.store.committed c.open.ensures.book.rooted c.in-Ok-open.ensures.found))
 
 pub returns-in-Ok-open-clause-kept : goal.returns-in-Ok-open-clause-kept
-returns-in-Ok-open-clause-kept g c known i e = c.in-Ok-open.ensures.stands known i (rw c.begin.ensures at e)
+returns-in-Ok-open-clause-kept g c known sound i e = c.in-Ok-open.ensures.stands known sound i (rw c.begin.ensures at e)
 
 pub returns-in-Ok-open-clause-held : goal.returns-in-Ok-open-clause-held
-returns-in-Ok-open-clause-held g c known i within = rw c.begin.ensures (c.in-Ok-open.ensures.found.held known i within)
+returns-in-Ok-open-clause-held g c known i within = rw c.begin.ensures (c.in-Ok-open.ensures.found.found known i within)
 
 pub returns-in-Ok-open-clause-taken : goal.returns-in-Ok-open-clause-taken
 returns-in-Ok-open-clause-taken g c known i stood = rw c.begin.ensures (c.in-Ok-open.ensures.taken known i stood)
 
 pub returns-in-Ok-open-clause-there : goal.returns-in-Ok-open-clause-there
-returns-in-Ok-open-clause-there g c known i e =
-    there_found c.args.descriptor.now (g.D.Disk.state c.args.disk.now) (g.D.Disk.state c.open.new.disk) (entry c.open.new.book) c.in-Ok-open.store.committed i c.make_rooms.ensures.valid known c.in-Ok-open.ensures.found
+returns-in-Ok-open-clause-there g c known sound i e =
+    there_found c.args.descriptor.now (g.D.Disk.state c.args.disk.now) (g.D.Disk.state c.open.new.disk) (entry c.open.new.book) c.in-Ok-open.store.committed i known sound c.in-Ok-open.ensures.found
     (c.in-Ok-open.ensures.opened known) (rw c.begin.ensures at e)
