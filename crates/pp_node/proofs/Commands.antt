@@ -12,7 +12,7 @@ use Rattle.pp_words.proofs.OneCommand.{one_command}
 use Rattle.pp_words.proofs.OneReading.{command_not_wrong}
 use Rattle.pp_node.specs.Built.{built}
 use Rattle.pp_node.specs.Run.{ImportsIn, IsImportRun, ImportEnds}
-use Rattle.pp_node.specs.Looking.{IsUnwritten}
+use Rattle.pp_node.specs.Looking.{IsUnwritten, Lasts}
 use Rattle.pp_node.specs.Outside.{Outside, outside}
 use Rattle.pp_node.specs.Checking.{ChecksIn, CheckEnds}
 use Rattle.pp_node.specs.Exporting.{ExportsIn, ExportEnds}
@@ -38,17 +38,17 @@ module _ (status : Status) (store : List ℕ) (link : LinkState) (disk disk' : D
 
   pub check_ended : (d : Descriptor) (source : SourceState) (book book' : BookState)
       → ((l : LinkState) (s : SourceState) → ChecksIn status d (outside disk l s sink book) (outside disk' l s sink' book'))
-      → (IsKnown disk → GainsName disk.history.names store disk'.history.names) → IsUnwritten disk disk' → (book' ≡ book) ⊎ IsBookOf d book'
+      → (IsKnown disk → GainsName disk.history.names store disk'.history.names) → IsUnwritten disk disk' → (IsKnown disk → Lasts d disk'.history) → (book' ≡ book) ⊎ IsBookOf d book'
       → CheckEnds (number_of status) store d (outside disk link source sink book) (outside disk' link source sink' book')
-  check_ended d source book book' ends named unwritten rooted =
-      record { status = status; number = refl; ends = ends link source; named = named; unwritten = unwritten; unread = refl; rooted = rooted }
+  check_ended d source book book' ends named unwritten lasts rooted =
+      record { status = status; number = refl; ends = ends link source; named = named; unwritten = unwritten; lasts = lasts; unread = refl; rooted = rooted }
 
   pub export_ended : (d : Descriptor) (source : SourceState) (book book' : BookState)
       → ((l : LinkState) (s : SourceState) → ExportsIn status d (outside disk l s sink book) (outside disk' l s sink' book'))
-      → (IsKnown disk → GainsName disk.history.names store disk'.history.names) → IsUnwritten disk disk' → (book' ≡ book) ⊎ IsBookOf d book'
+      → (IsKnown disk → GainsName disk.history.names store disk'.history.names) → IsUnwritten disk disk' → (IsKnown disk → Lasts d disk'.history) → (book' ≡ book) ⊎ IsBookOf d book'
       → ExportEnds (number_of status) store d (outside disk link source sink book) (outside disk' link source sink' book')
-  export_ended d source book book' ends named unwritten rooted =
-      record { status = status; number = refl; ends = ends link source; named = named; unwritten = unwritten; unread = refl; rooted = rooted }
+  export_ended d source book book' ends named unwritten lasts rooted =
+      record { status = status; number = refl; ends = ends link source; named = named; unwritten = unwritten; lasts = lasts; unread = refl; rooted = rooted }
 
 -- ---- a run's end
 

@@ -8,6 +8,7 @@ use Rattle.pp_terms.specs.tree.Content.{chunk_of, chunk_length}
 use Rattle.pp_terms.specs.format.Descriptor.{Descriptor, IsDescriptor, chunks_of}
 use Rattle.pp_terms.specs.disk.Disk.{DiskState, History, IsKnown, IsRead}
 use Rattle.pp_terms.specs.disk.Image.{is_found}
+use Rattle.pp_terms.specs.disk.Sound.{BeganSound}
 use Rattle.pp_terms.specs.disk.Store.{chunk_place}
 use Rattle.pp_terms.specs.command.Stream.{SinkState, Gains}
 use Rattle.pp_terms.proofs.Knowing.{known_on}
@@ -17,7 +18,7 @@ use Rattle.pp_scan.specs.Holding.{is_there}
 use Rattle.pp_scan.proofs.Reading.{known_after}
 use Rattle.pp_store.specs.declared.reading.ReadFault.{ReadFault}
 use Rattle.pp_store.specs.declared.reading.ReadFault.TheVariants as read
-use Rattle.pp_store.specs.ReadChunk.{HasRead, IsRightChunk}
+use Rattle.pp_store.specs.ReadChunk.{HasRead, IsRightChunk, IsDamaged}
 use Rattle.pp_terms.specs.command.Stream.{SourceState}
 use Rattle.pp_terms.specs.format.Traffic.{LinkState}
 use Rattle.pp_tree.specs.Book.{BookState, entry}
@@ -80,18 +81,16 @@ module _ (d : Descriptor) (old mid seen new : DiskState) (book : LookUp) (known 
   }
 
 -- a damaged chunk, likewise
-pub damaged_seen : (d : Descriptor) (old mid : DiskState) (book : LookUp) → (IsKnown old → IsKnown mid) → (n : ℕ) → IsDamagedChunk d mid book n → IsDamagedChunk d old book n
-damaged_seen d old mid book known n is = record {
+pub damaged_seen : (d : Descriptor) (old mid new : DiskState) (book : LookUp) → (IsKnown old → IsKnown mid) → (n : ℕ) → IsDamagedChunk d mid new book n → IsDamagedChunk d old new book n
+damaged_seen d old mid new book known n is = record {
   bytes = is.bytes;
   found = is.found;
   kept = is.kept;
-  room = is.room;
-  damaged = record {
-    kept_is = is.damaged.kept_is;
-    found_is = is.damaged.found_is;
-    differ = is.damaged.differ;
-    read = λ k. absurd (is.never (known k));
-  };
+  size = is.size;
+  found_is = is.found_is;
+  kept_is = is.kept_is;
+  differ = is.differ;
+  read = λ k. is.read (known k);
   never = λ k. is.never (known k);
 }
 
@@ -148,7 +147,7 @@ readable_after d old new book keeps is =
       rooted = is.rooted;
       whole = whole_seen d new old old new book known found is.whole;
       leaf = is.leaf;
-      there = λ k i lt. ap (λ (r : List ℕ). is_there d r book i) reads ∙ is.there (known k) i lt;
+      there = λ k began i lt. ap (λ (r : List ℕ). is_there d r book i) reads ∙ is.there (known k) (subst (BeganSound d) keeps.same began) i lt;
       same = λ k. reads ∙ is.same (known k) ∙ sym found;
     }
 
@@ -169,15 +168,21 @@ module _ (d : Descriptor) (disk disk' : DiskState) (book : LookUp) (i : ℕ) (ou
   }
 
   pub chunk_damaged : (result : Result ℕ ReadFault) (found kept : List ℕ) → result ≡ Err (read.Damaged found kept) → HasRead ⊥ d i book disk disk' out result
-      → (IsKnown disk → is_there d disk.history.reads book i ≡ true → (found kept : List ℕ) → result ≡ Err (read.Damaged found kept) → ⊥) → IsDamagedChunk d disk book i
-  chunk_damaged result found kept is does sound = record {
-    bytes = out;
-    found = found;
-    kept = kept;
-    room = room;
-    damaged = subst (HasRead ⊥ d i book disk disk' out) is does;
-    never = λ k. sound k (readable.there k i within) found kept is;
-  }
+      → (IsKnown disk → is_there d disk.history.reads book i ≡ true → (found kept : List ℕ) → result ≡ Err (read.Damaged found kept) → ⊥) → KeepsAll disk disk' → IsDamagedChunk d disk disk' book i
+  chunk_damaged result found kept is does sound keeps =
+      let damaged : IsDamaged d i book disk out found kept = subst (HasRead ⊥ d i book disk disk' out) is does in
+      record {
+        bytes = take (chunk_length d.size d.chunk i) out;
+        found = found;
+        kept = kept;
+        size = length-take (chunk_length d.size d.chunk i) out ∙ omega (arith, room);
+        found_is = damaged.found_is;
+        kept_is = damaged.kept_is;
+        differ = damaged.differ;
+        read = λ k. subst (λ (r : List ℕ). IsRead r (chunk_place d.chunk i) (take (chunk_length d.size d.chunk i) out))
+            (readable.same k ∙ sym (ap (λ (h : History). h.found) keeps.same)) (damaged.read k);
+        never = λ k began. sound k (readable.there k (subst (BeganSound d) keeps.same began) i within) found kept is;
+      }
 
 pub disk_refused : (d : Descriptor) (i : ℕ) (book : LookUp) (disk disk' : DiskState) (out : List ℕ) (result : Result ℕ ReadFault) → result ≡ Err read.Disk → HasRead ⊥ d i book disk disk' out result
     → HasRisen disk.faults disk'.faults
@@ -239,7 +244,7 @@ module _ (d : Descriptor) (first disk disk' : DiskState) (old mid new : SinkStat
         n = n;
         within = within;
         put = record { bytes = p.bytes; chunks = p.chunks; gained = p.gained };
-        damaged = damaged_seen d first disk nodes known_then n damaged;
+        damaged = damaged_seen d first disk disk' nodes known_then n damaged;
       }
 
   pub stopped_at : (link : LinkState) (source : SourceState) (earlier : BookState) (result : Result (Unit {0}) PutFault) (fault : PutFault) → result ≡ Err fault → PutsChunk d n mid new disk disk' nodes result
@@ -261,9 +266,9 @@ readable_found d disk book set is same rooted all =
     let at : (i : ℕ) → i < chunks_of d → get_or set i false ≡ true = λ i lt. all i (omega (arith, lt, is.count)) in
     record {
       rooted = rooted;
-      whole = record { begins = is.begins; holding = λ k i lt. sym (is.held k i lt) ∙ at i lt };
+      whole = record { begins = is.begins; holding = λ k i lt. sym (is.found k i lt) ∙ at i lt };
       leaf = λ i lt. is.leaf i (at i lt);
-      there = λ k i lt. is.there k i (at i lt);
+      there = λ k began i lt. is.there k began i (at i lt);
       same = same;
     }
 
@@ -273,7 +278,7 @@ pub incomplete_found : (d : Descriptor) (sink : SinkState) (disk : DiskState) (l
 incomplete_found d sink disk link source before book set i is lt absent = record {
   begins = is.begins;
   absent = λ k. let within : i < chunks_of d = omega (arith, lt, is.count) in
-      (i, within, sym (is.held k i within) ∙ get_or_default set i false true lt ∙ absent);
+      (i, within, sym (is.found k i within) ∙ get_or_default set i false true lt ∙ absent);
   silent = refl;
 }
 
@@ -336,7 +341,7 @@ module _ (d : Descriptor) (old mid new : DiskState) (sink sink' : SinkState) (li
     gained = is.gained;
   }
   exported_later ends.Memory is = record { begins = λ k. is.begins (known_mid k); silent = is.silent }
-  exported_later ends.Damaged is = record { n = is.n; within = is.within; put = put_later is.n is.put; damaged = damaged_seen d old mid (entry state) known_mid is.n is.damaged }
+  exported_later ends.Damaged is = record { n = is.n; within = is.within; put = put_later is.n is.put; damaged = damaged_seen d old mid new (entry state) known_mid is.n is.damaged }
   exported_later ends.Usage is = absurd is
   exported_later ends.LinkFault is = absurd is
   exported_later ends.SourceFault is = absurd is
@@ -349,7 +354,7 @@ found_now d disk disk' book set tells honest f =
     let back = known_on disk' disk (sym tells) (sym honest) in record {
       count = f.count;
       leaf = f.leaf;
-      held = λ known. f.held (back known);
+      found = λ known. f.found (back known);
       there = λ known. f.there (back known);
       begins = λ known. f.begins (back known);
     }

@@ -1,12 +1,14 @@
 -- What is found in a store that was attached.
-use Rattle.std.proofs.Common.{◌≡◌, inl, inr, ⊎_elim, ℕ, ◌<◌, ◌≤◌, Bool, List, length, get_or, Result, Ok, Err, sym, ◌∙◌, ap, subst, arith}
+use Rattle.std.proofs.Common.{◌≡◌, inl, inr, ⊎_elim, ℕ, ◌<◌, ◌≤◌, Bool, true, List, length, get_or, Result, Ok, Err, sym, ◌∙◌, ap, subst, arith}
 use Rattle.std.specs.Prelude.{Option}
 use Rattle.pp_terms.specs.Count.{HasRisen}
 use Rattle.pp_terms.specs.tree.Book.{LookUp}
 use Rattle.pp_terms.specs.format.Descriptor.{Descriptor, chunks_of}
-use Rattle.pp_terms.specs.disk.Store.{header}
+use Rattle.pp_terms.specs.disk.Store.{header, HasHeader}
 use Rattle.pp_terms.specs.disk.Image.{known, is_found}
-use Rattle.pp_terms.specs.disk.Disk.{DiskState, History, IsKnown, GainsName, DoesAttach}
+use Rattle.std.proofs.lemmas.Bool.{false≢true}
+use Rattle.pp_terms.specs.disk.Disk.{DiskState, Epoch, History, IsImage, IsKnown, GainsName, DoesAttach}
+use Rattle.pp_terms.specs.disk.Sound.{IsSound, BeganSound}
 use Rattle.pp_terms.proofs.Facts.{member_below}
 use Rattle.pp_terms.proofs.Knowing.{known_on}
 use Rattle.pp_scan.specs.declared.scanning.ScanFault.{ScanFault}
@@ -16,7 +18,7 @@ use Rattle.pp_scan.specs.Header.{IsDifference}
 use Rattle.pp_scan.specs.Look.{KeepsAll, OnlySyncs}
 use Rattle.pp_scan.specs.Holding.{is_there}
 use Rattle.pp_scan.specs.Scan as scan
-use Rattle.pp_scan.proofs.Holds.{found_there}
+use Rattle.pp_scan.proofs.Holds.{found_there, empty_none}
 use Rattle.pp_terms.specs.disk.Untouched.{IsFreshlyAttached, IsSyncedAtMost}
 use Rattle.pp_store.specs.Probe.{HasProbed}
 use Rattle.pp_store.specs.declared.findings.Probe.{Probe}
@@ -33,7 +35,8 @@ none_other d reads at found want (inr begins) some first = first.differ (first.f
 pub named_later : (old : Option (List (List ℕ))) (name : List ℕ) (mid new : Option (List (List ℕ))) → GainsName old name mid → new ≡ mid → GainsName old name new
 named_later old name mid new gains same = subst (λ (o : Option (List (List ℕ))). GainsName old name o) (sym same) gains
 
-module _ (d : Descriptor) (old new : DiskState) (book : LookUp) (fresh : IsKnown old → IsFreshlyAttached old.history) (looks : OnlySyncs old new) where
+module _ (d : Descriptor) (old new : DiskState) (book : LookUp) (fresh : IsKnown old → IsFreshlyAttached old.history) (looks : OnlySyncs old new)
+    (whole : IsKnown old → IsImage old.history.epoch old.history.reads) where
   -- a sync keeps what reads give and what they gave at the attachment
   pub same_found : IsKnown old → new.history.found ≡ old.history.reads
   same_found known = ⊎_elim (λ e. ap (λ (h : History). h.found) e) (λ e. ap (λ (h : History). h.found) e) (looks.either known) ∙ (fresh known).showed
@@ -52,14 +55,28 @@ module _ (d : Descriptor) (old new : DiskState) (book : LookUp) (fresh : IsKnown
   pub names_scan : IsKnown old → new.history.names ≡ old.history.names
   names_scan known = ⊎_elim (λ e. ap (λ (h : History). h.names) e) (λ e. ap (λ (h : History). h.names) e) (looks.either known)
 
+  -- what reads gave at the attachment is sound where every image was
+  sound_then : IsKnown old → BeganSound d new.history → IsSound d old.history.reads
+  sound_then known began =
+      let same : new.history.first ≡ old.history.epoch =
+      ⊎_elim (λ e. ap (λ (h : History). h.first) e) (λ e. ap (λ (h : History). h.first) e) (looks.either known) ∙ (fresh known).began in
+      began old.history.reads (subst (λ (e : Epoch). IsImage e old.history.reads) (sym same) (whole known))
+
+  -- where a chunk was found the file isn't empty
+  begins_found : (i : ℕ) → is_found d old.history.reads i ≡ true → IsOf d old.history.reads → HasHeader d old.history.reads
+  begins_found i found (inl empty) = absurd (false≢true (sym (ap (λ (r : List ℕ). is_found d r i) empty ∙ empty_none d i) ∙ found))
+  begins_found i found (inr begins) = begins
+
   found_scan : (set : List Bool) → scan.IsScanned d old book set → IsFound d old new book set
   found_scan set is = record {
     count = is.count;
     leaf = is.leaf;
-    held = λ known i lt. is.held known i lt ∙ ap (λ (r : List ℕ). is_found d r i) (sym (same_found known));
-    there = λ known i at.
+    found = λ known i lt. is.found known i lt ∙ ap (λ (r : List ℕ). is_found d r i) (sym (same_found known));
+    there = λ known began i at.
         let within : i < chunks_of d = omega (arith, member_below set i at, is.count) in
-        ap (λ (r : List ℕ). is_there d r book i) (same_reads known) ∙ found_there d old.history.reads book i (is.known known) (is.peaks i at) (sym (is.held known i within) ∙ at);
+        let is_there' = sym (is.found known i within) ∙ at in
+        ap (λ (r : List ℕ). is_there d r book i) (same_reads known)
+        ∙ found_there d old.history.reads book i (is.known known) (is.peaks i at) (begins_found i is_there' (is.begins known)) (sound_then known began) within is_there';
     begins = λ known. subst (IsOf d) (sym (same_found known)) (is.begins known);
   }
 
@@ -158,7 +175,7 @@ module _ (d : Descriptor) (old mid new : DiskState) (book : LookUp) (known_mid :
   looked_later (Ok set) is = record {
     count = is.count;
     leaf = is.leaf;
-    held = λ known. is.held (known_mid known);
+    found = λ known. is.found (known_mid known);
     there = λ known. is.there (known_mid known);
     begins = λ known. is.begins (known_mid known);
   }

@@ -10,6 +10,7 @@ use Rattle.pp_terms.specs.tree.Range.{Span}
 use Rattle.pp_terms.specs.tree.Tree.{Node}
 use Rattle.pp_terms.specs.disk.Disk.{DiskState, History, IsKnown, GainsName, moment_of}
 use Rattle.pp_terms.specs.disk.Image.{is_found}
+use Rattle.pp_terms.specs.disk.Sound.{BeganSound}
 use Rattle.pp_terms.specs.disk.Untouched.{IsSyncedAtMost}
 use Rattle.pp_terms.specs.format.Descriptor.{Descriptor}
 use Rattle.pp_terms.specs.format.Messages.{Message, Data, Have, Datagram, datagram}
@@ -30,9 +31,9 @@ use Rattle.pp_core.specs.Sends.{IsOurs, HasShape, WasDamaged}
 use Rattle.pp_core.specs.Standing.{State, IsWhole, DialsNone, StandsFor}
 use Rattle.pp_core.specs.Writing.{hash_of, path_nodes}
 use Rattle.pp_core.proofs.Relations.{gains_nothing}
-use Rattle.pp_node.specs.Looking.{IsOf}
+use Rattle.pp_node.specs.Looking.{IsOf, Lasts}
 use Rattle.pp_node.specs.Outside.{Outside}
-use Rattle.pp_node.specs.Preparing.{Lasts, IsUnsent, IsReady, HasPrepared, LeavesDisk, LeavesLink}
+use Rattle.pp_node.specs.Preparing.{IsUnsent, IsReady, HasPrepared, LeavesDisk, LeavesLink}
 use Rattle.pp_node.specs.Promising.{SeedWords, IsSmoothRun, IsSeeded, IsUnturned, SeedsIn, LeavesFile, Binds, SeedEnds}
 use Rattle.pp_node.specs.Turning.{IsSmooth, IsCalm, ServesHeld, TakesTurns}
 use Rattle.pp_node.specs.Seeding.{Serves, ReportsSeed}
@@ -178,9 +179,9 @@ module _ (w : SeedWords) (random : List ℕ) (old new : Outside) (fin : State) (
 
   pub all_kept : (IsKnown old.disk → Lasts d new.disk.history) → IsKnown old.disk → Keeps d new.disk.history turned.added
   all_kept lasts known = record {
-    held = lasts known;
-    announced = subst (λ (h : History). EachAnnounced d (StandsSince d h) turned.added) (sym same)
-        (announced_kept d s.opened.history s.first.committed turned.added (ready.kept known)
+    held = (lasts known).stood;
+    announced = λ sound. subst (λ (h : History). EachAnnounced d (StandsSince d h) turned.added) (sym same)
+        (announced_kept d s.opened.history s.first.committed turned.added (ready.kept known (subst (BeganSound d) same sound))
         (subst (λ (x : List Bool). EachAnnounced d (λ moment i. (slice_index_or x i false ≡ true) × (moment_of s.opened.history ≤ moment)) turned.added) turned.committed announced));
   }
 
@@ -196,21 +197,22 @@ module _ (w : SeedWords) (random : List ℕ) (old new : Outside) (fin : State) (
   link_calm : IsCalm old.link.faults new.link.faults → IsCalm s.listens.faults new.link.faults
   link_calm calm = calm_since old.link.faults s.listens.faults new.link.faults s.unsent.later calm
 
-  there_then : IsKnown old.disk → (i : ℕ) → slice_index_or s.first.committed i false ≡ true → is_there s.first.descriptor s.opened.history.reads book i ≡ true
-  there_then known i e = subst (λ (x : Descriptor). is_there x s.opened.history.reads book i ≡ true) (sym d_is) (ready.there known i e)
+  there_then : IsKnown old.disk → BeganSound d new.disk.history → (i : ℕ) → slice_index_or s.first.committed i false ≡ true
+      → is_there s.first.descriptor s.opened.history.reads book i ≡ true
+  there_then known began i e = subst (λ (x : Descriptor). is_there x s.opened.history.reads book i ≡ true) (sym d_is) (ready.there known (subst (BeganSound d) same began) i e)
 
-  smooth : IsSmoothRun old new → IsSmooth s.first.descriptor s.first.committed book s.opened new.disk s.listens new.link
+  smooth : IsSmoothRun d old new → IsSmooth s.first.descriptor s.first.committed book s.opened new.disk s.listens new.link
   smooth calm = record {
     link = link_calm calm.link;
     reads = calm_since old.disk.faults s.opened.faults new.disk.faults ready.later calm.disk;
     known = known_then calm.known;
-    there = there_then calm.known;
+    there = there_then calm.known calm.began;
   }
 
-  committed_stands : IsKnown new.disk → (i : ℕ) → is_in fin.committed i ≡ true → StandsSince d new.disk.history (moment_of new.disk.history) i
-  committed_stands known i e =
+  committed_stands : IsKnown new.disk → BeganSound d new.disk.history → (i : ℕ) → is_in fin.committed i ≡ true → StandsSince d new.disk.history (moment_of new.disk.history) i
+  committed_stands known began i e =
       subst (λ (h : History). StandsSince d h (moment_of h) i) (sym same)
-      (stands_later d s.opened.history (moment_of s.opened.history) i s.first.committed (ready.kept (known_before known))
+      (stands_later d s.opened.history (moment_of s.opened.history) i s.first.committed (ready.kept (known_before known) (subst (BeganSound d) same began))
       (subst (λ (x : List Bool). slice_index_or x i false ≡ true) turned.committed e) (omega arith))
 
   stood_committed : IsKnown new.disk → (i : ℕ) → StoodThroughout d new.disk.history i → is_in fin.committed i ≡ true
@@ -258,7 +260,7 @@ module _ (w : SeedWords) (random : List ℕ) (old new : Outside) (fin : State) (
       (subst (λ (x : List Bool). WasDamaged s.first.descriptor x book) (sym turned.committed) was)))
       turned.named
 
-  serves_held : IsSmoothRun old new → AtEndsBut 0 d (ServesHeld d fin.committed) turned.added
+  serves_held : IsSmoothRun d old new → AtEndsBut 0 d (ServesHeld d fin.committed) turned.added
   serves_held calm =
       ends_whole d (ServesHeld d fin.committed) turned.added none_closing
       (subst (λ (x : Descriptor). AtEndsOfTurnsBut 0 (ServesHeld x fin.committed) turned.added) d_is
@@ -282,7 +284,7 @@ module _ (w : SeedWords) (random : List ℕ) (old new : Outside) (fin : State) (
     took = took_turns;
     tallied = tallied;
     damaged = was_damaged;
-    sound = λ known. turned.sound (known_then known) (there_then known) ∙ none_damaged;
+    sound = λ known began. turned.sound (known_then known) (there_then known began) ∙ none_damaged;
     lets = lets_in;
     serves = serves_held;
     rooted = s.rooted;
@@ -334,6 +336,7 @@ module _ (w : SeedWords) (random : List ℕ) (old new : Outside) (leaves : Leave
     gained = records_gained w random old new fin s;
     serves = all_served w random old new fin s;
     keeps = all_kept w random old new fin s leaves.lasts;
+    lasts = leaves.lasts;
     closes_last = turns_close_last w random old new fin s;
     asks_none = turns_ask_none w random old new fin s;
     ends = ends;
@@ -377,7 +380,8 @@ module _ (w : SeedWords) (random : List ℕ) (old new : Outside) (leaves : Leave
     added = [];
     gained = gains_nothing old.link.traffic new.link.traffic unsent.traffic;
     serves = tt;
-    keeps = λ known. record { held = leaves.lasts known; announced = tt };
+    keeps = λ known. record { held = (leaves.lasts known).stood; announced = λ sound. tt };
+    lasts = leaves.lasts;
     closes_last = refl;
     asks_none = refl;
     ends = ends;

@@ -1,5 +1,5 @@
 -- What is known of a peer that is made ready, step by step.
-use Rattle.std.proofs.Common.{◌≡◌, inl, inr, ℕ, zero, suc, ◌<◌, ◌≤◌, Option, List, [], ◌∷◌, length, drop, Result, Ok, Err, refl, sym, ◌∙◌, subst, arith}
+use Rattle.std.proofs.Common.{◌≡◌, inl, inr, ℕ, zero, suc, ◌<◌, ◌≤◌, Option, List, [], ◌∷◌, length, drop, Result, Ok, Err, refl, sym, ◌∙◌, ap, subst, arith}
 use Rattle.pp_terms.specs.tree.Book.{LookUp}
 use Rattle.pp_terms.specs.format.Descriptor.{Descriptor}
 use Rattle.pp_terms.specs.disk.Disk.{DiskState, History, Epoch, IsImage, WasImage, MayLeaveSince, IsKnown, moment_of}
@@ -9,7 +9,10 @@ use Rattle.pp_terms.specs.disk.Disk.{Throughout}
 use Rattle.pp_terms.specs.disk.Image.{StandsIn}
 use Rattle.pp_traffic.specs.Keeping.{StoodThroughout, StandsSince}
 use Rattle.pp_store.specs.Keep.{SameAttachment}
+use Rattle.pp_terms.specs.disk.Sound.{IsSound, BeganSound}
 use Rattle.pp_store.specs.Store.{GoesOn}
+use Rattle.pp_store.specs.Sound.{StaysSound}
+use Rattle.pp_store.proofs.Opening.{goes_on_synced, sound_synced}
 use Rattle.pp_core.specs.Standing.{State}
 use Rattle.pp_terms.specs.disk.Untouched.{IsFreshlyAttached, IsSyncedAtMost}
 use Rattle.pp_terms.specs.disk.Store.{header}
@@ -22,8 +25,8 @@ use Rattle.pp_store.specs.declared.findings.ProbeFault.TheVariants as probes
 use Rattle.pp_core.specs.Opening.{HasOpened}
 use Rattle.pp_core.specs.declared.opening.OpenFault.{OpenFault}
 use Rattle.pp_core.specs.declared.opening.OpenFault.TheVariants as opens
-use Rattle.pp_node.specs.Looking.{IsOf}
-use Rattle.pp_node.specs.Preparing.{Lasts, IsReady, HasPrepared, HasOpenedPeer, LeavesDisk, LeavesLink, fault_of_probe, fault_of_open}
+use Rattle.pp_node.specs.Looking.{IsOf, Lasts}
+use Rattle.pp_node.specs.Preparing.{IsReady, HasPrepared, HasOpenedPeer, LeavesDisk, LeavesLink, fault_of_probe, fault_of_open}
 use Rattle.pp_node.specs.declared.preparing.SeedFault.{SeedFault}
 use Rattle.pp_node.specs.declared.preparing.SeedFault.TheVariants.{NotAStore, Disk, Link, Memory}
 use Rattle.pp_node.specs.declared.preparing.Ready.{Ready}
@@ -44,8 +47,10 @@ since_later h moment image le (inl now) = now
 since_later h moment image le (inr was) = absurd (subst (λ (past : List Epoch). WasImage past image) (past_end moment h.past le) was)
 
 pub lasts_attached : (d : Descriptor) (h : History) → h.start ≡ moment_of h → h.first ≡ h.epoch → Lasts d h
-lasts_attached d h started began i stood image since =
-    stood image (subst (λ (e : Epoch). IsImage e image) (sym began) (since_later h h.start image (omega (arith, started)) since))
+lasts_attached d h started began = record { stood = λ i stood image since. stood image (at_first image since); sound = λ sound image since. sound image (at_first image since) }
+  where
+    at_first : (image : List ℕ) → MayLeaveSince h h.start image → IsImage h.first image
+    at_first image since = subst (λ (e : Epoch). IsImage e image) (sym began) (since_later h h.start image (omega (arith, started)) since)
 
 pub lasts_fresh : (d : Descriptor) (h : History) → IsFreshlyAttached h → Lasts d h
 lasts_fresh d h fresh = lasts_attached d h fresh.started fresh.began
@@ -58,10 +63,30 @@ pub stood_opened : (d : Descriptor) (old new : History) (i : ℕ) → IsFreshlyA
 stood_opened d old new i fresh same stood image since =
     stood image (subst (λ (e : Epoch). IsImage e image) (sym (same.first ∙ fresh.began)) (since_later old (moment_of old) image (omega arith) since))
 
-pub lasts_opened : (d : Descriptor) (old new : History) → IsFreshlyAttached old → SameAttachment old new → GoesOn d old new → Lasts d new
-lasts_opened d old new fresh same on i stood =
-    subst (λ (m : ℕ). StandsSince d new m i) (sym (same.start ∙ fresh.started))
-    (on i (stood_opened d old new i fresh same stood))
+-- and where every image was sound then, each is now
+pub began_opened : (d : Descriptor) (old new : History) → IsFreshlyAttached old → SameAttachment old new → BeganSound d new → Throughout old (moment_of old) (IsSound d)
+began_opened d old new fresh same began image since =
+    began image (subst (λ (e : Epoch). IsImage e image) (sym (same.first ∙ fresh.began)) (since_later old (moment_of old) image (omega arith) since))
+
+pub lasts_opened : (d : Descriptor) (old new : History) → IsFreshlyAttached old → SameAttachment old new → GoesOn d old new → StaysSound d old new → Lasts d new
+lasts_opened d old new fresh same on sound = record {
+  stood = λ i stood. subst (λ (m : ℕ). StandsSince d new m i) (sym (same.start ∙ fresh.started)) (on i (stood_opened d old new i fresh same stood));
+  sound = λ began. subst (λ (m : ℕ). Throughout new m (IsSound d)) (sym (same.start ∙ fresh.started))
+      (sound (moment_of old) (omega arith) (began_opened d old new fresh same began));
+}
+
+-- what reads gave is sound then
+pub sound_opened : (d : Descriptor) (old new : History) → IsFreshlyAttached old → SameAttachment old new → IsImage old.epoch old.reads → BeganSound d new → IsSound d old.reads
+sound_opened d old new fresh same whole began = began_opened d old new fresh same began old.reads (inl whole)
+
+-- after a sync, or none
+pub lasts_scanned : (d : Descriptor) (old new : History) → IsFreshlyAttached old → IsImage old.epoch old.reads → SyncsAtMost old new → Lasts d new
+lasts_scanned d old new fresh whole syncs =
+    lasts_opened d old new fresh (attachment syncs) (goes_on_synced d old old new whole refl syncs) (sound_synced d old old new whole refl syncs)
+  where
+    attachment : SyncsAtMost old new → SameAttachment old new
+    attachment (inl same) = record { start = ap (λ (h : History). h.start) same; first = ap (λ (h : History). h.first) same; found = ap (λ (h : History). h.found) same; names = ap (λ (h : History). h.names) same }
+    attachment (inr is) = record { start = ap (λ (h : History). h.start) is; first = ap (λ (h : History). h.first) is; found = ap (λ (h : History). h.found) is; names = ap (λ (h : History). h.names) is }
 
 -- ---- what is left of the disk and the link
 

@@ -9,7 +9,7 @@ use Rattle.pp_terms.specs.command.Report.{disk_fault_line, not_a_store_line, Say
 use Rattle.pp_tree.specs.Book.{IsBookOf}
 use Rattle.pp_scan.specs.declared.scanning.ScanFault.{ScanFault}
 use Rattle.pp_scan.specs.declared.scanning.ScanFault.TheVariants as fault
-use Rattle.pp_node.specs.Looking.{IsOf, IsUnwritten}
+use Rattle.pp_node.specs.Looking.{IsOf, Lasts, IsUnwritten}
 use Rattle.pp_node.specs.Outside.{Outside}
 use Rattle.pp_node.specs.Faults.{Faults}
 use Rattle.pp_node.specs.Text.{Says}
@@ -22,7 +22,7 @@ use Rattle.pp_node.specs.declared.status.Status.TheVariants.{Done, NotAStore, Di
 pub record IsChecked (d : Descriptor) (old new : Outside) : Type 0 where
   pub set : List Bool
   pub count : length set ≡ chunks_of d
-  pub held : IsKnown old.disk → (i : ℕ) → i < chunks_of d → slice_index_or set i false ≡ is_found d new.disk.history.found i
+  pub found : IsKnown old.disk → (i : ℕ) → i < chunks_of d → slice_index_or set i false ≡ is_found d new.disk.history.found i
   pub begins : IsKnown old.disk → IsOf d new.disk.history.found
   pub said : SaysHeld set old.sink new.sink
 
@@ -46,12 +46,13 @@ ReportsScan fault.Disk status old new = (status ≡ DiskFault) × Says disk_faul
 ReportsScan fault.Memory status old new = (status ≡ Memory) × (new ≡ old)
 
 -- A run of `check`, by the number that it answers. The store was attached by its name. Since then nothing was written to it,
--- with one sync at the most. The source isn't read.
+-- with one sync at the most: what stood in every image goes on standing, and sound images stay sound. The source isn't read.
 pub record CheckEnds (result : ℕ) (store : List ℕ) (d : Descriptor) (old new : Outside) : Type 0 where
   pub status : Status
   pub number : result ≡ number_of status
   pub ends : ChecksIn status d old new
   pub named : IsKnown old.disk → GainsName old.disk.history.names store new.disk.history.names
   pub unwritten : IsUnwritten old.disk new.disk
+  pub lasts : IsKnown old.disk → Lasts d new.disk.history
   pub unread : new.source ≡ old.source
   pub rooted : (new.book ≡ old.book) ⊎ IsBookOf d new.book

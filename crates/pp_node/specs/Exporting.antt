@@ -1,8 +1,10 @@
 -- What a run of `export STORE DESCRIPTOR` does. `found` of the disk's history is what reads gave when the store was attached.
-use Rattle.std.specs.Prelude.{◌≡◌, ◌⊎◌, ℕ, ◌+◌, ◌*◌, ◌<◌, ◌≤◌, min, true, false, List, length, take, is_some, Result, Ok, Err}
+use Rattle.std.specs.Prelude.{◌≡◌, ◌⊎◌, ℕ, ◌+◌, ◌*◌, ◌<◌, ◌≤◌, min, true, false, List, length, take, is_some, Result, Some, Ok, Err}
 use Rattle.pp_terms.specs.Count.{HasRisen}
 use Rattle.pp_terms.specs.tree.Content.{chunk_of, chunk_length}
 use Rattle.pp_terms.specs.tree.Book.{LookUp, IsRooted, IsBacked}
+use Rattle.sha2.specs.Sha256.{sha256}
+use Rattle.pp_terms.specs.disk.Sound.{BeganSound}
 use Rattle.pp_terms.specs.format.Descriptor.{Descriptor, chunks_of}
 use Rattle.pp_terms.specs.disk.Store.{chunk_place}
 use Rattle.pp_terms.specs.disk.Image.{is_found}
@@ -12,8 +14,7 @@ use Rattle.pp_tree.specs.Book.{entry, IsBookOf}
 use Rattle.pp_scan.specs.declared.scanning.ScanFault.{ScanFault}
 use Rattle.pp_scan.specs.declared.scanning.ScanFault.TheVariants as scans
 use Rattle.pp_scan.specs.Holding.{is_there}
-use Rattle.pp_store.specs.ReadChunk as store
-use Rattle.pp_node.specs.Looking.{IsOf, IsRefused, IsUnwritten}
+use Rattle.pp_node.specs.Looking.{IsOf, Lasts, IsRefused, IsUnwritten}
 use Rattle.pp_node.specs.Outside.{Outside}
 use Rattle.pp_node.specs.Faults.{Faults}
 use Rattle.pp_node.specs.Text.{GainsPart}
@@ -40,7 +41,7 @@ pub record HasPut (d : Descriptor) (old new : Outside) (n : ℕ) : Type 0 where
   pub chunks : AreChunks d old.disk new.disk (entry new.book) n bytes
   pub gained : Gains old.sink.taken bytes new.sink.taken
 
--- The file begins with the header and holds every chunk.
+-- The file begins with the header, and every chunk was found.
 pub record IsWhole (d : Descriptor) (disk disk' : DiskState) : Type 0 where
   pub begins : IsKnown disk → IsOf d disk'.history.found
   pub holding : IsKnown disk → (i : ℕ) → i < chunks_of d → is_found d disk'.history.found i ≡ true
@@ -53,7 +54,7 @@ pub record IsExported (d : Descriptor) (old new : Outside) : Type 0 where
   pub each : (i : ℕ) → i < chunks_of d → IsChunk d old.disk new.disk (entry new.book) i (chunk_of content d.chunk i)
   pub gained : Gains old.sink.taken content new.sink.taken
 
--- Some chunk isn't held.
+-- Some chunk wasn't found.
 pub record IsIncomplete (d : Descriptor) (old new : Outside) : Type 0 where
   pub begins : IsKnown old.disk → IsOf d new.disk.history.found
   pub absent : IsKnown old.disk → (i : ℕ) × (i < chunks_of d) × (is_found d new.disk.history.found i ≡ false)
@@ -77,21 +78,24 @@ pub record IsSinkFault (d : Descriptor) (old new : Outside) : Type 0 where
   pub gained : Gains old.sink.taken (take count bytes) new.sink.taken
 
 -- Bytes that were read at chunk n have another digest than the book's: both are named. Over a disk that is honest and tells
--- that never happens.
-pub record IsDamagedChunk (d : Descriptor) (disk : DiskState) (book : LookUp) (n : ℕ) : Type 0 where
+-- they are what reads gave at the chunk's place, and that never happens where every image was sound at the attachment.
+pub record IsDamagedChunk (d : Descriptor) (disk disk' : DiskState) (book : LookUp) (n : ℕ) : Type 0 where
   pub bytes : List ℕ
   pub found : List ℕ
   pub kept : List ℕ
-  pub room : chunk_length d.size d.chunk n ≤ length bytes
-  pub damaged : store.IsDamaged d n book disk bytes found kept
-  pub never : IsKnown disk → ⊥
+  pub size : length bytes ≡ chunk_length d.size d.chunk n
+  pub found_is : found ≡ sha256 bytes
+  pub kept_is : book 0 n ≡ Some kept
+  pub differ : found ≡ kept → ⊥
+  pub read : IsKnown disk → IsRead disk'.history.found (chunk_place d.chunk n) bytes
+  pub never : IsKnown disk → BeganSound d disk'.history → ⊥
 
 -- Chunk n was damaged, and the sink gained the chunks before it and no more.
 pub record IsDamaged (d : Descriptor) (old new : Outside) : Type 0 where
   pub n : ℕ
   pub within : n < chunks_of d
   pub put : HasPut d old new n
-  pub damaged : IsDamagedChunk d old.disk (entry new.book) n
+  pub damaged : IsDamagedChunk d old.disk new.disk (entry new.book) n
 
 -- When each status comes, and what the sink gained.
 abbrev pub ExportsIn : Status → Descriptor → Outside → Outside → Type 0
@@ -125,7 +129,7 @@ pub record IsReadable (d : Descriptor) (disk : DiskState) (book : LookUp) : Type
   pub rooted : IsRooted d book
   pub whole : IsWhole d disk disk
   pub leaf : (i : ℕ) → i < chunks_of d → is_some (book 0 i) ≡ true
-  pub there : IsKnown disk → (i : ℕ) → i < chunks_of d → is_there d disk.history.reads book i ≡ true
+  pub there : IsKnown disk → BeganSound d disk.history → (i : ℕ) → i < chunks_of d → is_there d disk.history.reads book i ≡ true
   pub same : IsKnown disk → disk.history.reads ≡ disk.history.found
 
 -- What comes of reading and writing chunk i.
@@ -134,15 +138,17 @@ PutsChunk d i sink sink' disk disk' book (Ok _) = (bytes : List ℕ) × IsChunk 
 PutsChunk d i sink sink' disk disk' book (Err puts.Disk) = HasRisen disk.faults disk'.faults × (sink' ≡ sink)
 PutsChunk d i sink sink' disk disk' book (Err puts.Sink) =
     HasRisen sink.faults sink'.faults × (bytes : List ℕ) × IsChunk d disk disk' book i bytes × GainsPart bytes sink sink'
-PutsChunk d i sink sink' disk disk' book (Err puts.Damaged) = IsDamagedChunk d disk book i × (sink' ≡ sink)
+PutsChunk d i sink sink' disk disk' book (Err puts.Damaged) = IsDamagedChunk d disk disk' book i × (sink' ≡ sink)
 
 -- A run of `export`, by the number that it answers. The store was attached by its name. Since then nothing was written to it,
--- with one sync at the most. No line is printed, and the source isn't read.
+-- with one sync at the most: what stood in every image goes on standing, and sound images stay sound. No line is printed, and
+-- the source isn't read.
 pub record ExportEnds (result : ℕ) (store : List ℕ) (d : Descriptor) (old new : Outside) : Type 0 where
   pub status : Status
   pub number : result ≡ number_of status
   pub ends : ExportsIn status d old new
   pub named : IsKnown old.disk → GainsName old.disk.history.names store new.disk.history.names
   pub unwritten : IsUnwritten old.disk new.disk
+  pub lasts : IsKnown old.disk → Lasts d new.disk.history
   pub unread : new.source ≡ old.source
   pub rooted : (new.book ≡ old.book) ⊎ IsBookOf d new.book

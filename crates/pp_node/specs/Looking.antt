@@ -6,8 +6,10 @@ use Rattle.pp_terms.specs.tree.Book.{LookUp}
 use Rattle.pp_terms.specs.format.Descriptor.{Descriptor, chunks_of}
 use Rattle.pp_terms.specs.disk.Store.{header, HasHeader}
 use Rattle.pp_terms.specs.disk.Image.{is_found}
-use Rattle.pp_terms.specs.disk.Disk.{DiskState, IsKnown}
+use Rattle.pp_terms.specs.disk.Disk.{DiskState, History, IsKnown, Throughout}
+use Rattle.pp_terms.specs.disk.Sound.{IsSound, BeganSound}
 use Rattle.pp_terms.specs.disk.Untouched.{IsFreshlyAttached, IsSyncedAtMost}
+use Rattle.pp_traffic.specs.Keeping.{StoodThroughout, StandsSince}
 use Rattle.pp_scan.specs.declared.scanning.ScanFault.{ScanFault}
 use Rattle.pp_scan.specs.declared.scanning.ScanFault.TheVariants.{NotAStore, Disk, Memory}
 use Rattle.pp_scan.specs.Header.{IsDifference}
@@ -17,12 +19,18 @@ use Rattle.pp_scan.specs.Holding.{is_there}
 abbrev pub IsOf : Descriptor → List ℕ → Type 0
 IsOf d found = (found ≡ []) ⊎ HasHeader d found
 
--- The chunks that were found at the attachment, and whose leaves are in the book.
+-- What stood in every image at the attachment stands in every image since; and where every image was sound then, each is
+-- since.
+pub record Lasts (d : Descriptor) (h : History) : Type 0 where
+  pub stood : (i : ℕ) → StoodThroughout d h i → StandsSince d h h.start i
+  pub sound : BeganSound d h → Throughout h h.start (IsSound d)
+
+-- The chunks that were found at the attachment, and whose leaves are in the book. Each is there where every image was sound.
 pub record IsFound (d : Descriptor) (disk disk' : DiskState) (book : LookUp) (set : List Bool) : Type 0 where
   pub count : length set ≡ chunks_of d
   pub leaf : (i : ℕ) → slice_index_or set i false ≡ true → is_some (book 0 i) ≡ true
-  pub held : IsKnown disk → (i : ℕ) → i < chunks_of d → slice_index_or set i false ≡ is_found d disk'.history.found i
-  pub there : IsKnown disk → (i : ℕ) → slice_index_or set i false ≡ true → is_there d disk'.history.reads book i ≡ true
+  pub found : IsKnown disk → (i : ℕ) → i < chunks_of d → slice_index_or set i false ≡ is_found d disk'.history.found i
+  pub there : IsKnown disk → BeganSound d disk'.history → (i : ℕ) → slice_index_or set i false ≡ true → is_there d disk'.history.reads book i ≡ true
   pub begins : IsKnown disk → IsOf d disk'.history.found
 
 -- The file isn't empty, and this is its first byte that differs from the header. The byte that was wanted is the header's

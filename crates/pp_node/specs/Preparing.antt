@@ -7,7 +7,8 @@ use Rattle.pp_terms.specs.disk.Disk.{DiskState, History, IsKnown, moment_of}
 use Rattle.pp_terms.specs.disk.Image.{is_found}
 use Rattle.pp_terms.specs.disk.Untouched.{IsFreshlyAttached, IsSyncedAtMost}
 use Rattle.pp_terms.specs.format.Traffic.{Address, LinkState, GainsAddress}
-use Rattle.pp_traffic.specs.Keeping.{StoodThroughout, StandsSince}
+use Rattle.pp_terms.specs.disk.Sound.{BeganSound}
+use Rattle.pp_traffic.specs.Keeping.{StoodThroughout}
 use Rattle.pp_scan.specs.Holding.{is_there}
 use Rattle.pp_store.specs.Store.{AllStand}
 use Rattle.pp_store.specs.declared.findings.ProbeFault.{ProbeFault}
@@ -30,10 +31,6 @@ fault_of_open (opens.NotAStore at found want) = NotAStore at found want
 fault_of_open opens.Disk = Disk
 fault_of_open opens.Memory = Memory
 
--- What stood in every image at the attachment stands in every image since.
-abbrev pub Lasts : Descriptor → History → Type 0
-Lasts d h = (i : ℕ) → StoodThroughout d h i → StandsSince d h h.start i
-
 -- Nothing was sent, and no datagram was waited for.
 pub record IsUnsent (seen seen' : LinkState) : Type 0 where
   pub traffic : seen'.traffic ≡ seen.traffic
@@ -41,13 +38,13 @@ pub record IsUnsent (seen seen' : LinkState) : Type 0 where
   pub later : seen.faults ≤ seen'.faults
 
 -- A peer has begun, over a store that was empty or the descriptor's when it was attached. It stands for no traffic yet, and
--- each chunk that it has is there, and stands in every image from now on.
+-- each chunk that it has is there, and stands in every image from now on, if every image was sound then.
 pub record IsReady (d : Descriptor) (random : List ℕ) (disk disk' : DiskState) (book : LookUp) (s : State) (room : ℕ) : Type 0 where
   pub begun : HasBegun d random s
   pub size : length s.committed ≡ chunks_of d
   pub stands : StandsFor book (moment_of disk'.history) s []
-  pub there : IsKnown disk → (i : ℕ) → slice_index_or s.committed i false ≡ true → is_there d disk'.history.reads book i ≡ true
-  pub kept : IsKnown disk → AllStand d s.committed disk'.history
+  pub there : IsKnown disk → BeganSound d disk'.history → (i : ℕ) → slice_index_or s.committed i false ≡ true → is_there d disk'.history.reads book i ≡ true
+  pub kept : IsKnown disk → BeganSound d disk'.history → AllStand d s.committed disk'.history
   pub begins : IsKnown disk → IsOf d disk'.history.found
   -- exactly the chunks are committed that were found at the attachment, and each that stood in every image then; to a file
   -- that wasn't empty nothing was written since, and it was synced once at the most

@@ -6,6 +6,7 @@ use Rattle.pp_terms.specs.command.Report.{SaysReport}
 use Rattle.pp_terms.specs.command.Tally.{Tally}
 use Rattle.pp_terms.specs.disk.Disk.{IsKnown, GainsName}
 use Rattle.pp_terms.specs.disk.Image.{is_found}
+use Rattle.pp_terms.specs.disk.Sound.{BeganSound}
 use Rattle.pp_terms.specs.disk.Untouched.{IsFreshlyAttached, IsSyncedAtMost}
 use Rattle.pp_terms.specs.format.Descriptor.{Descriptor, chunks_of}
 use Rattle.pp_terms.specs.format.Traffic.{Address, LinkState, Record, GainsRecords, GainsAddress}
@@ -17,7 +18,7 @@ use Rattle.pp_traffic.specs.Tallied.{TookTurns, IsTallied}
 use Rattle.pp_traffic.specs.Turns.{ClosesLast, AtEndsBut}
 use Rattle.pp_tree.specs.Book.{entry, IsBookOf}
 use Rattle.pp_core.specs.Sends.{IsOurs, WasDamaged}
-use Rattle.pp_node.specs.Looking.{IsOf}
+use Rattle.pp_node.specs.Looking.{IsOf, Lasts}
 use Rattle.pp_node.specs.Outside.{Outside}
 use Rattle.pp_node.specs.Faults.{Faults}
 use Rattle.pp_node.specs.Turning.{IsCalm, ServesHeld}
@@ -32,11 +33,12 @@ pub record SeedWords : Type 0 where
   pub listen : Address
   pub turns : ℕ
 
--- No device refused anything, and the disk is honest and tells.
-pub record IsSmoothRun (old new : Outside) : Type 0 where
+-- No device refused anything, the disk is honest and tells, and every image was sound at the attachment.
+pub record IsSmoothRun (d : Descriptor) (old new : Outside) : Type 0 where
   pub link : IsCalm old.link.faults new.link.faults
   pub disk : IsCalm old.disk.faults new.disk.faults
   pub known : IsKnown old.disk
+  pub began : BeganSound d new.disk.history
 
 -- The turns were taken, in which the link gained these records: one set of committed chunks, and one tally, of which all is
 -- said.
@@ -55,14 +57,14 @@ pub record IsSeeded (w : SeedWords) (old new : Outside) (added : List Record) : 
   pub took : TookTurns w.turns old.link new.link added
   pub tallied : IsTallied tally w.turns added
   -- A chunk counts as damaged where bytes of its length have another digest than the book's for its leaf. Of a disk that is
-  -- honest and tells none does.
+  -- honest and tells none does, if every image was sound at the attachment.
   pub damaged : (tally.damaged ≡ 0) ⊎ WasDamaged w.descriptor committed (entry new.book)
-  pub sound : IsKnown old.disk → tally.damaged ≡ 0
+  pub sound : IsKnown old.disk → BeganSound w.descriptor new.disk.history → tally.damaged ≡ 0
   -- While the link refuses nothing, the first handshake that fits is replied to in its turn; while the disk refuses nothing,
   -- no committed chunk is left asked for at the end of a turn on a plain channel with at most 64 requests and cancellations,
   -- while its window has room.
   pub lets : IsCalm old.link.faults new.link.faults → AtEndsBut 0 w.descriptor (LetsInFirst w.descriptor) added
-  pub serves : IsSmoothRun old new → AtEndsBut 0 w.descriptor (ServesHeld w.descriptor committed) added
+  pub serves : IsSmoothRun w.descriptor old new → AtEndsBut 0 w.descriptor (ServesHeld w.descriptor committed) added
   pub rooted : IsBookOf w.descriptor new.book
 
 -- no turn was taken
@@ -98,7 +100,8 @@ Binds _ listen old new = GainsAddress old.bound listen new.bound
 -- A run of `seed`, by the number that it answers. Of a link that tells its traffic, every chunk that was sent has its hash path
 -- in the book, answers an outstanding request of an unchoked peer, brings the hashes that the peer lacks, and fits its window.
 -- Of a disk that is honest and tells, every chunk that was announced, or stood in every image at the attachment, stands in each
--- image that a crash at any later moment leaves.
+-- image that a crash at any later moment leaves: the first if every image was sound at the attachment, and then each goes on
+-- being sound.
 pub record SeedEnds (result : ℕ) (w : SeedWords) (old new : Outside) : Type 0 where
   pub status : Status
   pub number : result ≡ number_of status
@@ -107,6 +110,7 @@ pub record SeedEnds (result : ℕ) (w : SeedWords) (old new : Outside) : Type 0 
   pub gained : GainsRecords old.link.traffic added new.link.traffic
   pub serves : ServesAll w.descriptor (entry new.book) (window_of w.descriptor) added
   pub keeps : IsKnown old.disk → Keeps w.descriptor new.disk.history added
+  pub lasts : IsKnown old.disk → Lasts w.descriptor new.disk.history
   pub closes_last : ClosesLast w.descriptor added
   pub asks_none : RequestsNone w.descriptor added
   -- why it ended so, and what was said

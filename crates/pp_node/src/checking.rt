@@ -6,7 +6,7 @@ ghost use Rattle.pp_terms.specs.format.Traffic.{LinkState};
 ghost use Rattle.pp_terms.specs.disk.Disk.{IsKnown, GainsName};
 ghost use Rattle.pp_tree.specs.Book.{empty_book, IsBookOf};
 ghost use Rattle.pp_node.specs.Outside.{outside};
-ghost use Rattle.pp_node.specs.Looking.{IsUnwritten};
+ghost use Rattle.pp_node.specs.Looking.{IsUnwritten, Lasts};
 ghost use Rattle.pp_terms.specs.command.Report.{not_a_store_line};
 ghost use Rattle.pp_node.specs.Checking.{ChecksIn, ReportsScan};
 
@@ -33,6 +33,7 @@ pub(crate) fn check<D: Disk, K: Sink>(
         → ChecksIn result descriptor.now (outside (D.state disk.old) link source (K.state sink.old) book.old)
         (outside (D.state disk.new) link source (K.state sink.new) book.new) }
     ensures unwritten { IsUnwritten (D.state disk.old) (D.state disk.new) }
+    ensures lasts { IsKnown (D.state disk.old) → Lasts descriptor.now (D.state disk.new).history }
     ensures named { IsKnown (D.state disk.old)
         → GainsName (D.state disk.old).history.names store.now (D.state disk.new).history.names }
     ensures rooted { (book.new ≡ book.old) ⊎ IsBookOf descriptor.now book.new }

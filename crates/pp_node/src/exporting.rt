@@ -8,7 +8,7 @@ ghost use Rattle.pp_terms.specs.format.Traffic.{LinkState};
 ghost use Rattle.pp_tree.specs.Book.{BookState, entry, empty_book, IsBookOf};
 ghost use Rattle.pp_node.specs.Outside.{outside};
 ghost use Rattle.pp_scan.specs.Look.{KeepsAll};
-ghost use Rattle.pp_node.specs.Looking.{IsFound, IsUnwritten};
+ghost use Rattle.pp_node.specs.Looking.{IsFound, IsUnwritten, Lasts};
 ghost use Rattle.pp_node.specs.Exporting.{ExportsIn, IsReadable, PutsChunk, status_of_scan, status_of_fault, status_of_put};
 
 use crate::looking::look;
@@ -59,6 +59,7 @@ pub(crate) fn export<D: Disk, K: Sink>(
         → ExportsIn result descriptor.now (outside (D.state disk.old) link source (K.state sink.old) book.old)
         (outside (D.state disk.new) link source (K.state sink.new) book.new) }
     ensures unwritten { IsUnwritten (D.state disk.old) (D.state disk.new) }
+    ensures lasts { IsKnown (D.state disk.old) → Lasts descriptor.now (D.state disk.new).history }
     ensures named { IsKnown (D.state disk.old)
         → GainsName (D.state disk.old).history.names store.now (D.state disk.new).history.names }
     ensures rooted { (book.new ≡ book.old) ⊎ IsBookOf descriptor.now book.new }

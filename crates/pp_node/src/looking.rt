@@ -3,7 +3,7 @@ ghost use Rattle.std.specs.Prelude.{◌≡◌, ◌⊎◌, OnOk};
 ghost use Rattle.pp_terms.specs.disk.Disk.{IsKnown, GainsName};
 ghost use Rattle.pp_tree.specs.Book.{entry, empty_book, IsBookOf};
 ghost use Rattle.pp_terms.specs.disk.Untouched.{IsFreshlyAttached};
-ghost use Rattle.pp_node.specs.Looking.{HasLooked, IsOf, IsUnwritten};
+ghost use Rattle.pp_node.specs.Looking.{HasLooked, IsOf, IsUnwritten, Lasts};
 
 use pp_outside::Disk;
 use pp_scan::{ScanFault, scan};
@@ -22,6 +22,7 @@ pub(crate) fn look<D: Disk>(
     requires { book.old ≡ empty_book }
     ensures looked { HasLooked descriptor.now (D.state disk.old) (D.state disk.new) (entry book.new) result }
     ensures unwritten { IsUnwritten (D.state disk.old) (D.state disk.new) }
+    ensures lasts { IsKnown (D.state disk.old) → Lasts descriptor.now (D.state disk.new).history }
     ensures named { IsKnown (D.state disk.old)
         → GainsName (D.state disk.old).history.names store.now (D.state disk.new).history.names }
     ensures rooted { (book.new ≡ book.old) ⊎ IsBookOf descriptor.now book.new }
@@ -43,6 +44,7 @@ fn look_attached<D: Disk>(
     requires attached { IsKnown (D.state disk.old) → IsFreshlyAttached (D.state disk.old).history }
     ensures looked { HasLooked descriptor.now (D.state disk.old) (D.state disk.new) (entry book.new) result }
     ensures unwritten { IsUnwritten (D.state disk.old) (D.state disk.new) }
+    ensures lasts { IsKnown (D.state disk.old) → Lasts descriptor.now (D.state disk.new).history }
     ensures names { IsKnown (D.state disk.old) → (D.state disk.new).history.names ≡ (D.state disk.old).history.names }
     ensures rooted { (book.new ≡ book.old) ⊎ IsBookOf descriptor.now book.new }
     ensures found { OnOk result (IsBookOf descriptor.now book.new) }
@@ -68,6 +70,7 @@ fn look_into<D: Disk>(
     requires begins { IsKnown (D.state disk.old) → IsOf descriptor.now (D.state disk.old).history.reads }
     ensures looked { HasLooked descriptor.now (D.state disk.old) (D.state disk.new) (entry book.new) result }
     ensures unwritten { IsUnwritten (D.state disk.old) (D.state disk.new) }
+    ensures lasts { IsKnown (D.state disk.old) → Lasts descriptor.now (D.state disk.new).history }
     ensures names { IsKnown (D.state disk.old) → (D.state disk.new).history.names ≡ (D.state disk.old).history.names }
     ensures rooted { (book.new ≡ book.old) ⊎ IsBookOf descriptor.now book.new }
     ensures found { OnOk result (IsBookOf descriptor.now book.new) }

@@ -4,8 +4,8 @@ ghost use Rattle.pp_terms.specs.disk.Disk.{IsKnown, GainsName};
 ghost use Rattle.pp_outside.specs.Outside.{address_of};
 ghost use Rattle.pp_tree.specs.Book.{entry, empty_book, IsBookOf};
 ghost use Rattle.pp_terms.specs.disk.Untouched.{IsFreshlyAttached, IsSyncedAtMost};
-ghost use Rattle.pp_node.specs.Looking.{IsOf};
-ghost use Rattle.pp_node.specs.Preparing.{IsUnsent, Lasts, HasPrepared, HasOpenedPeer, LeavesDisk, LeavesLink, fault_of_probe, fault_of_open};
+ghost use Rattle.pp_node.specs.Looking.{IsOf, Lasts};
+ghost use Rattle.pp_node.specs.Preparing.{IsUnsent, HasPrepared, HasOpenedPeer, LeavesDisk, LeavesLink, fault_of_probe, fault_of_open};
 
 use pp_core::{OpenFault, Peer};
 use pp_outside::{Address, Disk, Link};

@@ -141,7 +141,7 @@ fn says_what_a_store_holds(rt: HostRuntime) -> Result<(), Fail> {
     Ok(())
 }
 
-// Two chunks of seven are torn.
+// The gates of two chunks of seven are closed.
 #[test]
 fn says_the_ranges_that_are_held(rt: HostRuntime) -> Result<(), Fail> {
     let alloc = rt.alloc();
@@ -150,8 +150,8 @@ fn says_the_ranges_that_are_held(rt: HostRuntime) -> Result<(), Fail> {
     for (byte, was) in image.iter_mut().zip(stored.disk.bytes()) {
         *byte = *was;
     }
-    image[2242] = 8;
-    image[5509] = 8;
+    image[64 + 2 * 1089 + 1088] = 0;
+    image[64 + 5 * 1089 + 1088] = 0;
     let descriptor =
         "ppspp1:ef7be05f2b9aa01d2c5cd485d52043ff5ff814525fb3f33dbf8da4b03d81befe:1024:7000:2";
     let ran = check_of(alloc, descriptor, &image)?;

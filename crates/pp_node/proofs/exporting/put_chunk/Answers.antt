@@ -41,6 +41,6 @@ pub returns-in-Err-Damaged-clause-puts : goal.returns-in-Err-Damaged-clause-puts
 returns-in-Err-Damaged-clause-puts g c =
     let room = room_for c.args.descriptor.now c.args.i (length c.read_chunk.new.out) c.requires.valid (c.read_chunk.auto.out ∙ c.told-buffer) in (
       chunk_damaged c.args.descriptor.now (g.D.Disk.state c.args.disk.now) (g.D.Disk.state c.read_chunk.new.disk) (entry c.args.book.now) c.args.i c.read_chunk.new.out c.requires.readable c.requires.within room
-          c.read_chunk.result c.in-Err-Damaged.field-0-0 c.in-Err-Damaged.field-0-1 (c.in-Err-Damaged.is ∙ ap Err c.in-Err-Damaged.field-0-is) c.read_chunk.ensures.read c.read_chunk.ensures.sound,
+          c.read_chunk.result c.in-Err-Damaged.field-0-0 c.in-Err-Damaged.field-0-1 (c.in-Err-Damaged.is ∙ ap Err c.in-Err-Damaged.field-0-is) c.read_chunk.ensures.read c.read_chunk.ensures.sound c.read_chunk.ensures.looks,
       refl,
     )

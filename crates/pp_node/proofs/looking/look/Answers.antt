@@ -3,6 +3,7 @@ use Rattle.pp_tree.specs.Book.{entry}
 use Rattle.std.proofs.Common.{inr, rules}
 use Rattle.pp_terms.proofs.Untouched.{freshly_attached}
 use Rattle.pp_node.proofs.Looks.{looked_later, unwritten_later, unwritten_attached, named_later}
+use Rattle.pp_node.proofs.Readies.{lasts_attached}
 use Rattle.pp_node.proofs.looking.look.Goals as goal
 
 pub returns-in-Ok-clause-looked : goal.returns-in-Ok-clause-looked
@@ -33,3 +34,7 @@ returns-in-Err-clause-unwritten g c = unwritten_attached c.args.store.now _ _ _ 
 
 pub returns-in-Err-clause-named : goal.returns-in-Err-clause-named
 returns-in-Err-clause-named g c known = (c.in-Err.ensures.attached known).named
+
+pub returns-in-Err-clause-lasts : goal.returns-in-Err-clause-lasts
+returns-in-Err-clause-lasts g c known =
+    lasts_attached c.args.descriptor.now (g.D.Disk.state c.attach.new.self).history (c.in-Err.ensures.attached known).started (c.in-Err.ensures.attached known).began

@@ -3,6 +3,7 @@ use Rattle.pp_tree.specs.Book.{entry}
 use Rattle.std.proofs.Common.{Err, ◌∙◌, ap}
 use Rattle.pp_terms.specs.disk.Disk.{History}
 use Rattle.pp_node.proofs.Looks.{looked_later, unwritten_later, unwritten_kept, other_probed, refused_probed}
+use Rattle.pp_node.proofs.Readies.{lasts_same, lasts_fresh}
 use Rattle.pp_node.proofs.looking.look_attached.Goals as goal
 
 pub returns-in-Ok-clause-looked : goal.returns-in-Ok-clause-looked
@@ -38,3 +39,13 @@ returns-in-Err-Disk-clause-looked g c =
 pub returns-in-Err-Disk-clause-unwritten : goal.returns-in-Err-Disk-clause-unwritten
 returns-in-Err-Disk-clause-unwritten g c =
     unwritten_kept c.args.descriptor.now (g.D.Disk.state c.args.disk.now) (g.D.Disk.state c.probe.new.disk) c.requires.attached c.probe.ensures.looks
+
+pub returns-in-Err-NotAStore-clause-lasts : goal.returns-in-Err-NotAStore-clause-lasts
+returns-in-Err-NotAStore-clause-lasts g c known =
+    lasts_same c.args.descriptor.now (g.D.Disk.state c.args.disk.now).history (g.D.Disk.state c.probe.new.disk).history c.probe.ensures.looks.same
+    (lasts_fresh c.args.descriptor.now (g.D.Disk.state c.args.disk.now).history (c.requires.attached known))
+
+pub returns-in-Err-Disk-clause-lasts : goal.returns-in-Err-Disk-clause-lasts
+returns-in-Err-Disk-clause-lasts g c known =
+    lasts_same c.args.descriptor.now (g.D.Disk.state c.args.disk.now).history (g.D.Disk.state c.probe.new.disk).history c.probe.ensures.looks.same
+    (lasts_fresh c.args.descriptor.now (g.D.Disk.state c.args.disk.now).history (c.requires.attached known))

@@ -1,7 +1,7 @@
 use Rattle.std.proofs.Common.{inl, sym, ◌∙◌, ap, List, ℕ}
 use Rattle.pp_terms.specs.disk.Image.{is_found}
 use Rattle.pp_core.specs.Standing.{State}
-use Rattle.pp_node.proofs.Readies.{lasts_fresh, stood_opened, lasts_opened, begins_opened, opened_fault, leaves_fault, unwritten_opened}
+use Rattle.pp_node.proofs.Readies.{lasts_fresh, stood_opened, lasts_opened, sound_opened, begins_opened, opened_fault, leaves_fault, unwritten_opened}
 use Rattle.pp_tree.specs.Book.{entry}
 use Rattle.pp_node.proofs.preparing.open.Goals as goal
 
@@ -10,8 +10,10 @@ returns-in-Ok-open-clause-opened g c = record {
   begun = c.in-Ok-open.ensures.begun;
   size = c.in-Ok-open.ensures.size;
   stands = c.in-Ok-open.ensures.stands;
-  there = λ known. c.in-Ok-open.ensures.there known;
-  kept = λ known. c.in-Ok-open.ensures.kept known;
+  there = λ known began. c.in-Ok-open.ensures.there known
+      (sound_opened c.args.descriptor.now (g.D.Disk.state c.args.disk.now).history (g.D.Disk.state c.open.new.disk).history (c.requires.attached known) (c.open.ensures.disk.attachment known) (g.met.D.Disk.whole c.args.disk.now known) began);
+  kept = λ known began. c.in-Ok-open.ensures.kept known
+      (sound_opened c.args.descriptor.now (g.D.Disk.state c.args.disk.now).history (g.D.Disk.state c.open.new.disk).history (c.requires.attached known) (c.open.ensures.disk.attachment known) (g.met.D.Disk.whole c.args.disk.now known) began);
   begins = begins_opened c.args.descriptor.now c.args.random (g.D.Disk.state c.args.disk.now) (g.D.Disk.state c.open.new.disk) (entry c.open.new.book)
       c.requires.attached c.open.ensures.disk.attachment c.requires.begins;
   held = λ known i within. c.in-Ok-open.ensures.held known i within
@@ -31,11 +33,11 @@ returns-in_default-clause-lasts g c known = lasts_fresh c.args.descriptor.now (g
 
 pub returns-in-Ok-open-clause-lasts : goal.returns-in-Ok-open-clause-lasts
 returns-in-Ok-open-clause-lasts g c known =
-    lasts_opened c.args.descriptor.now (g.D.Disk.state c.args.disk.now).history (g.D.Disk.state c.open.new.disk).history (c.requires.attached known) (c.open.ensures.disk.attachment known) (c.open.ensures.goes_on known)
+    lasts_opened c.args.descriptor.now (g.D.Disk.state c.args.disk.now).history (g.D.Disk.state c.open.new.disk).history (c.requires.attached known) (c.open.ensures.disk.attachment known) (c.open.ensures.goes_on known) (c.open.ensures.sound known)
 
 pub returns-in-Err-clause-lasts : goal.returns-in-Err-clause-lasts
 returns-in-Err-clause-lasts g c known =
-    lasts_opened c.args.descriptor.now (g.D.Disk.state c.args.disk.now).history (g.D.Disk.state c.open.new.disk).history (c.requires.attached known) (c.open.ensures.disk.attachment known) (c.open.ensures.goes_on known)
+    lasts_opened c.args.descriptor.now (g.D.Disk.state c.args.disk.now).history (g.D.Disk.state c.open.new.disk).history (c.requires.attached known) (c.open.ensures.disk.attachment known) (c.open.ensures.goes_on known) (c.open.ensures.sound known)
 
 pub returns-in-Ok-open-clause-unwritten : goal.returns-in-Ok-open-clause-unwritten
 returns-in-Ok-open-clause-unwritten g c =

@@ -188,12 +188,12 @@ fn refuses_other_options(rt: HostRuntime) -> Result<(), Fail> {
     Ok(())
 }
 
-// The scan reads the chunk as it is, and then the store has another byte.
+// The scan reads no chunk, and the store has another byte.
 #[test]
 fn sends_no_forged_byte(rt: HostRuntime) -> Result<(), Fail> {
     let alloc = rt.alloc();
     for place in 64..67 {
-        let mut disk = LyingDisk::new(MemoryDisk::new(alloc, &store_of_abc())?, place, 1, 1);
+        let mut disk = LyingDisk::new(MemoryDisk::new(alloc, &store_of_abc())?, place, 1, 0);
         let mut coming = Coming::greeting(alloc)?;
         coming.add(&[&OURS, &REQUEST])?;
         let ran = coming.seed(&mut disk)?;
