@@ -5,3 +5,4 @@ pub mod Plans
 pub mod Stories
 pub mod Telling
 pub mod Ranges
+pub mod Ancestors

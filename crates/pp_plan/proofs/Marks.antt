@@ -1,11 +1,11 @@
 -- Marks in a table, as facts of nodes.
-use Rattle.std.proofs.Common.{◌≡◌, ⊎_elim, ℕ, ◌+◌, ◌-◌, ◌*◌, ◌/◌, ◌^◌, ◌<◌, ◌≤◌, nat_le, nat_lt, Bool, true, false, ◌&&◌, ◌||◌, refl, sym, ◌∙◌, ap, arith}
+use Rattle.std.proofs.Common.{◌≡◌, ⊎_elim, ℕ, ◌+◌, ◌-◌, ◌*◌, ◌/◌, ◌^◌, ◌<◌, ◌≤◌, nat_le, nat_lt, Bool, true, false, ◌&&◌, ◌||◌, List, refl, sym, ◌∙◌, ap, subst, arith}
 use Rattle.std.specs.Prelude.{slice_index_or}
 use Rattle.std.proofs.lemmas.Bool.{cases_Bool, and_from, lt-ltb, le-leb}
 use Rattle.pp_terms.specs.tree.Tree.{Node, height, is_peak}
 use Rattle.pp_terms.specs.tree.Bins.{parent_of}
-use Rattle.pp_plan.specs.Told.{ToldNodes, knows, is_marked, is_inside, place, lies}
-use Rattle.pp_plan.proofs.Places.{halves, between, outside}
+use Rattle.pp_plan.specs.Told.{ToldNodes, knows, has_mark, is_marked, is_inside, place, lies}
+use Rattle.pp_plan.proofs.Places.{halves, between, outside, offset_fits}
 
 known_peak : (s p m : Bool) → s ≡ true → p ≡ true → true ≡ (s && (p || m))
 known_peak true true m is e = refl
@@ -41,23 +41,32 @@ last_inside h layer last size above low in_layer is =
     let more : 2 ^ (h - layer) * 2 ≤ 2 ^ h = halves (h - layer) h (omega arith) in
     omega (arith, more, in_layer, is)
 
+pub row_fits : (h layer last base size : ℕ) → 0 < layer → layer ≤ h → last < 2 ^ h → base ≡ 2 ^ (h - layer) → size ≡ 2 ^ h → base + last / 2 ^ layer < size
+row_fits h layer last base size above low inside base_is size_is =
+    let fits = last_inside h layer (last / 2 ^ layer) size above low (offset_fits h layer last (2 ^ h) low inside (omega arith)) size_is in
+    omega (arith, fits, base_is)
+
+pub marked_here : (h layer offset base : ℕ) (marks : List Bool) → layer ≤ h → offset < 2 ^ (h - layer) → base ≡ 2 ^ (h - layer)
+    → slice_index_or marks (base + offset) false ≡ true → has_mark h marks (record { layer = layer; offset = offset }) ≡ true
+marked_here h layer offset base marks low in_layer is e =
+    and_from (nat_le layer h && nat_lt offset (2 ^ (h - layer))) (slice_index_or marks (2 ^ (h - layer) + offset) false)
+    (and_from (nat_le layer h) (nat_lt offset (2 ^ (h - layer))) (le-leb layer h low) (lt-ltb offset (2 ^ (h - layer)) in_layer))
+    (subst (λ (w : ℕ). slice_index_or marks (w + offset) false ≡ true) is e)
+
 -- marks from one offset of a layer to another
-pub marked_more : (old new : ToldNodes) (layer first last base : ℕ) → new.chunks ≡ old.chunks → layer ≤ height old.chunks → last < 2 ^ (height old.chunks - layer)
-    → base ≡ 2 ^ (height old.chunks - layer)
-    → ((i : ℕ) → slice_index_or new.marks i false ≡ (slice_index_or old.marks i false || (nat_le (base + first) i && nat_le i (base + last))))
-    → (n : Node) → is_marked new n ≡ (is_marked old n || lies layer first last n)
-marked_more old new layer first last base same low in_layer base_is filled n =
-    ap (λ (c : ℕ). is_inside (height c) n && slice_index_or new.marks (place (height c) n) false) same
-    ∙ ⊎_elim
-    (λ inside. ap (λ (b : Bool). b && slice_index_or new.marks (place (height old.chunks) n) false) inside
-    ∙ filled (place (height old.chunks) n)
-    ∙ ap (λ (w : ℕ). slice_index_or old.marks (place (height old.chunks) n) false || (nat_le (w + first) (place (height old.chunks) n) && nat_le (place (height old.chunks) n) (w + last))) base_is
-    ∙ ap (λ (b : Bool). slice_index_or old.marks (place (height old.chunks) n) false || b) (between (height old.chunks) layer first last n low in_layer inside)
-    ∙ ap (λ (b : Bool). (b && slice_index_or old.marks (place (height old.chunks) n) false) || lies layer first last n) (sym inside))
-    (λ out. ap (λ (b : Bool). b && slice_index_or new.marks (place (height old.chunks) n) false) out
-    ∙ sym (outside (height old.chunks) layer first last n low in_layer out)
-    ∙ ap (λ (b : Bool). (b && slice_index_or old.marks (place (height old.chunks) n) false) || lies layer first last n) (sym out))
-    (cases_Bool (is_inside (height old.chunks) n))
+pub marked_more : (h : ℕ) (old new : List Bool) (layer first last base : ℕ) → layer ≤ h → last < 2 ^ (h - layer) → base ≡ 2 ^ (h - layer)
+    → ((i : ℕ) → slice_index_or new i false ≡ (slice_index_or old i false || (nat_le (base + first) i && nat_le i (base + last))))
+    → (n : Node) → has_mark h new n ≡ (has_mark h old n || lies layer first last n)
+marked_more h old new layer first last base low in_layer base_is filled n = ⊎_elim
+    (λ inside. ap (λ (b : Bool). b && slice_index_or new (place h n) false) inside
+    ∙ filled (place h n)
+    ∙ ap (λ (w : ℕ). slice_index_or old (place h n) false || (nat_le (w + first) (place h n) && nat_le (place h n) (w + last))) base_is
+    ∙ ap (λ (b : Bool). slice_index_or old (place h n) false || b) (between h layer first last n low in_layer inside)
+    ∙ ap (λ (b : Bool). (b && slice_index_or old (place h n) false) || lies layer first last n) (sym inside))
+    (λ out. ap (λ (b : Bool). b && slice_index_or new (place h n) false) out
+    ∙ sym (outside h layer first last n low in_layer out)
+    ∙ ap (λ (b : Bool). (b && slice_index_or old (place h n) false) || lies layer first last n) (sym out))
+    (cases_Bool (is_inside h n))
 
 pub or_when : (k p : Bool) → k ≡ false → p ≡ (k || p)
 or_when true p e = absurd cc

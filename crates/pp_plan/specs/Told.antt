@@ -1,5 +1,5 @@
 -- What a peer has told that it knows, by marks in a table.
-use Rattle.std.specs.Prelude.{◌≡◌, ℕ, ◌+◌, ◌-◌, ◌/◌, ◌^◌, ◌==◌, nat_le, nat_lt, Bool, false, ◌&&◌, ◌||◌, List, [], ◌∷◌, slice_index_or}
+use Rattle.std.specs.Prelude.{◌≡◌, ℕ, ◌+◌, ◌-◌, ◌/◌, ◌^◌, ◌<◌, ◌==◌, nat_le, nat_lt, Bool, true, false, ◌&&◌, ◌||◌, List, [], ◌∷◌, slice_index_or}
 use Rattle.pp_terms.specs.tree.Tree.{Node, height, is_peak}
 use Rattle.pp_terms.specs.tree.Bins.{parent_of}
 use Rattle.pp_terms.specs.tree.Range.{Span}
@@ -19,8 +19,16 @@ place height n = 2 ^ (height - n.layer) + n.offset
 abbrev pub is_inside : ℕ → Node → Bool
 is_inside height n = nat_le n.layer height && nat_lt n.offset (2 ^ (height - n.layer))
 
+-- the node's mark in a table of a tree of that height
+abbrev pub has_mark : ℕ → List Bool → Node → Bool
+has_mark height marks n = is_inside height n && slice_index_or marks (place height n) false
+
 abbrev pub is_marked : ToldNodes → Node → Bool
-is_marked t n = is_inside (height t.chunks) n && slice_index_or t.marks (place (height t.chunks) n) false
+is_marked t n = has_mark (height t.chunks) t.marks n
+
+-- What lies over a marked node is marked.
+abbrev pub AreClosed : ℕ → List Bool → Type 0
+AreClosed height marks = (n : Node) → n.layer < height → has_mark height marks n ≡ true → has_mark height marks (parent_of n) ≡ true
 
 -- The peer has told that it knows the node: a peak, once any chunk was told of, and each child of a marked node.
 abbrev pub knows : ToldNodes → Node → Bool

@@ -1,12 +1,12 @@
 // What a peer has told that it knows.
-ghost use Rattle.std.specs.Prelude.{◌≡◌, ℕ, ◌-◌, ◌^◌, ◌<◌, ◌≤◌, ◌&&◌, ◌||◌, nat_le, true, false, List, [], ◌∷◌, length, slice_index_or, IfOk};
+ghost use Rattle.std.specs.Prelude.{◌≡◌, ℕ, ◌+◌, ◌^◌, ◌<◌, ◌≤◌, ◌&&◌, ◌||◌, nat_le, true, false, List, [], ◌∷◌, length, slice_index_or, IfOk};
 ghost use Rattle.std.specs.List.{list_all};
 ghost use Rattle.pp_terms.specs.tree.Tree as terms;
 ghost use Rattle.pp_terms.specs.tree.Bins.{parent_of};
 ghost use Rattle.pp_traffic.specs.Hashes.{tells};
 ghost use Rattle.pp_tree.specs.Node.{node_of};
 ghost use Rattle.pp_terms.specs.tree.Range.{Span};
-ghost use Rattle.pp_plan.specs.Told.{knows, is_marked, lies, span_of, IsToldBy};
+ghost use Rattle.pp_plan.specs.Told.{knows, has_mark, is_marked, is_over_below, span_of, AreClosed, IsToldBy};
 
 use pp_ranges::ChunkRange;
 use pp_tree::{Bits, Node, height};
@@ -27,7 +27,7 @@ pub struct Told {
 impl Model for Told {
     ghost use Rattle.std.specs.Prelude.{◌≡◌, ℕ, ◌^◌, ◌<◌, ◌≤◌, false, length, slice_index_or};
     ghost use Rattle.pp_terms.specs.tree.Tree as terms;
-    ghost use Rattle.pp_plan.specs.Told.{ToldNodes};
+    ghost use Rattle.pp_plan.specs.Told.{ToldNodes, AreClosed};
 
     ghost Value = { ToldNodes };
 
@@ -35,7 +35,7 @@ impl Model for Told {
 
     ghost invariant = { λ t. (0 < t.chunks) × (t.chunks ≤ 2 ^ 20) × (t.height ≡ terms.height t.chunks) × (t.height ≤ 20)
         × (t.chunks ≤ 2 ^ t.height) × (length t.marks ≡ 2 ^ t.height)
-        × (t.some ≡ false → (i : ℕ) → slice_index_or t.marks i false ≡ false) };
+        × (t.some ≡ false → (i : ℕ) → slice_index_or t.marks i false ≡ false) × (AreClosed t.height t.marks) };
 }
 
 // How many nodes a layer has, by its distance from the root.
@@ -45,6 +45,29 @@ fn width(down: u8) -> usize
     ensures range { result ≤ 2 ^ 20 }
 {
     1 << down
+}
+
+// Marks the nodes over a row of chunks in a tree of that height, layer by layer from the lowest, as far as one node that is marked
+// is over all of them: then what lies over it is marked too.
+fn mark_over(marks: &mut Bits, height: u8, first: u32, last: u32)
+    requires tall { height ≤ 20 }
+    requires size { length marks.old ≡ 2 ^ height }
+    requires order { first ≤ last }
+    requires inside { last < 2 ^ height }
+    requires closed { AreClosed height marks.old }
+    ensures size { length marks.new ≡ length marks.old }
+    ensures marks { (n : terms.Node) → has_mark height marks.new n
+        ≡ (has_mark height marks.old n || is_over_below (height + 1) (record { first = first; last = last }) n) }
+{
+    for layer in 1..height + 1 {
+        let base = width(height - layer);
+        let low = base + (first >> layer) as usize;
+        let high = base + (last >> layer) as usize;
+        if low == high && marks.has(low) {
+            return;
+        }
+        marks.fill(low, high);
+    }
 }
 
 impl Told {
@@ -75,11 +98,7 @@ impl Told {
         ensures calls { (ranges : List Span) → IsToldBy ranges self.old → IsToldBy (span_of range ∷ ranges) self.new }
     {
         self.begin();
-        let first = range.first();
-        let last = range.last();
-        for layer in 1..self.height + 1 {
-            self.mark(layer, first >> layer, last >> layer);
-        }
+        mark_over(&mut self.marks, self.height, range.first(), range.last());
     }
 
     // The peaks are told from now on.
@@ -89,21 +108,6 @@ impl Told {
         ensures marks { (n : terms.Node) → is_marked self.new n ≡ (self.old.some && is_marked self.old n) }
     {
         self.some = true;
-    }
-
-    // Marks the nodes of a layer from one offset to another.
-    fn mark(&mut self, layer: u8, first: u32, last: u32)
-        requires some { self.old.some ≡ true }
-        requires above { 0 < layer }
-        requires low { layer ≤ terms.height self.old.chunks }
-        requires order { first ≤ last }
-        requires inside { last < 2 ^ (terms.height self.old.chunks - layer) }
-        ensures chunks { self.new.chunks ≡ self.old.chunks }
-        ensures some { self.new.some ≡ self.old.some }
-        ensures marks { (n : terms.Node) → is_marked self.new n ≡ (is_marked self.old n || lies layer first last n) }
-    {
-        let base = width(self.height - layer);
-        self.marks.fill(base + first as usize, base + last as usize);
     }
 
     /// Whether the peer told that it knows the node.
