@@ -570,8 +570,43 @@ tale_opened d life at sender bytes past opens answered elsewhere =
     first true false p q = refl
     first false y p q = absurd (false≢true p)
 
+unread_before : (d : Descriptor) (life : Life) (past : List Record) → length past ≤ life.opening → read_story d life past ≡ []
+unread_before d life [] le = refl
+unread_before d life (r ∷ b) le = by (nat_le life.opening (length b)) refl
+  where
+    by : (x : Bool) → nat_le life.opening (length b) ≡ x
+        → cond x (cond (is_read d life (r ∷ b)) (told d life (eqb life.opening (length b)) (now (r ∷ b)) r (read_story d life b))
+        (with_unread d life (eqb life.opening (length b)) (now (r ∷ b)) r (read_story d life b))) [] ≡ []
+    by true is = absurd (let low : life.opening ≤ length b = leb-true life.opening (length b) is in omega arith)
+    by false is = refl
+
+tale_dialled : (d : Descriptor) (life : Life) (moment : ℕ) (receiver : Address) (bytes : List ℕ) (past : List Record) → life.opening ≡ length past
+    → IsSameTale (with_said (now past) (said_in d life (Sent moment receiver bytes)) false no_tale) (tale_of d life (Sent moment receiver bytes ∷ past))
+tale_dialled d life moment receiver bytes past opens =
+    let ms = said_in d life (Sent moment receiver bytes) in
+    let begun : nat_le life.opening (length past) ≡ true = le-leb life.opening (length past) (omega arith) in
+    record {
+      story = first (nat_le life.opening (length past)) (is_read d life (Sent moment receiver bytes ∷ past)) begun
+          ∙ ap (λ (xs : List Line). say (now past) ms xs) (unread_before d life past (omega arith)) ∙ sym (said_story (now past) ms false no_tale);
+      proven = ap (λ (x : Bool). cond x (say (now past) ms (proven_story d life past)) []) begun
+          ∙ ap (λ (xs : List Line). say (now past) ms xs) (none_proven d life past (omega arith)) ∙ sym (said_proven (now past) ms false no_tale);
+      told = λ i. untold_before d life i (Sent moment receiver bytes ∷ past) (omega arith) ∙ sym (said_told (now past) ms false no_tale i ∙ none (list_any (has_in i) ms));
+    }
+  where
+    first : (x y : Bool) → x ≡ true
+        → cond x (cond y (told d life (eqb life.opening (length past)) (now past) (Sent moment receiver bytes) (read_story d life past))
+        (with_unread d life (eqb life.opening (length past)) (now past) (Sent moment receiver bytes) (read_story d life past))) []
+        ≡ say (now past) (said_in d life (Sent moment receiver bytes)) (read_story d life past)
+    first true true is = refl
+    first true false is = refl
+    first false y is = absurd (false≢true is)
+
+    none : (b : Bool) → ((b && false) || false) ≡ false
+    none true = refl
+    none false = refl
+
 pub tales_grow : TalesGrow
-tales_grow = record { opened = tale_opened; sent = tale_sent; quiet = tale_quiet; heard = tale_heard; unread = tale_unread }
+tales_grow = record { opened = tale_opened; dialled = tale_dialled; sent = tale_sent; quiet = tale_quiet; heard = tale_heard; unread = tale_unread }
 
 pub none_begins : NoneBegins
 none_begins f unproven = record { unsaid = tt; unproven = unproven; unclaimed = refl; untold = λ i. refl; unasked = λ i place is. inl (omega arith) }

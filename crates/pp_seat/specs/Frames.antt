@@ -59,12 +59,15 @@ with_heard now (m ∷ ms) is_proven t = with_heard now ms is_proven (with_line (
 abbrev pub no_tale : Tale
 no_tale = record { story = []; proven = []; told = λ i. false }
 
--- What one record more does to the tale of a life that has begun, or that begins with it because the other peer opens it.
+-- What one record more does to the tale of a life that has begun, or that begins with it because either peer opens it.
 pub record TalesGrow : Type 0 where
   pub opened : (d : Descriptor) (life : Life) (at : ℕ) (sender : Address) (bytes : List ℕ) (past : List Record) → life.opening ≡ length past
       → life.is_dialled ≡ false → let r = Received at sender bytes in comes_on d life r ≡ false
       → IsSameTale (with_line (Taken (now (r ∷ past))) false (with_heard (now (r ∷ past)) (heard_in d life true r) false no_tale))
       (tale_of d life (r ∷ past))
+  pub dialled : (d : Descriptor) (life : Life) (moment : ℕ) (receiver : Address) (bytes : List ℕ) (past : List Record) → life.opening ≡ length past
+      → let r = Sent moment receiver bytes in
+      IsSameTale (with_said (now past) (said_in d life r) false no_tale) (tale_of d life (r ∷ past))
   pub sent : (d : Descriptor) (life : Life) (moment : ℕ) (receiver : Address) (bytes : List ℕ) (past : List Record) → life.opening < length past
       → let r = Sent moment receiver bytes in
       IsSameTale (with_said (now past) (said_in d life r) (is_heard d life past) (tale_of d life past)) (tale_of d life (r ∷ past))
