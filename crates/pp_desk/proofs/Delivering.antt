@@ -1,5 +1,6 @@
 -- Datagrams of notes, one after the other.
-use Rattle.std.proofs.Common.{◌≡◌, ℕ, zero, suc, ◌+◌, ◌-◌, ◌<◌, ◌≤◌, Bool, true, false, cond, List, [], ◌∷◌, ◌++◌, get_or, take, drop, length, refl, sym, ◌∙◌, ap, subst, arith, append_assoc, append-nil}
+use Rattle.std.proofs.Common.{◌≡◌, ℕ, zero, suc, ◌+◌, ◌-◌, ◌<◌, ◌≤◌, Bool, true, false, List, [], ◌∷◌, ◌++◌, get_or, take, drop, length, refl, sym, ◌∙◌, ap, subst, arith, append_assoc, append-nil}
+use Rattle.std.specs.Prelude.{replicate}
 use Rattle.std.specs.List.{AllByRecursion}
 use Rattle.std.proofs.lemmas.List.{length-take, length-drop, take_all, take-append-drop, drop-drop}
 use Rattle.std.proofs.Math.Seq.{take-add}
@@ -10,7 +11,7 @@ use Rattle.pp_draft.specs.Notes.{IsInside}
 use Rattle.pp_draft.specs.Posts.{LacksRoom, Posts, Sends}
 use Rattle.pp_desk.specs.declared.steps.Delivered.{Delivered}
 use Rattle.pp_seat.specs.Seats.{SeatState}
-use Rattle.pp_desk.specs.Steps.{IsPlain, IsBelow, has_have, Follow}
+use Rattle.pp_desk.specs.Steps.{IsPlain, IsBelow, Follow}
 use Rattle.pp_desk.specs.Delivers.{Way, Batch, At, counted, DeliversOne, DeliversEach, notes_of, AreFull, Delivers}
 use Rattle.pp_desk.proofs.Saying.{after_chunks}
 
@@ -143,13 +144,9 @@ item_below chunks other notes k x item same is lt all =
 
 -- ---- what stays
 
-refused_chunks : (have : Bool) (old new : SeatState) → new ≡ cond have (record old { cursor = 0 }) old → new.told.chunks ≡ old.told.chunks
-refused_chunks true old new h = ap (λ (s : SeatState). s.told.chunks) h
-refused_chunks false old new h = ap (λ (s : SeatState). s.told.chunks) h
-
 pub follow_chunks : (now : ℕ) (back sent : Bool) (notes : List Note) (old new : SeatState) → Follow now back sent notes old new → new.told.chunks ≡ old.told.chunks
 follow_chunks now back true notes old new h = after_chunks now back notes old new h.after
-follow_chunks now back false notes old new h = refused_chunks (has_have notes) old new h
+follow_chunks now back false notes old new h = ap (λ (s : SeatState). s.told.chunks) h
 
 pub counted_sum : (sent : Bool) (notes : List Note) (old new : Delivered) → new ≡ counted sent notes old → new.sent + new.refused ≡ old.sent + old.refused + 1
 counted_sum true notes old new is =
@@ -160,3 +157,9 @@ counted_sum false notes old new is =
     let s : new.sent ≡ old.sent = ap (λ (x : Delivered). x.sent) is in
     let r : new.refused ≡ old.refused + 1 = ap (λ (x : Delivered). x.refused) is in
     omega (arith, s, r)
+
+-- ---- one note many times
+
+pub same_plain : (count : ℕ) (note : Note) → IsPlain note → AllByRecursion IsPlain (replicate count note)
+same_plain zero note plain = tt
+same_plain (suc count) note plain = (plain, same_plain count note plain)

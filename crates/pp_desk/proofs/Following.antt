@@ -1,8 +1,7 @@
 -- What follows from a delivery.
-use Rattle.std.proofs.Common.{◌≡◌, ◌⊎◌, inl, inr, ℕ, zero, suc, ◌+◌, ◌<◌, ◌≤◌, Bool, true, false, cond, ◌||◌, Option, Some, None, List, [], ◌∷◌, ◌++◌, map, length, refl, sym, ◌∙◌, ap, subst, arith, append_assoc, append-nil}
+use Rattle.std.proofs.Common.{◌≡◌, ◌⊎◌, inl, inr, ℕ, ◌+◌, ◌<◌, ◌≤◌, Bool, true, false, cond, ◌||◌, Option, Some, None, List, [], ◌∷◌, ◌++◌, map, length, refl, sym, ◌∙◌, ap, subst, arith, append_assoc}
 use Rattle.std.specs.List.{AllByRecursion}
-use Rattle.std.specs.Prelude.{MatchBool}
-use Rattle.std.proofs.lemmas.Bool.{cases_lt}
+use Rattle.std.proofs.lemmas.Bool.{cases_lt, or_parts}
 use Rattle.std.proofs.lemmas.List.{length-append}
 use Rattle.pp_terms.specs.Count.{HasRisen}
 use Rattle.pp_terms.specs.format.Descriptor.{Descriptor}
@@ -11,7 +10,6 @@ use Rattle.pp_terms.specs.format.Messages.{Message}
 use Rattle.pp_terms.specs.tree.Range.{Span}
 use Rattle.pp_terms.specs.format.Traffic.{Address, Record, Sent, LinkState, GainsRecords}
 use Rattle.pp_traffic.specs.Life.{begins_as}
-use Rattle.pp_traffic.specs.Past.{read}
 use Rattle.pp_draft.specs.declared.note.Note.{Note}
 use Rattle.pp_draft.specs.declared.note.Note.TheVariants.{KeepAlive, Handshake, Close, Choke, Unchoke, Ack, Have, Request, Cancel, PexReq, Pex4, Pex6}
 use Rattle.pp_draft.specs.Notes.{Says, SayAll}
@@ -21,9 +19,9 @@ use Rattle.pp_seat.specs.Seats.{SeatState}
 use Rattle.pp_seat.specs.Follows.{Frame, Lost, Follows}
 use Rattle.pp_seat.proofs.Saying.{back_follows}
 use Rattle.pp_desk.specs.declared.steps.Delivered.{Delivered}
-use Rattle.pp_desk.specs.Steps.{IsPlain, is_have, has_have, cursor_behind, Passes, PassesAll, MayTell, Follow}
+use Rattle.pp_desk.specs.Steps.{IsPlain, is_have, has_have, cursor_behind, PassesAll, MayTell, cursor_refused, cursor_back, AreRefused, Follow}
 use Rattle.pp_desk.specs.Delivers.{Way, Batch, At, counted, DeliversOne, DeliversEach, notes_of}
-use Rattle.pp_desk.specs.Laws.{records_of, said_by, back_by, backs_of, set_back, Carries, LinkCarries, Counts, EachCounts, AllIsSaid, SeatFollows, IsRead, RecordsAreRead}
+use Rattle.pp_desk.specs.Laws.{records_of, said_by, back_by, backs_of, set_back, Carries, LinkCarries, Counts, EachCounts, AllIsSaid, SeatFollows, RecordsAreRead}
 use Rattle.pp_desk.proofs.Saying.{with_said_append, say_append, may_split}
 
 -- ---- the link
@@ -160,13 +158,6 @@ passes_on cursor (n ∷ notes) more f none h =
     let parts = or_parts (is_have n) (has_have notes) none in
     passes_on cursor notes more f parts.1 (subst (λ (c : ℕ). PassesAll c (notes ++ more) f) (same n parts.0) h.1)
   where
-    or_parts : (a b : Bool) → (a || b) ≡ false → (a ≡ false) × (b ≡ false)
-    or_parts true b e = absurd (true_false e)
-      where
-        true_false : true ≡ false → ⊥
-        true_false p = cc
-    or_parts false b e = (refl, e)
-
     same : (x : Note) → is_have x ≡ false → cursor_behind cursor x ≡ cursor
     same KeepAlive e = refl
     same (Handshake source) e = refl
@@ -192,22 +183,70 @@ record Leaves (now : ℕ) (sent back : Bool) (more : List Note) (ms : List Messa
   follows : Follows f lost new (with_said now (cond sent ms []) f.proven t)
   may : MayTell back new.cursor more f lost
 
+-- a refused datagram sets the cursor back, and only where a HAVE is in it
+one_back : (cursor : ℕ) (n : Note) → cursor_refused cursor n ≤ cursor
+one_back cursor KeepAlive = omega arith
+one_back cursor (Handshake source) = omega arith
+one_back cursor Close = omega arith
+one_back cursor Choke = omega arith
+one_back cursor Unchoke = omega arith
+one_back cursor (Ack range delay) = omega arith
+one_back cursor (Have range) = omega arith
+one_back cursor (Request range) = omega arith
+one_back cursor (Cancel range) = omega arith
+one_back cursor PexReq = omega arith
+one_back cursor (Pex4 address port) = omega arith
+one_back cursor (Pex6 address port) = omega arith
+
+back_low : (cursor : ℕ) (notes : List Note) → cursor_back cursor notes ≤ cursor
+back_low cursor [] = omega arith
+back_low cursor (n ∷ notes) =
+    let first = one_back cursor n in
+    let then = back_low (cursor_refused cursor n) notes in
+    omega arith
+
+back_none : (cursor : ℕ) (notes : List Note) → has_have notes ≡ false → cursor_back cursor notes ≡ cursor
+back_none cursor [] none = refl
+back_none cursor (n ∷ notes) none =
+    let parts = or_parts (is_have n) (has_have notes) none in
+    ap (λ (c : ℕ). cursor_back c notes) (same n parts.0) ∙ back_none cursor notes parts.1
+  where
+    same : (x : Note) → is_have x ≡ false → cursor_refused cursor x ≡ cursor
+    same KeepAlive e = refl
+    same (Handshake source) e = refl
+    same Close e = refl
+    same Choke e = refl
+    same Unchoke e = refl
+    same (Ack range delay) e = refl
+    same (Have range) e = cc
+    same (Request range) e = refl
+    same (Cancel range) e = refl
+    same PexReq e = refl
+    same (Pex4 address port) e = refl
+    same (Pex6 address port) e = refl
+
+-- so without a HAVE the seat stays
+refused_same : (notes : List Note) (old new : SeatState) → has_have notes ≡ false → AreRefused notes old new → new ≡ old
+refused_same notes old new none after =
+    after ∙ ap (λ (c : ℕ). let r : SeatState = record old { cursor = c } in r) (back_none old.cursor notes none)
+
 refused_leaves : (now : ℕ) (back have : Bool) (notes more : List Note) (ms : List Message) (old new : SeatState) → has_have notes ≡ have
-    → new ≡ cond have (record old { cursor = 0 }) old → (f : Frame) (lost : Lost) (t : Tale) → MayTell back old.cursor (notes ++ more) f lost → Follows f lost old t
+    → AreRefused notes old new → (f : Frame) (lost : Lost) (t : Tale) → MayTell back old.cursor (notes ++ more) f lost → Follows f lost old t
     → Leaves now false (have || back) more ms new f (set_back (cond have 1 0) lost) t
 refused_leaves now back true notes more ms old new is after f lost t may h = record {
-  follows = subst (λ (s : SeatState). Follows f (set_back 1 lost) s t) (sym after) ((back_follows old 0 (omega arith)).follows f lost t h);
+  follows = subst (λ (s : SeatState). Follows f (set_back 1 lost) s t) (sym after)
+      ((back_follows old (cursor_back old.cursor notes) (back_low old.cursor notes)).follows f lost t h);
   may = omega arith;
 }
 refused_leaves now true false notes more ms old new is after f lost t may h =
     subst (λ (l : Lost). Leaves now false true more ms new f l t) (sym (set_none lost)) (record {
-      follows = subst (λ (s : SeatState). Follows f lost s t) (sym after) h;
+      follows = subst (λ (s : SeatState). Follows f lost s t) (sym (refused_same notes old new is after)) h;
       may = may;
     })
 refused_leaves now false false notes more ms old new is after f lost t may h =
     subst (λ (l : Lost). Leaves now false false more ms new f l t) (sym (set_none lost)) (record {
-      follows = subst (λ (s : SeatState). Follows f lost s t) (sym after) h;
-      may = subst (λ (s : SeatState). PassesAll s.cursor more f) (sym after) (passes_on old.cursor notes more f is may);
+      follows = subst (λ (s : SeatState). Follows f lost s t) (sym (refused_same notes old new is after)) h;
+      may = subst (λ (s : SeatState). PassesAll s.cursor more f) (sym (refused_same notes old new is after)) (passes_on old.cursor notes more f is may);
     })
 
 one_leaves : (now : ℕ) (d : Descriptor) (sent : Bool) (notes more : List Note) (ms : List Message) (so_far after : Delivered) (old new : SeatState) → SayAll d notes ms

@@ -3,3 +3,4 @@ pub mod Saying
 pub mod Delivering
 pub mod Serving
 pub mod Following
+pub mod Tales

@@ -4,12 +4,12 @@ use Rattle.std.proofs.lemmas.Bool.Decides.{nat_tests}
 use Rattle.pp_terms.specs.format.Descriptor.{Descriptor}
 use Rattle.pp_terms.specs.format.Messages as plain
 use Rattle.pp_terms.specs.format.Messages.{Message}
-use Rattle.pp_terms.specs.tree.Range.{Span, within, has}
+use Rattle.pp_terms.specs.tree.Range.{Span, within}
 use Rattle.pp_traffic.specs.Story.{Said}
 use Rattle.pp_requests.specs.Moments.{asked_at, Changes}
 use Rattle.pp_draft.specs.declared.note.Note.{Note}
 use Rattle.pp_draft.specs.declared.note.Note.TheVariants.{KeepAlive, Handshake, Close, Choke, Unchoke, Ack, Have, Request, Cancel, PexReq, Pex4, Pex6}
-use Rattle.pp_draft.specs.Notes.{Says, SayAll, NamesRange}
+use Rattle.pp_draft.specs.Notes.{Says, SayAll}
 use Rattle.pp_seat.specs.Lines.{Tale, with_line, with_said}
 use Rattle.pp_seat.specs.Own.{IsSplit, CanAsk, AsksAll, IsAddress, AreAddresses}
 use Rattle.pp_seat.specs.Laws.{AreIdleSaid}
@@ -18,7 +18,7 @@ use Rattle.pp_seat.specs.Follows as seats
 use Rattle.pp_seat.specs.Follows.{Frame, Lost, Follows, Goes, Always, IsPassed}
 use Rattle.pp_seat.proofs.Telling.{haves_light, haves_keep, haves_fresh, haves_exchange}
 use Rattle.pp_seat.proofs.Passing.{alike_follows, said_alike, idle_says}
-use Rattle.pp_desk.specs.Steps.{cursor_behind, cursor_after, Moves, IsAfter, AreAfter, Passes, PassesAll, MayTell, AreSaid}
+use Rattle.pp_desk.specs.Steps.{cursor_behind, cursor_after, Moves, IsAfter, AreAfter, PassesAll, MayTell, AreSaid, cursor_refused, cursor_back, AreRefused}
 use Rattle.pp_desk.proofs.Splits.{names_split}
 
 -- ---- one after the other
@@ -134,6 +134,22 @@ pub said_more : (now : ℕ) (back : Bool) (notes : List Note) (k : ℕ) (x : Not
     → AreSaid now back (get_or notes k x ∷ []) mid new → AreSaid now back (take (k + 1) notes) old new
 said_more now back notes k x old mid new lt a b =
     subst (λ (ns : List Note). AreSaid now back ns old new) (take_more notes k x lt) (said_then now back (take k notes) (get_or notes k x ∷ []) old mid new a b)
+
+-- ---- notes that were refused
+
+pub refused_none : (s : SeatState) → AreRefused [] s s
+refused_none s = refl
+
+back_append : (cursor : ℕ) (xs ys : List Note) → cursor_back cursor (xs ++ ys) ≡ cursor_back (cursor_back cursor xs) ys
+back_append cursor [] ys = refl
+back_append cursor (x ∷ xs) ys = back_append (cursor_refused cursor x) xs ys
+
+pub refused_more : (notes : List Note) (k : ℕ) (x : Note) (old mid new : SeatState) → k < length notes → AreRefused (take k notes) old mid
+    → new ≡ record mid { cursor = cursor_refused mid.cursor (get_or notes k x) } → AreRefused (take (k + 1) notes) old new
+refused_more notes k x old mid new lt before is =
+    is ∙ ap (λ (s : SeatState). let r : SeatState = record s { cursor = cursor_refused s.cursor (get_or notes k x) } in r) before
+    ∙ ap (λ (c : ℕ). let r : SeatState = record old { cursor = c } in r)
+    (sym (back_append old.cursor (take k notes) (get_or notes k x ∷ [])) ∙ ap (λ (ns : List Note). cursor_back old.cursor ns) (take_more notes k x lt))
 
 -- ---- one note
 

@@ -1,17 +1,18 @@
 -- What follows from a delivery for the link, for the seat's story, and for what is read of its records.
-use Rattle.std.specs.Prelude.{◌≡◌, ◌⊎◌, ℕ, ◌+◌, ◌<◌, ◌≤◌, Bool, true, false, ◌||◌, not, if◌then◌else◌, Some, List, [], ◌∷◌, ◌++◌, length}
+use Rattle.std.specs.Prelude.{◌≡◌, ℕ, ◌+◌, ◌<◌, ◌≤◌, Bool, true, false, if◌then◌else◌, Some, List, [], ◌∷◌, ◌++◌, length}
 use Rattle.std.specs.List.{AllByRecursion}
 use Rattle.pp_terms.specs.Count.{HasRisen}
-use Rattle.pp_terms.specs.format.Descriptor.{Descriptor}
 use Rattle.pp_terms.specs.format.Messages.{Message}
-use Rattle.pp_terms.specs.format.Traffic.{Record, Sent, GainsRecords}
-use Rattle.pp_traffic.specs.Past.{read}
-use Rattle.pp_traffic.specs.Life.{begins_as}
+use Rattle.pp_terms.specs.format.Traffic.{Record, Sent, same_address, GainsRecords}
+use Rattle.pp_traffic.specs.Past.{now, read}
+use Rattle.pp_traffic.specs.Life.{Life, begins_as}
+use Rattle.pp_traffic.specs.Asking.{is_heard}
 use Rattle.pp_draft.specs.declared.note.Note.{Note}
 use Rattle.pp_draft.specs.Notes.{SayAll}
 use Rattle.pp_draft.specs.Posts.{LacksRoom}
 use Rattle.pp_seat.specs.Lines.{Tale, with_said}
 use Rattle.pp_seat.specs.Follows.{Frame, Lost, Follows}
+use Rattle.pp_seat.specs.Frames.{IsSameTale, tale_of}
 use Rattle.pp_desk.specs.Steps.{IsPlain, MayTell, has_have}
 use Rattle.pp_desk.specs.Delivers.{Way, Batch, At, DeliversOne, DeliversEach, Delivers, notes_of}
 
@@ -78,6 +79,18 @@ pub record IsRead (w : Way) (b : Batch) : Type 0 where
 
 abbrev pub RecordsAreRead : Type 0
 RecordsAreRead = (w : Way) (b : Batch) (old new : At) → AllByRecursion IsPlain b.notes → DeliversOne w b old new → IsRead w b
+
+-- The way is that of a channel which has begun, and the moment is now.
+pub record IsOn (w : Way) (life : Life) (past : List Record) : Type 0 where
+  pub begun : life.opening < length past
+  pub address : same_address w.receiver life.address ≡ true
+  pub number : w.channel ≡ life.remote
+  pub moment : w.now ≡ now past
+
+-- What the seat follows then is the tale of the channel's life, once the link has carried the records.
+abbrev pub TaleGrows : Type 0
+TaleGrows = (w : Way) (bs : List Batch) (old new : At) (life : Life) (past : List Record) → DeliversEach w bs old new → IsOn w life past
+    → IsSameTale (with_said w.now (said_by bs) (is_heard w.d life past) (tale_of w.d life past)) (tale_of w.d life (records_of w bs ++ past))
 
 -- One delivery, and one after the other.
 pub record DeliveriesCompose : Type 0 where

@@ -1,12 +1,12 @@
 -- What a seat makes of notes that were sent, and of notes that were refused.
-use Rattle.std.specs.Prelude.{◌≡◌, ℕ, ◌+◌, ◌<◌, ◌≤◌, max, Bool, true, false, if◌then◌else◌, Option, Some, None, List, [], ◌∷◌}
+use Rattle.std.specs.Prelude.{◌≡◌, ℕ, ◌+◌, ◌<◌, ◌≤◌, max, min, Bool, true, false, if◌then◌else◌, Some, None, List, [], ◌∷◌}
 use Rattle.std.specs.List.{list_any}
 use Rattle.pp_terms.specs.tree.Range.{within}
 use Rattle.pp_terms.specs.format.Descriptor.{Descriptor}
 use Rattle.pp_terms.specs.format.Messages.{Message}
 use Rattle.pp_requests.specs.Moments.{asked_at}
 use Rattle.pp_draft.specs.declared.note.Note.{Note}
-use Rattle.pp_draft.specs.declared.note.Note.TheVariants.{KeepAlive, Handshake, Close, Choke, Unchoke, Ack, Have, Request, Cancel, PexReq, Pex4, Pex6}
+use Rattle.pp_draft.specs.declared.note.Note.TheVariants.{Handshake, Close, Choke, Unchoke, Ack, Have, Request, Cancel, PexReq, Pex4, Pex6}
 use Rattle.pp_draft.specs.Notes.{SayAll}
 use Rattle.pp_seat.specs.Lines.{Tale, with_said}
 use Rattle.pp_seat.specs.Own.{CanAsk, AsksAll}
@@ -91,10 +91,19 @@ pub record AreSaid (now : ℕ) (back : Bool) (notes : List Note) (old new : Seat
 
 -- ---- notes that were refused
 
--- The cursor is set back to the first chunk where a HAVE is among them. A CHOKE, an UNCHOKE stay due as they were, a REQUEST
--- wasn't asked, and ACK, CANCEL and addresses are given up.
+-- where the cursor is once a note was refused, and once several were: at the first chunk of a HAVE, if it was behind that
+abbrev pub cursor_refused : ℕ → Note → ℕ
+cursor_refused cursor (Have range) = min cursor range.first
+cursor_refused cursor _ = cursor
+
+abbrev pub cursor_back : ℕ → List Note → ℕ
+cursor_back cursor [] = cursor
+cursor_back cursor (note ∷ notes) = cursor_back (cursor_refused cursor note) notes
+
+-- The cursor is set back to the first chunk of each HAVE among them, and nothing else changes. A CHOKE, an UNCHOKE stay due as
+-- they were, a REQUEST wasn't asked, and ACK, CANCEL and addresses are given up.
 abbrev pub AreRefused : List Note → SeatState → SeatState → Type 0
-AreRefused notes old new = new ≡ (if has_have notes then record old { cursor = 0 } else old)
+AreRefused notes old new = new ≡ record old { cursor = cursor_back old.cursor notes }
 
 -- what became of a datagram's notes
 abbrev pub Follow : ℕ → Bool → Bool → List Note → SeatState → SeatState → Type 0

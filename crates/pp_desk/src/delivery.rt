@@ -1,6 +1,6 @@
 //! Notes that are delivered on a channel.
 
-ghost use Rattle.std.specs.Prelude.{◌≡◌, ◌+◌, ◌≤◌, [], length};
+ghost use Rattle.std.specs.Prelude.{◌≡◌, ◌+◌, ◌^◌, ◌<◌, ◌≤◌, [], length};
 ghost use Rattle.std.specs.List.{AllByRecursion};
 ghost use Rattle.pp_terms.specs.disk.Disk.{moment_of};
 ghost use Rattle.pp_terms.specs.format.Descriptor.{chunks_of};
@@ -26,7 +26,7 @@ pub struct Outgoing<'a> {
 
 /// Sends all notes on a channel in their order, in as few datagrams as they fill, and after each datagram the seat follows what
 /// was sent. A refused datagram loses its own notes alone: its REQUESTs weren't asked, its CHOKE stays due, its HAVEs set the
-/// cursor back to chunk 0, and the rest is given up.
+/// cursor back to their first chunks, and the rest is given up.
 pub fn deliver<D: Disk, L: Link>(
     seat: &mut Seat,
     outgoing: &Outgoing,
@@ -38,6 +38,7 @@ pub fn deliver<D: Disk, L: Link>(
     requires content { seat.old.told.chunks ≡ chunks_of descriptor.now }
     requires plain { AllByRecursion IsPlain outgoing.now.notes.now }
     requires inside { AllByRecursion (IsInside descriptor.now) outgoing.now.notes.now }
+    requires few { length outgoing.now.notes.now < 2 ^ 32 }
     requires room { length out.old ≡ 16384 }
     ensures delivers { Delivers
         (record { d = descriptor.now; receiver = address_of outgoing.now.to.address; channel = outgoing.now.to.channel; moment = moment_of (D.state disk.now).history; now = outgoing.now.sent_at })

@@ -1,7 +1,7 @@
 //! What is to be said on one channel is sent, and then its seat is told what was (RFC 7574, section 3). Nothing here takes memory.
 #![tactic(auto)]
 
-ghost use Rattle.pp_desk.specs.Laws.{LinkCarries, EachCounts, AllIsSaid, SeatFollows, RecordsAreRead, DeliveriesCompose};
+ghost use Rattle.pp_desk.specs.Laws.{LinkCarries, EachCounts, AllIsSaid, SeatFollows, RecordsAreRead, TaleGrows, DeliveriesCompose};
 
 mod chunk;
 mod delivery;
@@ -20,6 +20,7 @@ pub fn laws_of_deliveries()
     ensures whole { AllIsSaid }
     ensures seat { SeatFollows }
     ensures reads { RecordsAreRead }
+    ensures tale { TaleGrows }
     ensures compose { DeliveriesCompose }
 {}
 

@@ -5,18 +5,19 @@ ghost use Rattle.std.specs.List.{AllByRecursion};
 ghost use Rattle.pp_terms.specs.tree.Range.{within};
 ghost use Rattle.pp_requests.specs.Moments.{asked_at};
 ghost use Rattle.pp_draft.specs.declared.note.Note.TheVariants.{Have};
-ghost use Rattle.pp_desk.specs.Steps.{IsPlain, IsBelow, is_have, has_have, AreSaid, AreRefused, Follow};
+ghost use Rattle.pp_desk.specs.Steps.{IsPlain, IsBelow, is_have, has_have, cursor_refused, AreSaid, AreRefused, Follow};
 ghost use Rattle.pp_desk.specs.Delivers.{counted};
 
 use pp_draft::Note;
 use pp_ranges::ChunkRange;
 use pp_seat::Seat;
 
-/// How many datagrams were sent and how many refused, and whether a HAVE was in a refused one: then the cursor is 0.
+/// How many datagrams were sent and how many refused, and whether a HAVE was in a refused one: then the cursor isn't behind its
+/// first chunk.
 #[derive(Clone, Copy, PartialEq, Eq, Debug)]
 pub struct Delivered {
-    pub sent: usize,
-    pub refused: usize,
+    pub sent: u32,
+    pub refused: u32,
     pub set_back: bool,
 }
 
@@ -86,16 +87,23 @@ fn has_have(notes: &[Note]) -> bool
     notes.iter().any(|note| is_have(*note))
 }
 
-// These were refused.
-fn unsaid(seat: &mut Seat, notes: &[Note]) -> bool
-    ensures have { result ≡ has_have notes.now }
-    ensures refused { AreRefused notes.now seat.old seat.new }
+// A note was refused.
+fn unsaid(seat: &mut Seat, note: &Note)
+    ensures { seat.new ≡ record seat.old { cursor = cursor_refused seat.old.cursor note.now } }
 {
-    let announced = has_have(notes);
-    if announced {
-        seat.rewind(0);
+    match *note {
+        Note::Have { range } => seat.rewind(range.first()),
+        _ => {}
     }
-    announced
+}
+
+// These were refused.
+fn unsaid_all(seat: &mut Seat, notes: &[Note])
+    ensures { AreRefused notes.now seat.old seat.new }
+{
+    for note in notes {
+        unsaid(seat, note);
+    }
 }
 
 /// The seat follows what became of a datagram with these notes.
@@ -108,7 +116,7 @@ pub(crate) fn follow(
 ) -> Delivered
     requires plain { AllByRecursion IsPlain notes.now }
     requires below { AllByRecursion (IsBelow seat.old.told.chunks) notes.now }
-    requires fits { so_far.sent + so_far.refused + 1 < 2 ^ 64 }
+    requires fits { so_far.sent + so_far.refused + 1 < 2 ^ 32 }
     ensures follows { Follow now so_far.set_back sent notes.now seat.old seat.new }
     ensures counted { result ≡ counted sent notes.now so_far }
 {
@@ -119,10 +127,10 @@ pub(crate) fn follow(
             ..so_far
         };
     }
-    let announced = unsaid(seat, notes);
+    unsaid_all(seat, notes);
     Delivered {
         sent: so_far.sent,
         refused: so_far.refused + 1,
-        set_back: announced || so_far.set_back,
+        set_back: has_have(notes) || so_far.set_back,
     }
 }

@@ -1,17 +1,24 @@
 //! Notes over a link that refuses one datagram in turn. What is wanted of the seat was worked out by hand.
-ghost use Rattle.std.specs.Prelude.{◌≡◌, [], ◌∷◌};
+ghost use Rattle.std.specs.Prelude.{◌≡◌, ◌^◌, ◌<◌, [], ◌∷◌, length};
 ghost use Rattle.std.specs.List.{AllByRecursion};
 ghost use Rattle.pp_terms.specs.format.Descriptor.{chunks_of};
 ghost use Rattle.pp_draft.specs.Notes.{IsInside};
 ghost use Rattle.pp_desk.specs.Steps.{IsPlain};
 
 use super::*;
-use pp_draft::{Note, Receiver};
-use pp_outside::{Address, Call, MemoryLink, NullDisk};
+use pp_draft::{ChunkReader, Delivery, Note, Receiver, Unread};
+use pp_outside::{Address, Call, Disk, Event, Link, LinkFault, MemoryLink, NullDisk};
 use pp_ranges::ChunkRange;
 use pp_seat::Seat;
-use pp_tree::{Descriptor, Digest, Method};
-use std::test::Fail;
+use pp_tree::{Book, Descriptor, Digest, Method, Node};
+use std::alloc::{AllocError, Global};
+use std::test::*;
+
+// SHA-256 of `abc`.
+const ROOT: [u8; 32] = [
+    0xba, 0x78, 0x16, 0xbf, 0x8f, 0x01, 0xcf, 0xea, 0x41, 0x41, 0x40, 0xde, 0x5d, 0xae, 0x22, 0x23,
+    0xb0, 0x03, 0x61, 0xa3, 0x96, 0x17, 0x7a, 0x9c, 0xb4, 0x10, 0xff, 0x61, 0xf2, 0x00, 0x15, 0xad,
+];
 
 const TO: Receiver = Receiver {
     address: Address::V4([127, 0, 0, 1], 7000),
@@ -79,17 +86,17 @@ fn after(
 fn a_refused_datagram_loses_its_own_notes(rt: HostRuntime) -> Result<(), Fail> {
     let (Ok(descriptor), Some(range)) = (
         Descriptor::new(Digest::new([0; 32]), 1024, 7000, Method::Range32),
-        ChunkRange::new(0, 3),
+        ChunkRange::new(1, 3),
     ) else {
         assert!(rt; false);
         return Ok(());
     };
     let want = [
-        (false, 28, 4),
-        (false, 28, 4),
+        (false, 29, 4),
+        (false, 29, 4),
         (true, 32, 4),
-        (true, 28, 0),
-        (true, 28, 4),
+        (true, 29, 0),
+        (true, 29, 4),
     ];
     for (refused, want) in want.into_iter().enumerate() {
         let mut link = MemoryLink::new(rt.alloc())?;
@@ -97,5 +104,286 @@ fn a_refused_datagram_loses_its_own_notes(rt: HostRuntime) -> Result<(), Fail> {
         let got = after(&mut seat, &descriptor, range, refused, &mut link);
         assert_eq!(rt; got, want, "{refused}");
     }
+    Ok(())
+}
+
+// A link that refuses one datagram, after so many others.
+#[derive(Drop)]
+struct Refusing {
+    link: MemoryLink,
+    before: u32,
+}
+
+impl Link for Refusing {
+    ghost use Rattle.pp_outside.specs.MemoryLink.{state_of};
+
+    ghost seen = { λ refusing. state_of refusing.link };
+
+    fn bind(&mut self, listen: &Address) -> Result<(), LinkFault> {
+        self.link.bind(listen)
+    }
+
+    fn next(&mut self, limit_us: u64, buffer: &mut [u8]) -> Result<Event, LinkFault> {
+        self.link.next(limit_us, buffer)
+    }
+
+    fn send<D: Disk>(&mut self, disk: &D, to: &Address, bytes: &[u8]) -> Result<(), LinkFault> {
+        if self.before == 0 {
+            self.link.fail_next(Call::Send);
+        }
+        self.before = self.before.wrapping_sub(1);
+        self.link.send(disk, to, bytes)
+    }
+}
+
+fn delivers(
+    seat: &mut Seat,
+    notes: &[Note],
+    descriptor: &Descriptor,
+    link: &mut Refusing,
+) -> Delivered
+    requires content { seat.old.told.chunks ≡ chunks_of descriptor.now }
+    requires plain { AllByRecursion IsPlain notes.now }
+    requires inside { AllByRecursion (IsInside descriptor.now) notes.now }
+    requires few { length notes.now < 2 ^ 32 }
+{
+    let outgoing = Outgoing {
+        to: TO,
+        sent_at: 5,
+        notes,
+    };
+    deliver(
+        seat,
+        &outgoing,
+        descriptor,
+        &mut [0; 16384],
+        &NullDisk::new(),
+        link,
+    )
+}
+
+// Delivers so many HAVEs of nine bytes each.
+#[tactic(auto, using(crate::proofs::Delivering::same_plain, pp_draft::proofs::Filling::same_inside))]
+fn delivers_many(
+    alloc: Global,
+    count: u32,
+    seat: &mut Seat,
+    descriptor: &Descriptor,
+    link: &mut Refusing,
+) -> Result<Option<Delivered>, AllocError> {
+    let Some(range) = ChunkRange::new(1, 6) else {
+        return Ok(None);
+    };
+    if seat.chunks() != descriptor.chunks() || range.last() >= descriptor.chunks() {
+        return Ok(None);
+    }
+    let notes = vec![in alloc; Note::Have { range }; count as usize]?;
+    Ok(Some(delivers(seat, &notes, descriptor, link)))
+}
+
+// 3,643 HAVEs are two full datagrams of 1,820, and one of three.
+#[test]
+fn a_refused_datagram_in_the_middle(rt: HostRuntime) -> Result<(), Fail> {
+    let Ok(descriptor) = Descriptor::new(Digest::new(ROOT), 1024, 7000, Method::Range32) else {
+        assert!(rt; false);
+        return Ok(());
+    };
+    let mut link = Refusing {
+        link: MemoryLink::new(rt.alloc())?,
+        before: 1,
+    };
+    let mut seat = Seat::new(rt.alloc(), 7, 1024)?;
+    let want = Delivered {
+        sent: 2,
+        refused: 1,
+        set_back: true,
+    };
+    let delivered = delivers_many(rt.alloc(), 3643, &mut seat, &descriptor, &mut link)?;
+    assert_eq!(rt; delivered, Some(want));
+    assert_eq!(rt; seat.cursor(), 1);
+    Ok(())
+}
+
+#[test]
+fn the_others_go_with_their_bytes(rt: HostRuntime) -> Result<(), Fail> {
+    let Ok(descriptor) = Descriptor::new(Digest::new(ROOT), 1024, 7000, Method::Range32) else {
+        assert!(rt; false);
+        return Ok(());
+    };
+    let mut link = Refusing {
+        link: MemoryLink::new(rt.alloc())?,
+        before: 1,
+    };
+    let mut seat = Seat::new(rt.alloc(), 7, 1024)?;
+    let _ = delivers_many(rt.alloc(), 3643, &mut seat, &descriptor, &mut link)?;
+    let want = [
+        0, 0, 0, 7, 3, 0, 0, 0, 1, 0, 0, 0, 6, 3, 0, 0, 0, 1, 0, 0, 0, 6, 3, 0, 0, 0, 1, 0, 0, 0, 6,
+    ];
+    assert_eq!(rt; link.link.sent(), 2);
+    assert_eq!(rt; link.link.sent_bytes(0).len(), 16384);
+    assert_eq!(rt; link.link.sent_bytes(1)[..], want[..]);
+    Ok(())
+}
+
+// A reader of chunks of three bytes, which are `abc`, or that has another fault.
+#[derive(Drop)]
+struct Abc {
+    fault: Option<Unread>,
+}
+
+impl<D: Disk> ChunkReader<D> for Abc {
+    ghost can_read = { λ reader i n. n ≡ 3 };
+
+    ghost reads = { λ reader i answer bytes old new. Unit {0} };
+
+    fn read(&self, _chunk: u32, into: &mut [u8], _disk: &mut D) -> Result<(), Unread> {
+        into.copy_from_slice(b"abc");
+        match self.fault {
+            Some(why) => Err(why),
+            None => Ok(()),
+        }
+    }
+}
+
+// A seat with a slot, of one chunk, which is asked for.
+fn asked(alloc: Global) -> Result<Seat, AllocError> {
+    let mut seat = Seat::new(alloc, 1, 1024)?;
+    seat.begin(1024, true);
+    if let Some(range) = ChunkRange::new(0, 0) {
+        seat.heard_request(range);
+    }
+    Ok(seat)
+}
+
+// Sends the one chunk of `abc` behind the hash of its leaf, which is the root, if the seat has it next.
+fn delivers_abc(
+    alloc: Global,
+    seat: &mut Seat,
+    fault: Option<Unread>,
+    link: &mut MemoryLink,
+) -> Result<Option<Result<bool, Unread>>, AllocError> {
+    let Ok(descriptor) = Descriptor::new(Digest::new(ROOT), 1024, 3, Method::Range32) else {
+        return Ok(None);
+    };
+    let mut book = Book::empty(alloc);
+    book.prepare(alloc, &descriptor)?;
+    if book.get(Node::leaf(0)).is_none() {
+        return Ok(None);
+    }
+    let Some(chunk) = seat.next() else {
+        return Ok(None);
+    };
+    if chunk != 0 {
+        return Ok(None);
+    }
+    let service = Service {
+        delivery: Delivery {
+            to: TO,
+            chunk,
+            sent_at: 258,
+            nodes: &[Node::leaf(0)],
+            book: &book,
+        },
+        reader: &Abc { fault },
+    };
+    let delivered = deliver_chunk(
+        seat,
+        &service,
+        &descriptor,
+        &mut [0; 16384],
+        &mut NullDisk::new(),
+        link,
+    );
+    Ok(Some(delivered))
+}
+
+#[test]
+fn delivers_a_chunk_once(rt: HostRuntime) -> Result<(), AllocError> {
+    let mut link = MemoryLink::new(rt.alloc())?;
+    let mut seat = asked(rt.alloc())?;
+    let first = delivers_abc(rt.alloc(), &mut seat, None, &mut link)?;
+    assert_eq!(rt; first, Some(Ok(true)));
+    let second = delivers_abc(rt.alloc(), &mut seat, None, &mut link)?;
+    assert_eq!(rt; second, None);
+    Ok(())
+}
+
+#[test]
+fn a_chunk_goes_behind_its_hash(rt: HostRuntime) -> Result<(), AllocError> {
+    let mut link = MemoryLink::new(rt.alloc())?;
+    let mut seat = asked(rt.alloc())?;
+    let _ = delivers_abc(rt.alloc(), &mut seat, None, &mut link)?;
+    let hash = [0, 0, 0, 7, 4, 0, 0, 0, 0, 0, 0, 0, 0];
+    let data = [
+        1, 0, 0, 0, 0, 0, 0, 0, 0, 0, 0, 0, 0, 0, 0, 1, 2, b'a', b'b', b'c',
+    ];
+    assert_eq!(rt; link.sent(), 1);
+    let bytes = link.sent_bytes(0);
+    assert_eq!(rt; bytes.len(), 65);
+    assert_eq!(rt; bytes[..13], hash[..]);
+    assert_eq!(rt; bytes[13..45], ROOT[..]);
+    assert_eq!(rt; bytes[45..], data[..]);
+    Ok(())
+}
+
+// One that can't be read, or that the link refuses, is given up.
+#[test]
+fn a_chunk_that_does_not_go_is_let_go(rt: HostRuntime) -> Result<(), AllocError> {
+    for (fault, want) in [
+        (Some(Unread::Damaged), Err(Unread::Damaged)),
+        (None, Ok(false)),
+    ] {
+        let mut link = MemoryLink::new(rt.alloc())?;
+        link.fail_next(Call::Send);
+        let mut seat = asked(rt.alloc())?;
+        let delivered = delivers_abc(rt.alloc(), &mut seat, fault, &mut link)?;
+        assert_eq!(rt; delivered, Some(want));
+        assert_eq!(rt; seat.next(), None);
+    }
+    Ok(())
+}
+
+// Greets channel 0, or closes channel 7, and gives the one datagram.
+fn greets(descriptor: &Descriptor, source: u32, channel: u32, link: &mut MemoryLink) -> bool {
+    let to = Receiver { channel, ..TO };
+    let disk = NullDisk::new();
+    if source == 0 {
+        return close(descriptor, &to, &mut [0; 16384], &disk, link);
+    }
+    greet(source, descriptor, &to, &mut [0; 16384], &disk, link)
+}
+
+#[test]
+fn a_greeting_has_the_swarm(rt: HostRuntime) -> Result<(), AllocError> {
+    let Ok(descriptor) = Descriptor::new(Digest::new(ROOT), 1024, 3, Method::Range32) else {
+        assert!(rt; false);
+        return Ok(());
+    };
+    let mut link = MemoryLink::new(rt.alloc())?;
+    assert!(rt; greets(&descriptor, 0x0a0b0c0d, 0, &mut link));
+    let front = [
+        0, 0, 0, 0, 0, 0x0a, 0x0b, 0x0c, 0x0d, 0, 1, 1, 1, 2, 0, 0x20,
+    ];
+    let options = [3, 1, 4, 2, 6, 2, 8, 2, 0xfe, 0xf8, 9, 0, 0, 4, 0, 0xff];
+    assert_eq!(rt; link.sent(), 1);
+    let bytes = link.sent_bytes(0);
+    assert_eq!(rt; bytes.len(), 64);
+    assert_eq!(rt; bytes[..16], front[..]);
+    assert_eq!(rt; bytes[16..48], ROOT[..]);
+    assert_eq!(rt; bytes[48..], options[..]);
+    Ok(())
+}
+
+#[test]
+fn a_close_is_a_handshake_from_channel_0(rt: HostRuntime) -> Result<(), AllocError> {
+    let Ok(descriptor) = Descriptor::new(Digest::new(ROOT), 1024, 3, Method::Range32) else {
+        assert!(rt; false);
+        return Ok(());
+    };
+    let mut link = MemoryLink::new(rt.alloc())?;
+    assert!(rt; greets(&descriptor, 0, 7, &mut link));
+    assert_eq!(rt; link.sent(), 1);
+    let want = [0, 0, 0, 7, 0, 0, 0, 0, 0, 0xff];
+    assert_eq!(rt; link.sent_bytes(0)[..], want[..]);
     Ok(())
 }
