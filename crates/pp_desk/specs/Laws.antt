@@ -90,7 +90,8 @@ pub record IsOn (w : Way) (life : Life) (past : List Record) : Type 0 where
 -- What the seat follows then is the tale of the channel's life, once the link has carried the records.
 abbrev pub TaleGrows : Type 0
 TaleGrows = (w : Way) (bs : List Batch) (old new : At) (life : Life) (past : List Record) → DeliversEach w bs old new → IsOn w life past
-    → IsSameTale (with_said w.now (said_by bs) (is_heard w.d life past) (tale_of w.d life past)) (tale_of w.d life (records_of w bs ++ past))
+    → IsSameTale (with_said w.now (said_by bs) (is_heard w.d life past) (tale_of w.d life past))
+    (tale_of w.d life (records_of w bs ++ past))
 
 -- One delivery, and one after the other.
 pub record DeliveriesCompose : Type 0 where

@@ -100,8 +100,8 @@ abbrev pub cursor_back : ℕ → List Note → ℕ
 cursor_back cursor [] = cursor
 cursor_back cursor (note ∷ notes) = cursor_back (cursor_refused cursor note) notes
 
--- The cursor is set back to the first chunk of each HAVE among them, and nothing else changes. A CHOKE, an UNCHOKE stay due as
--- they were, a REQUEST wasn't asked, and ACK, CANCEL and addresses are given up.
+-- The cursor is set back to the first chunk of each HAVE among them, and nothing else changes. CHOKE and UNCHOKE stay due as before,
+-- a REQUEST wasn't asked, and ACK, CANCEL and addresses are given up.
 abbrev pub AreRefused : List Note → SeatState → SeatState → Type 0
 AreRefused notes old new = new ≡ record old { cursor = cursor_back old.cursor notes }
 

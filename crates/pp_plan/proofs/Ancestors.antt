@@ -2,7 +2,7 @@
 use Rattle.std.proofs.Common.{◌≡◌, ⊎_elim, ℕ, zero, suc, ◌+◌, ◌-◌, ◌/◌, ◌^◌, ◌<◌, ◌≤◌, nat_le, nat_lt, Bool, true, false, ◌&&◌, ◌||◌, List, refl, sym, ◌∙◌, ap, subst, arith, pow-suc}
 use Rattle.std.proofs.Math.Nat.{div-div-eq-div-mul, div-one}
 use Rattle.std.proofs.lemmas.Nat.{pow-add}
-use Rattle.std.proofs.lemmas.Bool.{cases_Bool, cases_lt, and_parts, and_from, leb-true, lt-ltb, le-leb}
+use Rattle.std.proofs.lemmas.Bool.{cases_Bool, cases_lt, both_ways, or_cases, or_left, or_right, and_parts, and_from, leb-true, lt-ltb, le-leb}
 use Rattle.std.proofs.lemmas.Bool.Decides.{nat_tests}
 use Rattle.pp_terms.specs.tree.Tree.{Node}
 use Rattle.pp_terms.specs.tree.Bins.{parent_of}
@@ -33,11 +33,6 @@ marked_above h marks k o (suc d) closed low e =
     subst (λ (l : ℕ). has_mark h marks (node l (o / 2 ^ suc d)) ≡ true) up
     (subst (λ (p : ℕ). has_mark h marks (node (k + d + 1) p) ≡ true) (halved o d)
     (closed (node (k + d) (o / 2 ^ d)) below (marked_above h marks k o d closed (omega arith) e)))
-
-or_left : (a b : Bool) → b ≡ false → (a || b) ≡ true → a ≡ true
-or_left true b none e = e
-or_left false true none e = absurd cc
-or_left false false none e = e
 
 -- Where all chunks of a row lie under one node of a layer, one node of each layer from there on is over them.
 over_one : (k : ℕ) (span : Span) (n : Node) → k ≤ n.layer → span.first / 2 ^ k ≡ span.last / 2 ^ k → is_over span n ≡ true → n.offset ≡ span.first / 2 ^ k / 2 ^ (n.layer - k)
@@ -83,7 +78,8 @@ none_left h k span old now closed some low one marks e n = marks n ∙ ⊎_elim
     first_marked : has_mark h old (node k (span.first / 2 ^ k)) ≡ true
     first_marked =
         let none : is_over_below k span (node k (span.first / 2 ^ k)) ≡ false = grind (arith, nat_tests) in
-        or_left (has_mark h old (node k (span.first / 2 ^ k))) (is_over_below k span (node k (span.first / 2 ^ k))) none (sym (marks (node k (span.first / 2 ^ k))) ∙ e)
+        ⊎_elim (λ was. was) (λ is. absurd (both_ways (is_over_below k span (node k (span.first / 2 ^ k))) none is))
+        (or_cases (has_mark h old (node k (span.first / 2 ^ k))) (is_over_below k span (node k (span.first / 2 ^ k))) (sym (marks (node k (span.first / 2 ^ k))) ∙ e))
 
     marked : k ≤ n.layer → n.layer ≤ h → is_over span n ≡ true → has_mark h old n ≡ true
     marked above within over =
@@ -95,22 +91,10 @@ none_left h k span old now closed some low one marks e n = marks n ∙ ⊎_elim
 -- Once all that lies over a row is marked, what lies over a marked node is so again.
 pub closed_more : (h : ℕ) (span : Span) (old new : List Bool) → AreClosed h old → ((n : Node) → has_mark h new n ≡ (has_mark h old n || is_over_below (h + 1) span n)) → AreClosed h new
 closed_more h span old new closed marks n below e = marks (parent_of n) ∙ ⊎_elim
-    (λ was. or_first (has_mark h old (parent_of n)) (is_over_below (h + 1) span (parent_of n)) (closed n below was))
-    (λ was_not. or_second (has_mark h old (parent_of n)) (is_over_below (h + 1) span (parent_of n)) (over (or_right (has_mark h old n) (is_over_below (h + 1) span n) was_not (sym (marks n) ∙ e))))
-    (cases_Bool (has_mark h old n))
+    (λ was. or_left (has_mark h old (parent_of n)) (is_over_below (h + 1) span (parent_of n)) (closed n below was))
+    (λ is. or_right (has_mark h old (parent_of n)) (is_over_below (h + 1) span (parent_of n)) (over is))
+    (or_cases (has_mark h old n) (is_over_below (h + 1) span n) (sym (marks n) ∙ e))
   where
-    or_first : (a b : Bool) → a ≡ true → (a || b) ≡ true
-    or_first true b is = refl
-    or_first false b is = absurd cc
-
-    or_second : (a b : Bool) → b ≡ true → (a || b) ≡ true
-    or_second true b is = refl
-    or_second false b is = is
-
-    or_right : (a b : Bool) → a ≡ false → (a || b) ≡ true → b ≡ true
-    or_right true b is e = absurd cc
-    or_right false b is e = e
-
     over : is_over_below (h + 1) span n ≡ true → is_over_below (h + 1) span (parent_of n) ≡ true
     over is =
         let parts = and_parts (nat_lt 0 n.layer && nat_lt n.layer (h + 1)) (is_over span n) is in
