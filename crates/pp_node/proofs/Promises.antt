@@ -35,7 +35,8 @@ use Rattle.pp_node.specs.Looking.{IsOf, Lasts}
 use Rattle.pp_node.specs.Outside.{Outside}
 use Rattle.pp_node.specs.Preparing.{IsUnsent, IsReady, HasPrepared, LeavesDisk, LeavesLink}
 use Rattle.pp_node.specs.Promising.{SeedWords, IsSmoothRun, IsSeeded, IsUnturned, SeedsIn, LeavesFile, Binds, SeedEnds}
-use Rattle.pp_node.specs.Turning.{IsSmooth, IsCalm, ServesHeld, TakesTurns}
+use Rattle.pp_promises.specs.Premises.{IsCalm}
+use Rattle.pp_node.specs.Turning.{IsSmooth, ServesHeld, TakesTurns}
 use Rattle.pp_node.specs.Seeding.{Serves, ReportsSeed}
 use Rattle.pp_node.specs.Status.{number_of}
 use Rattle.pp_node.specs.declared.preparing.SeedFault.{SeedFault}

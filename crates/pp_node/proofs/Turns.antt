@@ -30,7 +30,8 @@ use Rattle.pp_core.proofs.Relations.{gains_twice, gains_nothing, all_both, reads
 use Rattle.pp_core.proofs.Servings.{reads_nothing}
 use Rattle.pp_core.proofs.Staying.{event_descriptor, event_committed, paths_kept}
 use Rattle.pp_core.proofs.Turning.{stands_event, stands_refused}
-use Rattle.pp_node.specs.Turning.{Flushes, Waits, took, missed, TakesTurn, IsCalm, IsSmooth, ServesHeld, AreThere, TakesTurns}
+use Rattle.pp_promises.specs.Premises.{IsCalm}
+use Rattle.pp_node.specs.Turning.{Flushes, Waits, took, missed, TakesTurn, IsSmooth, ServesHeld, AreThere, TakesTurns}
 
 -- ---- the event in the buffer
 

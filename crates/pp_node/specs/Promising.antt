@@ -21,7 +21,8 @@ use Rattle.pp_core.specs.Sends.{IsOurs, WasDamaged}
 use Rattle.pp_node.specs.Looking.{IsOf, Lasts}
 use Rattle.pp_node.specs.Outside.{Outside}
 use Rattle.pp_node.specs.Faults.{Faults}
-use Rattle.pp_node.specs.Turning.{IsCalm, ServesHeld}
+use Rattle.pp_promises.specs.Premises.{IsCalm}
+use Rattle.pp_node.specs.Turning.{ServesHeld}
 use Rattle.pp_node.specs.Status.{number_of}
 use Rattle.pp_node.specs.declared.status.Status.{Status}
 use Rattle.pp_node.specs.declared.status.Status.TheVariants.{Done, NotAStore, DiskFault, LinkFault, SinkFault, Memory}

@@ -9,6 +9,7 @@ use Rattle.pp_terms.specs.format.Traffic.{LinkState, Record, GainsRecords}
 use Rattle.pp_traffic.specs.Prompt.{LetsInFirst, ServesAsked}
 use Rattle.pp_traffic.specs.Serving.{window_of}
 use Rattle.pp_traffic.specs.Turns.{events, AtEndsOfTurnsBut}
+use Rattle.pp_promises.specs.Premises.{IsCalm}
 use Rattle.pp_outside.specs.Outside.{record_of}
 use Rattle.pp_outside.specs.Arrivals.{IsEvent}
 use Rattle.pp_outside.specs.declared.link.Event.{Event}
@@ -41,10 +42,6 @@ pub record TakesTurn (book : LookUp) (disk disk' : DiskState) (seen seen' : Link
   pub bound : mid.bound ≡ seen.bound
   pub later : seen.faults ≤ mid.faults
   pub flushed : Flushes book disk disk' mid seen' taken new
-
--- a count didn't rise
-abbrev pub IsCalm : ℕ → ℕ → Type 0
-IsCalm before now = HasRisen before now → ⊥
 
 -- No device refused anything, and the disk is honest, tells and has each committed chunk.
 pub record IsSmooth (d : Descriptor) (set : List Bool) (book : LookUp) (disk disk' : DiskState) (seen seen' : LinkState) : Type 0 where
