@@ -29,3 +29,7 @@ pub mod Offerings
 pub mod AskedTests
 pub mod BatchTests
 pub mod KeptTurnRuns
+pub mod ReadStandings
+pub mod HashSpans
+pub mod FarChunks
+pub mod Plannings

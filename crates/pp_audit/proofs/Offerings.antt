@@ -14,7 +14,7 @@ use Rattle.pp_audit.specs.Sorts.{is_request}
 use Rattle.pp_audit.specs.Offers.{brought, has_heard, chokes_after, chokes_since, asked_long}
 
 -- the newest record, where it isn't before the opening or is
-by_opening : (place at : ℕ) (X : Bool → Type 0) → (leb at place ≡ true → X true) → (leb at place ≡ false → place < at → X false) → X (leb at place)
+pub by_opening : (place at : ℕ) (X : Bool → Type 0) → (leb at place ≡ true → X true) → (leb at place ≡ false → place < at → X false) → X (leb at place)
 by_opening place at X inside outside = ⊎_elim
     (λ lt. let e = lt-leb at place lt in subst (λ (b : Bool). X b) (sym e) (outside e lt))
     (λ le. let e = le-leb at place le in subst (λ (b : Bool). X b) (sym e) (inside e))

@@ -7,18 +7,20 @@ use Rattle.pp_terms.specs.format.Options.{Options}
 use Rattle.pp_terms.specs.format.Descriptor.{Descriptor, chunks_of}
 use Rattle.pp_terms.specs.format.Messages.{Message}
 use Rattle.pp_traffic.specs.Past.{read, goes_to, is_number}
-use Rattle.pp_traffic.specs.Life.{Life, answers, begins_as}
+use Rattle.pp_traffic.specs.Life.{Life, answers, begins_as, IsLife}
 use Rattle.pp_traffic.specs.Story.{story}
 use Rattle.pp_traffic.specs.Asking.{choked, asked, is_heard}
 use Rattle.pp_traffic.specs.Hashes.{is_told, completes, brings}
-use Rattle.pp_traffic.specs.Serving.{Window, AnswersOn, AnswersPeer}
+use Rattle.pp_traffic.specs.Serving.{Window, AnswersOn}
 use Rattle.pp_traffic.proofs.Standing.{found_since}
 use Rattle.pp_traffic.proofs.OneMore.{lives_began}
 use Rattle.pp_audit.specs.Parts.{first_shake}
 use Rattle.pp_audit.specs.Tests.{is_life}
-use Rattle.pp_audit.specs.Search.{answers_on, some_below, is_source, some_source, life_at, some_opening, some_life, SearchIsExact}
+use Rattle.pp_audit.specs.Search.{answers_on, some_below, is_source, some_source, life_at, some_opening, some_life, answers_planned, SearchIsExact, PlansAreSought}
+use Rattle.pp_audit.specs.Plans.{is_planned}
 use Rattle.pp_audit.proofs.Shakes.{begins_as_shake}
 use Rattle.pp_audit.proofs.LifeTests.{lives_are_tested}
+use Rattle.pp_audit.proofs.HashSpans.{planned_is_tested}
 
 -- ---- one channel
 
@@ -107,25 +109,32 @@ either : (test : Life → Bool) (a : Address) (remote local opening : ℕ) (is_d
 either test a remote local opening false e = or_left (test (life_at a remote local false opening)) (test (life_at a remote local true opening)) e
 either test a remote local opening true e = or_right (test (life_at a remote local false opening)) (test (life_at a remote local true opening)) e
 
-peer_of : (d : Descriptor) (window : Window) (past : List Record) (receiver : Address) (remote i : ℕ) (front : List Message) (local opening : ℕ) (is_dialled : Bool)
-    → answers_on d window past i front (life_at receiver remote local is_dialled opening) ≡ true → AnswersPeer d window past receiver (Some remote) i front
-peer_of d window past receiver remote i front local opening is_dialled e = record {
-  life = life_at receiver remote local is_dialled opening;
-  at = refl;
-  by = refl;
-  answers = on_from d window past i front (life_at receiver remote local is_dialled opening) e;
-}
+-- one that is found
+record IsFound (test : Life → Bool) (receiver : Address) (remote : ℕ) : Type 0 where
+  life : Life
+  at : life.address ≡ receiver
+  by : life.remote ≡ remote
+  passes : test life ≡ true
 
-finds : (d : Descriptor) (window : Window) (past : List Record) (remote i : ℕ) (front : List Message) (life : Life) → life.remote ≡ remote → AnswersOn d window past life i front
-    → some_life (answers_on d window past i front) d life.address remote past ≡ true
-finds d window past remote i front life same is =
-    let test = answers_on d window past i front in
+life_found : (test : Life → Bool) (d : Descriptor) (past : List Record) (receiver : Address) (remote : ℕ) → some_life test d receiver remote past ≡ true
+    → IsFound test receiver remote
+life_found test d past receiver remote e =
+    let f = sources_found (some_opening test receiver remote (length past)) d receiver past e in
+    let g = below_found (λ opening. test (life_at receiver remote f.0 false opening) || test (life_at receiver remote f.0 true opening)) (length past) f.1 in
+    ⊎_elim
+    (λ answered. record { life = life_at receiver remote f.0 false g.0; at = refl; by = refl; passes = answered })
+    (λ dialled. record { life = life_at receiver remote f.0 true g.0; at = refl; by = refl; passes = dialled })
+    (or_cases (test (life_at receiver remote f.0 false g.0)) (test (life_at receiver remote f.0 true g.0)) g.2)
+
+finds : (test : Life → Bool) (d : Descriptor) (past : List Record) (remote : ℕ) (life : Life) → life.remote ≡ remote → IsLife d life past → test life ≡ true
+    → some_life test d life.address remote past ≡ true
+finds test d past remote life same alive is =
     let passes : test (life_at life.address remote life.local life.is_dialled life.opening) ≡ true =
-    subst (λ (n : ℕ). test (life_at life.address n life.local life.is_dialled life.opening) ≡ true) same (from_on d window past i front life is) in
+    subst (λ (n : ℕ). test (life_at life.address n life.local life.is_dialled life.opening) ≡ true) same is in
     let opens : some_opening test life.address remote (length past) life.local ≡ true =
     found_below (λ opening. test (life_at life.address remote life.local false opening) || test (life_at life.address remote life.local true opening)) (length past) life.opening
-    (lives_began d life past is.alive) (either test life.address remote life.local life.opening life.is_dialled passes) in
-    let s = found_since (answers d life) life.opening past is.alive.answered in
+    (lives_began d life past alive) (either test life.address remote life.local life.opening life.is_dialled passes) in
+    let s = found_since (answers d life) life.opening past alive.answered in
     subst (λ (rs : List Record). some_source (some_opening test life.address remote (length past)) d life.address rs ≡ true) (sym s.split)
     (found_source (some_opening test life.address remote (length past)) d life.address s.after s.here s.before
     (answer_source (some_opening test life.address remote (length past)) d life s.here s.passes opens))
@@ -136,14 +145,28 @@ number_same a b e = cc
 pub search_is_exact : SearchIsExact
 search_is_exact d window past receiver remote i front = (
   λ e.
-      let test = answers_on d window past i front in
-      let f = sources_found (some_opening test receiver remote (length past)) d receiver past e in
-      let g = below_found (λ opening. test (life_at receiver remote f.0 false opening) || test (life_at receiver remote f.0 true opening)) (length past) f.1 in
-      ⊎_elim
-      (λ answered. peer_of d window past receiver remote i front f.0 g.0 false answered)
-      (λ dialled. peer_of d window past receiver remote i front f.0 g.0 true dialled)
-      (or_cases (test (life_at receiver remote f.0 false g.0)) (test (life_at receiver remote f.0 true g.0)) g.2),
+      let f = life_found (answers_on d window past i front) d past receiver remote e in
+      record { life = f.life; at = f.at; by = ap (λ (n : ℕ). Some n) (sym f.by); answers = on_from d window past i front f.life f.passes },
   λ is.
       subst (λ (a : Address). some_life (answers_on d window past i front) d a remote past ≡ true) is.at
-      (finds d window past remote i front is.life (number_same remote is.life.remote is.by) is.answers),
+      (finds (answers_on d window past i front) d past remote is.life (number_same remote is.life.remote is.by) is.answers.alive
+      (from_on d window past i front is.life is.answers)),
+)
+
+pub plans_are_sought : PlansAreSought
+plans_are_sought d window past receiver remote i front = (
+  λ e.
+      let f = life_found (answers_planned true d window past i front) d past receiver remote e in
+      let both = and_parts (answers_on d window past i front f.life) (is_planned d past i front f.life) f.passes in
+      record {
+        life = f.life;
+        at = f.at;
+        by = ap (λ (n : ℕ). Some n) (sym f.by);
+        plans = record { answers = on_from d window past i front f.life both.0; exact = (planned_is_tested d past i front f.life).0 both.1 };
+      },
+  λ is.
+      subst (λ (a : Address). some_life (answers_planned true d window past i front) d a remote past ≡ true) is.at
+      (finds (answers_planned true d window past i front) d past remote is.life (number_same remote is.life.remote is.by) is.plans.answers.alive
+      (and_from (answers_on d window past i front is.life) (is_planned d past i front is.life) (from_on d window past i front is.life is.plans.answers)
+      ((planned_is_tested d past i front is.life).1 is.plans.exact))),
 )

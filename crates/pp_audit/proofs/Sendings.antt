@@ -42,19 +42,25 @@ length_more : (front : List Message) (m : Message) → length (front ++ m ∷ []
 length_more [] m = refl
 length_more (x ∷ front) m = ap (λ (n : ℕ). suc n) (length_more front m) ∙ (let e : suc (length front + 1) ≡ suc (length front) + 1 = omega arith in e)
 
-pub on_more : (S : List Message → List Message → Type 0) (whole ms rest : List Message) (m : Message) (count : ℕ) → IsOn S whole count ms → ms ≡ m ∷ rest
-    → ((front : List Message) → S front (m ∷ rest) → S (front ++ m ∷ []) rest) → ((front : List Message) → S (front ++ m ∷ []) rest → S front (m ∷ rest))
+-- one message more, by what S says of it behind those that were passed
+pub on_next : (S : List Message → List Message → Type 0) (whole ms rest : List Message) (m : Message) (count : ℕ) → IsOn S whole count ms → ms ≡ m ∷ rest
+    → (S (take count whole) (m ∷ rest) → S (take count whole ++ m ∷ []) rest) → (S (take count whole ++ m ∷ []) rest → S (take count whole) (m ∷ rest))
     → IsOn S whole (count + 1) rest
-on_more S whole ms rest m count on e to from =
+on_next S whole ms rest m count on e to from =
     let split : whole ≡ take count whole ++ m ∷ rest = on.parts ∙ ap (λ (xs : List Message). take count whole ++ xs) e in
     let front : take (count + 1) whole ≡ take count whole ++ m ∷ [] =
     ap (λ (n : ℕ). take (n + 1) whole) (sym on.long) ∙ ap (λ (xs : List Message). take (length (take count whole) + 1) xs) split ∙ take_front (take count whole) m rest in
     record {
       parts = split ∙ sym (append_assoc (take count whole) (m ∷ []) rest) ∙ ap (λ (xs : List Message). xs ++ rest) (sym front);
       long = ap (λ (xs : List Message). length xs) front ∙ length_more (take count whole) m ∙ ap (λ (n : ℕ). n + 1) on.long;
-      forward = λ s. subst (λ (xs : List Message). S xs rest) (sym front) (to (take count whole) (subst (λ (xs : List Message). S (take count whole) xs) e (on.forward s)));
-      back = λ s. on.back (subst (λ (xs : List Message). S (take count whole) xs) (sym e) (from (take count whole) (subst (λ (xs : List Message). S xs rest) front s)));
+      forward = λ s. subst (λ (xs : List Message). S xs rest) (sym front) (to (subst (λ (xs : List Message). S (take count whole) xs) e (on.forward s)));
+      back = λ s. on.back (subst (λ (xs : List Message). S (take count whole) xs) (sym e) (from (subst (λ (xs : List Message). S xs rest) front s)));
     }
+
+pub on_more : (S : List Message → List Message → Type 0) (whole ms rest : List Message) (m : Message) (count : ℕ) → IsOn S whole count ms → ms ≡ m ∷ rest
+    → ((front : List Message) → S front (m ∷ rest) → S (front ++ m ∷ []) rest) → ((front : List Message) → S (front ++ m ∷ []) rest → S front (m ∷ rest))
+    → IsOn S whole (count + 1) rest
+on_more S whole ms rest m count on e to from = on_next S whole ms rest m count on e (to (take count whole)) (from (take count whole))
 
 pub on_one : (S : List Message → List Message → Type 0) (whole ms rest : List Message) (m : Message) (count : ℕ) (b : Bool) → IsOn S whole count ms → ms ≡ m ∷ rest
     → ((b ≡ true) ↔ S (take count whole) (m ∷ rest)) → (b ≡ true) ↔ S [] whole

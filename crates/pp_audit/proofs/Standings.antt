@@ -26,7 +26,7 @@ said_line chunks (q.Asked i) now m story = refl
 said_line chunks (q.Told node) now m story = refl
 said_line chunks (q.Landed i) now m story = refl
 
-taken_line : (chunks : ℕ) (question : Question) (now : ℕ) (story : List Line) → standing_of chunks question (Taken now ∷ story) ≡ standing_of chunks question story
+pub taken_line : (chunks : ℕ) (question : Question) (now : ℕ) (story : List Line) → standing_of chunks question (Taken now ∷ story) ≡ standing_of chunks question story
 taken_line chunks (q.Asked i) now story = refl
 taken_line chunks (q.Told node) now story = refl
 taken_line chunks (q.Landed i) now story = refl
@@ -45,7 +45,7 @@ said_lines chunks question now (m ∷ ms) story =
     said_lines chunks question now ms (Said now m ∷ story)
     ∙ ap (λ (s : Standing). say_all question ms s) (said_line chunks question now m story)
 
-told_lines : (d : Descriptor) (question : Question) (life : Life) (is_opening : Bool) (at : ℕ) (r : Record) (story : List Line)
+pub told_lines : (d : Descriptor) (question : Question) (life : Life) (is_opening : Bool) (at : ℕ) (r : Record) (story : List Line)
     → standing_of (chunks_of d) question (told d life is_opening at r story) ≡ after_told d question life is_opening r (standing_of (chunks_of d) question story)
 told_lines d question life is_opening at (Received moment sender bytes) story =
     taken_line (chunks_of d) question at (hear at (heard_in d life is_opening (Received moment sender bytes)) story)
@@ -54,7 +54,7 @@ told_lines d question life is_opening at (Quiet moment) story = taken_line (chun
 told_lines d question life is_opening at (Sent moment receiver bytes) story =
     said_lines (chunks_of d) question at (said_in d life (Sent moment receiver bytes)) story
 
-no_lines : (chunks : ℕ) (question : Question) → standing_of chunks question [] ≡ none
+pub no_lines : (chunks : ℕ) (question : Question) → standing_of chunks question [] ≡ none
 no_lines chunks (q.Asked i) = refl
 no_lines chunks (q.Told node) = refl
 no_lines chunks (q.Landed i) = refl

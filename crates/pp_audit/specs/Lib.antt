@@ -21,3 +21,6 @@ pub mod Asks
 pub mod Offers
 pub mod Batches
 pub mod KeptTurns
+pub mod ReadStandings
+pub mod Plans
+pub mod Plannings

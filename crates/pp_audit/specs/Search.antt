@@ -1,6 +1,6 @@
 -- The search for a channel on which a chunk was served: over every source of a handshake that was sent to its receiver,
 -- every place of an opening, and both kinds of opening.
-use Rattle.std.specs.Prelude.{◌≡◌, ◌↔◌, ℕ, zero, suc, Bool, true, false, not, ◌&&◌, ◌||◌, Some, List, [], ◌∷◌, length}
+use Rattle.std.specs.Prelude.{◌≡◌, ◌↔◌, ℕ, zero, suc, Bool, true, false, not, ◌&&◌, ◌||◌, Some, List, [], ◌∷◌, length, take}
 use Rattle.std.specs.Option.{option_map_or}
 use Rattle.pp_terms.specs.format.Traffic.{Address, Record}
 use Rattle.pp_terms.specs.format.Descriptor.{Descriptor, chunks_of}
@@ -10,14 +10,26 @@ use Rattle.pp_traffic.specs.Life.{Life}
 use Rattle.pp_traffic.specs.Story.{story}
 use Rattle.pp_traffic.specs.Asking.{choked, asked, is_heard}
 use Rattle.pp_traffic.specs.Hashes.{is_told, completes, brings}
-use Rattle.pp_traffic.specs.Serving.{Window, AnswersPeer}
-use Rattle.pp_audit.specs.Parts.{first_shake}
+use Rattle.pp_traffic.specs.Serving.{Window, window_of, AnswersPeer}
+use Rattle.pp_promises.specs.Datagrams.{PlansPeer}
+use Rattle.pp_audit.specs.declared.searching.Reply.{Reply}
+use Rattle.pp_audit.specs.Parts.{all, first_shake}
+use Rattle.pp_audit.specs.Plans.{is_planned}
 use Rattle.pp_audit.specs.Tests.{is_life}
 
 -- The chunk, behind some messages, answers the peer on the channel.
 abbrev pub answers_on : Descriptor → Window → List Record → ℕ → List Message → Life → Bool
 answers_on d window past i front life = is_life d life past && asked i (story d life past) && not (choked (story d life past))
     && is_heard d life past && completes (chunks_of d) (brings front) (is_told (chunks_of d) (story d life past)) i && window (story d life past)
+
+-- And, where that is asked, the hashes before it are those of its plan.
+abbrev pub answers_planned : Bool → Descriptor → Window → List Record → ℕ → List Message → Life → Bool
+answers_planned false d window past i front life = answers_on d window past i front life
+answers_planned true d window past i front life = answers_on d window past i front life && is_planned d past i front life
+
+-- so it is of a reply
+abbrev pub replies_on : Descriptor → List Record → Reply → Life → Bool
+replies_on d past reply life = answers_planned reply.is_planned d (window_of d) past reply.chunk (take reply.count (all d reply.bytes.now)) life
 
 -- the test of some number below one
 abbrev pub some_below : (ℕ → Bool) → ℕ → Bool
@@ -45,7 +57,11 @@ some_opening test a remote size local =
 abbrev pub some_life : (Life → Bool) → Descriptor → Address → ℕ → List Record → Bool
 some_life test d a remote past = some_source (some_opening test a remote (length past)) d a past
 
--- It finds one exactly where there is one.
+-- It finds one exactly where there is one; so where the hashes are asked for too.
 abbrev pub SearchIsExact : Type 0
 SearchIsExact = (d : Descriptor) (window : Window) (past : List Record) (receiver : Address) (remote i : ℕ) (front : List Message)
     → (some_life (answers_on d window past i front) d receiver remote past ≡ true) ↔ AnswersPeer d window past receiver (Some remote) i front
+
+abbrev pub PlansAreSought : Type 0
+PlansAreSought = (d : Descriptor) (window : Window) (past : List Record) (receiver : Address) (remote i : ℕ) (front : List Message)
+    → (some_life (answers_planned true d window past i front) d receiver remote past ≡ true) ↔ PlansPeer d window past receiver (Some remote) i front

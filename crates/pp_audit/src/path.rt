@@ -18,8 +18,8 @@ use pp_options::Options;
 use pp_tree::{Descriptor, Node, peaks};
 use pp_wire::{Message, Span};
 
-// Whether the span is all leaves under the node.
-fn is_span_of(node: Node, span: Span) -> bool
+/// Whether the span is all leaves under the node.
+pub(crate) fn is_span_of(node: Node, span: Span) -> bool
     requires { node.layer < 21 }
     ensures { result ≡ terms.is_span_of (node_of node) (span_of span) }
 {

@@ -2,6 +2,7 @@
 
 ghost use Rattle.std.specs.Prelude.{◌≡◌, ◌↔◌, ◌||◌, IsTrue, Some, take, length, true, false};
 ghost use Rattle.pp_traffic.specs.Serving.{AnswersPeer, window_of};
+ghost use Rattle.pp_promises.specs.Datagrams.{PlansPeer};
 ghost use Rattle.pp_outside.specs.Outside.{address_of};
 ghost use Rattle.pp_audit.specs.Entries.{past, life_of, record_of};
 ghost use Rattle.pp_audit.specs.Parts.{all};
@@ -10,11 +11,22 @@ ghost use Rattle.pp_audit.specs.Search as terms;
 use crate::asking::{is_asked, is_choked, is_heard};
 use crate::entry::{Entry, Life, bytes_of, goes_to};
 use crate::flying::fewer_than_two;
+use crate::hashes::is_planned;
 use crate::lives::is_life;
 use crate::path::completes;
 use crate::reading::first_shake;
 use pp_outside::Address;
 use pp_tree::Descriptor;
+
+/// A chunk behind the first messages of a datagram, so many, and whether the hashes among them are to be exactly those of its
+/// plan.
+#[derive(Clone, Copy)]
+pub(crate) struct Reply<'a> {
+    pub(crate) bytes: &'a [u8],
+    pub(crate) count: usize,
+    pub(crate) chunk: u32,
+    pub(crate) is_planned: bool,
+}
 
 // Whether a chunk, behind the first messages of a datagram, so many, answers the peer on the channel.
 fn answers_on<'m>(
@@ -36,19 +48,38 @@ fn answers_on<'m>(
         && fewer_than_two(descriptor, life, entries)
 }
 
-// Or on a channel that opens there, of either kind.
-fn opens_at<'m>(
+// And, where that is asked, behind the hashes of its plan.
+fn replies_on<'r, 'm>(
     descriptor: &Descriptor,
     life: Life,
     entries: &'m [Entry<'m>],
-    bytes: &[u8],
-    count: usize,
-    chunk: u32,
+    reply: Reply<'r>,
 ) -> bool
-    ensures { result ≡ (terms.answers_on descriptor.now (window_of descriptor.now) (past entries.now) chunk (take count (all descriptor.now bytes.now))
-        (terms.life_at (address_of life.address) life.remote life.local false life.opening)
-        || terms.answers_on descriptor.now (window_of descriptor.now) (past entries.now) chunk (take count (all descriptor.now bytes.now))
-        (terms.life_at (address_of life.address) life.remote life.local true life.opening)) }
+    ensures { result ≡ terms.replies_on descriptor.now (past entries.now) reply.entry (life_of life) }
+{
+    let Reply {
+        bytes,
+        count,
+        chunk,
+        ..
+    } = reply;
+    if reply.is_planned {
+        answers_on(descriptor, life, entries, bytes, count, chunk)
+            && is_planned(descriptor, life, entries, bytes, count, chunk)
+    } else {
+        answers_on(descriptor, life, entries, bytes, count, chunk)
+    }
+}
+
+// Or on a channel that opens there, of either kind.
+fn opens_at<'r, 'm>(
+    descriptor: &Descriptor,
+    life: Life,
+    entries: &'m [Entry<'m>],
+    reply: Reply<'r>,
+) -> bool
+    ensures { result ≡ (terms.replies_on descriptor.now (past entries.now) reply.entry (terms.life_at (address_of life.address) life.remote life.local false life.opening)
+        || terms.replies_on descriptor.now (past entries.now) reply.entry (terms.life_at (address_of life.address) life.remote life.local true life.opening)) }
 {
     let answered = Life {
         is_dialled: false,
@@ -58,43 +89,38 @@ fn opens_at<'m>(
         is_dialled: true,
         ..life
     };
-    answers_on(descriptor, answered, entries, bytes, count, chunk)
-        || answers_on(descriptor, dialled, entries, bytes, count, chunk)
+    replies_on(descriptor, answered, entries, reply)
+        || replies_on(descriptor, dialled, entries, reply)
 }
 
 // Or on one that opens anywhere.
-fn some_opening<'m>(
+fn some_opening<'r, 'm>(
     descriptor: &Descriptor,
     life: Life,
     entries: &'m [Entry<'m>],
-    bytes: &[u8],
-    count: usize,
-    chunk: u32,
+    reply: Reply<'r>,
 ) -> bool
-    ensures { result ≡ terms.some_opening (terms.answers_on descriptor.now (window_of descriptor.now) (past entries.now) chunk (take count (all descriptor.now bytes.now)))
+    ensures { result ≡ terms.some_opening (terms.replies_on descriptor.now (past entries.now) reply.entry)
         (address_of life.address) life.remote (length entries.now) life.local }
 {
     let mut found = false;
     for opening in 0..entries.len() {
         let life = Life { opening, ..life };
-        found = opens_at(descriptor, life, entries, bytes, count, chunk) | found;
+        found = opens_at(descriptor, life, entries, reply) | found;
     }
     found
 }
 
 // Or on one with that source, where the entry is this peer's first handshake to the address.
-fn is_source<'m>(
+fn is_source<'r, 'm>(
     descriptor: &Descriptor,
     life: Life,
     entries: &'m [Entry<'m>],
-    bytes: &[u8],
-    count: usize,
-    chunk: u32,
+    reply: Reply<'r>,
     entry: &'m Entry<'m>,
 ) -> bool
-    ensures { result ≡ terms.is_source (terms.some_opening (terms.answers_on descriptor.now (window_of descriptor.now) (past entries.now) chunk
-        (take count (all descriptor.now bytes.now))) (address_of life.address) life.remote (length entries.now))
-        descriptor.now (address_of life.address) (record_of entry.now) }
+    ensures { result ≡ terms.is_source (terms.some_opening (terms.replies_on descriptor.now (past entries.now) reply.entry)
+        (address_of life.address) life.remote (length entries.now)) descriptor.now (address_of life.address) (record_of entry.now) }
 {
     if !goes_to(life.address, entry) {
         return false;
@@ -102,29 +128,48 @@ fn is_source<'m>(
     match first_shake(descriptor, bytes_of(entry)) {
         Some((local, _)) => {
             let life = Life { local, ..life };
-            some_opening(descriptor, life, entries, bytes, count, chunk)
+            some_opening(descriptor, life, entries, reply)
         }
         None => false,
     }
 }
 
 // Or on any between these two numbers.
-fn some_life<'m>(
+fn some_life<'r, 'm>(
     descriptor: &Descriptor,
     life: Life,
     entries: &'m [Entry<'m>],
-    bytes: &[u8],
-    count: usize,
-    chunk: u32,
+    reply: Reply<'r>,
 ) -> bool
-    ensures { result ≡ terms.some_life (terms.answers_on descriptor.now (window_of descriptor.now) (past entries.now) chunk
-        (take count (all descriptor.now bytes.now))) descriptor.now (address_of life.address) life.remote (past entries.now) }
+    ensures { result ≡ terms.some_life (terms.replies_on descriptor.now (past entries.now) reply.entry) descriptor.now
+        (address_of life.address) life.remote (past entries.now) }
 {
     let mut found = false;
     for entry in entries {
-        found = is_source(descriptor, life, entries, bytes, count, chunk, entry) | found;
+        found = is_source(descriptor, life, entries, reply, entry) | found;
     }
     found
+}
+
+// Or on any from the address and the number.
+fn some_channel<'r, 'm>(
+    descriptor: &Descriptor,
+    entries: &'m [Entry<'m>],
+    to: Address,
+    remote: u32,
+    reply: Reply<'r>,
+) -> bool
+    ensures { result ≡ terms.some_life (terms.replies_on descriptor.now (past entries.now) reply.entry) descriptor.now
+        (address_of to) remote (past entries.now) }
+{
+    let life = Life {
+        address: to,
+        local: 0,
+        remote,
+        is_dialled: false,
+        opening: 0,
+    };
+    some_life(descriptor, life, entries, reply)
 }
 
 /// Whether a chunk that is sent to an address and a channel number, behind the first messages of a datagram, so many,
@@ -141,12 +186,33 @@ pub fn answers_peer<'m>(
     ensures { IsTrue result ↔ AnswersPeer descriptor.now (window_of descriptor.now) (past entries.now) (address_of to) (Some remote) chunk
         (take count (all descriptor.now bytes.now)) }
 {
-    let life = Life {
-        address: to,
-        local: 0,
-        remote,
-        is_dialled: false,
-        opening: 0,
+    let reply = Reply {
+        bytes,
+        count,
+        chunk,
+        is_planned: false,
     };
-    some_life(descriptor, life, entries, bytes, count, chunk)
+    some_channel(descriptor, entries, to, remote, reply)
+}
+
+/// Whether it does so on one where the hashes among these messages are exactly those of its plan.
+pub(crate) fn plans_peer<'m>(
+    descriptor: &Descriptor,
+    entries: &'m [Entry<'m>],
+    to: Address,
+    remote: u32,
+    bytes: &[u8],
+    count: usize,
+    chunk: u32,
+) -> bool
+    ensures { IsTrue result ↔ PlansPeer descriptor.now (window_of descriptor.now) (past entries.now) (address_of to) (Some remote) chunk
+        (take count (all descriptor.now bytes.now)) }
+{
+    let reply = Reply {
+        bytes,
+        count,
+        chunk,
+        is_planned: true,
+    };
+    some_channel(descriptor, entries, to, remote, reply)
 }

@@ -37,7 +37,7 @@ pub(crate) struct Standing {
     pub(crate) found: bool,
 }
 
-const NONE: Standing = Standing {
+pub(crate) const NONE: Standing = Standing {
     choked: false,
     found: false,
 };
@@ -241,8 +241,8 @@ fn after_told<'m>(
     }
 }
 
-// Behind the entry at a place, from another one on.
-fn after_entry<'m>(
+/// Behind the entry at a place, from another one on.
+pub(crate) fn after_entry<'m>(
     descriptor: &Descriptor,
     question: Question,
     life: Life,

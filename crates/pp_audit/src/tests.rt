@@ -109,6 +109,64 @@ pub(super) fn swarm(alloc: Global) -> Result<Descriptor, Fail> {
 // The spans of nodes (2, 0), (1, 2), (0, 6), (1, 1) and (0, 1).
 const PATH: [(u32, u32); 5] = [(0, 3), (4, 5), (6, 6), (2, 3), (1, 1)];
 
+// Whether the first chunk is planned behind the hashes of these spans, where its peer has told of nothing.
+fn is_planned_behind(alloc: Global, spans: &[(u32, u32)]) -> Result<bool, Fail> {
+    let d = swarm(alloc)?;
+    let hello = handshake(0, REMOTE, &d.root());
+    let reply = handshake(REMOTE, LOCAL, &d.root());
+    let request = spanned(LOCAL, 8, 0, 0);
+    let first = delivery(alloc, REMOTE, spans, 0)?;
+    let list = [
+        came(PEER, &hello),
+        went(PEER, &reply),
+        came(PEER, &request),
+        went(PEER, &first),
+    ];
+    Ok(plans_all(&d, &list))
+}
+
+// The last two spans the other way round, and one more.
+const OTHER_WAY: [(u32, u32); 5] = [(0, 3), (4, 5), (6, 6), (1, 1), (2, 3)];
+
+const ONE_MORE: [(u32, u32); 6] = [(0, 3), (4, 5), (6, 6), (2, 3), (1, 1), (0, 0)];
+
+#[test]
+fn plans_the_whole_path(rt: HostRuntime) -> Result<(), Fail> {
+    assert!(rt; is_planned_behind(rt.alloc(), &PATH)?);
+    assert!(rt; !is_planned_behind(rt.alloc(), &PATH[..4])?);
+    Ok(())
+}
+
+#[test]
+fn plans_no_other_path(rt: HostRuntime) -> Result<(), Fail> {
+    assert!(rt; !is_planned_behind(rt.alloc(), &OTHER_WAY)?);
+    assert!(rt; !is_planned_behind(rt.alloc(), &ONE_MORE)?);
+    Ok(())
+}
+
+// Whether the second chunk is planned behind the hashes of these spans, where its peer has acknowledged the first.
+fn is_planned_next(alloc: Global, spans: &[(u32, u32)]) -> Result<bool, Fail> {
+    let d = swarm(alloc)?;
+    let hello = handshake(0, REMOTE, &d.root());
+    let reply = handshake(REMOTE, LOCAL, &d.root());
+    let next = acknowledges(LOCAL, 0, 1);
+    let second = delivery(alloc, REMOTE, spans, 1)?;
+    let list = [
+        came(PEER, &hello),
+        went(PEER, &reply),
+        came(PEER, &next),
+        went(PEER, &second),
+    ];
+    Ok(plans_all(&d, &list))
+}
+
+#[test]
+fn plans_nothing_that_was_told(rt: HostRuntime) -> Result<(), Fail> {
+    assert!(rt; is_planned_next(rt.alloc(), &[])?);
+    assert!(rt; !is_planned_next(rt.alloc(), &[(0, 0)])?);
+    Ok(())
+}
+
 #[test]
 fn answers_what_was_asked(rt: HostRuntime) -> Result<(), Fail> {
     let d = swarm(rt.alloc())?;
