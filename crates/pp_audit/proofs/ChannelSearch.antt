@@ -7,14 +7,14 @@ use Rattle.std.proofs.lemmas.Bool.{and_parts, and_from, or_cases, or_left, or_ri
 use Rattle.pp_terms.specs.format.Traffic.{Address, Record, Received, Quiet, Sent}
 use Rattle.pp_terms.specs.format.Options.{Options}
 use Rattle.pp_terms.specs.format.Descriptor.{Descriptor}
-use Rattle.pp_traffic.specs.Past.{read, comes_from, goes_to, is_number, some_since}
+use Rattle.pp_traffic.specs.Past.{read, comes_from, goes_to, is_number, is_at, some_since}
 use Rattle.pp_traffic.specs.Life.{Life, fits, begins_as, begins_fitting, greets, answers}
 use Rattle.pp_traffic.specs.Places.{StandsFrom, StandsAt}
-use Rattle.pp_traffic.specs.Plain.{greets_once, first_since, IsPlainAnswer, IsPlainDial, IsPlainNow}
+use Rattle.pp_traffic.specs.Plain.{greets_once, first_since, IsPlainAnswer, IsPlainDial, IsPlainNow, IsPlainUpTo}
 use Rattle.pp_traffic.proofs.Standing.{found_at, found_since}
 use Rattle.pp_audit.specs.Parts.{first_shake}
-use Rattle.pp_audit.specs.PlainTests.{is_plain}
-use Rattle.pp_audit.specs.Channels.{answered_at, dialled_at, opened_by, replied_by, passes_reply, passes_replies, passes_opening, passes_openings, SearchFindsAll}
+use Rattle.pp_audit.specs.PlainTests.{is_plain, is_plain_newest}
+use Rattle.pp_audit.specs.Channels.{answered_at, dialled_at, opened_by, replied_by, passes_reply, passes_replies, passes_opening, passes_openings, SearchFindsAll, NewestFindsAll}
 use Rattle.pp_audit.proofs.Shakes.{begins_as_shake, begins_fitting_shake}
 use Rattle.pp_audit.proofs.PlainParts.{plain_is_tested}
 use Rattle.pp_audit.proofs.Addresses.{same_is}
@@ -112,23 +112,25 @@ stands_first which test place (r ∷ past) e = by (some_since which place past) 
         or_left (leb place (length past) && test r) (some_since test place past)
         (and_from (leb place (length past)) (test r) (and_parts (leb place (length past)) (which r) a.0).0 a.1)
 
-tried_answer : (test : Life → Bool) (d : Descriptor) (past : List Record) (life : Life) → life.is_dialled ≡ false → IsPlainAnswer d life past
+tried_answer : (test : Life → Bool) (d : Descriptor) (past : List Record) (life : Life) → life.is_dialled ≡ false
+    → is_at (greets_once d life) life.opening past ≡ true → some_since (answers d life) life.opening past ≡ true
     → passes_openings test d past past ≡ true → test life ≡ true
-tried_answer test d past life answered is e =
-    let o = found_at (greets_once d life) life.opening past is.opened in
+tried_answer test d past life answered opened replied e =
+    let o = found_at (greets_once d life) life.opening past opened in
     let hello = greets_of d life o.here (and_parts (greets d life o.here) _ o.passes).0 in
-    let s = found_since (answers d life) life.opening past (stands_first (goes_to life.address) (answers d life) life.opening past is.replied) in
+    let s = found_since (answers d life) life.opening past replied in
     let reply = answers_of d life s.here s.passes in
     ap (λ (b : Bool). test (record { address = life.address; local = life.local; remote = life.remote; is_dialled = b; opening = life.opening })) answered
     ∙ tried test d past (answered_at life.address life.remote life.opening) life.local (greets_once d life) (answers d life) life.opening life.opening e o
     (opened_answered d life.address life.remote life.opening o.here hello.0 hello.1) s reply.1
 
-tried_dial : (test : Life → Bool) (d : Descriptor) (past : List Record) (life : Life) → life.is_dialled ≡ true → IsPlainDial d life past past
+tried_dial : (test : Life → Bool) (d : Descriptor) (past : List Record) (life : Life) → life.is_dialled ≡ true
+    → is_at (answers d life) life.opening past ≡ true → some_since (greets d life) 0 past ≡ true
     → passes_openings test d past past ≡ true → test life ≡ true
-tried_dial test d past life dialled is e =
-    let o = found_at (answers d life) life.opening past is.opened in
+tried_dial test d past life dialled opened replied e =
+    let o = found_at (answers d life) life.opening past opened in
     let hello = answers_of d life o.here o.passes in
-    let s = found_since (greets d life) 0 past (stands_first (comes_from life.address) (greets d life) 0 past is.replied) in
+    let s = found_since (greets d life) 0 past replied in
     let reply = greets_of d life s.here s.passes in
     ap (λ (b : Bool). test (record { address = life.address; local = life.local; remote = life.remote; is_dialled = b; opening = life.opening })) dialled
     ∙ tried test d past (dialled_at life.address life.local life.opening) life.remote (answers d life) (greets d life) life.opening 0 e o
@@ -136,8 +138,27 @@ tried_dial test d past life dialled is e =
 
 tried_plain : (test : Life → Bool) (d : Descriptor) (past : List Record) (life : Life) → IsPlainNow d life past → passes_openings test d past past ≡ true → test life ≡ true
 tried_plain test d past life plain e = ⊎_elim
-    (λ dialled. tried_dial test d past life dialled (MatchBool-at_true (IsPlainDial d life past past) (IsPlainAnswer d life past) dialled plain.begins) e)
-    (λ answered. tried_answer test d past life answered (MatchBool-at_false (IsPlainDial d life past past) (IsPlainAnswer d life past) answered plain.begins) e)
+    (λ dialled.
+    let is = MatchBool-at_true (IsPlainDial d life past past) (IsPlainAnswer d life past) dialled plain.begins in
+    tried_dial test d past life dialled is.opened (stands_first (comes_from life.address) (greets d life) 0 past is.replied) e)
+    (λ answered.
+    let is = MatchBool-at_false (IsPlainDial d life past past) (IsPlainAnswer d life past) answered plain.begins in
+    tried_answer test d past life answered is.opened (stands_first (goes_to life.address) (answers d life) life.opening past is.replied) e)
+    (cases_Bool life.is_dialled)
+
+-- and one that is plain up to the newest record
+tried_newest : (test : Life → Bool) (d : Descriptor) (r : Record) (before : List Record) (life : Life) → IsPlainUpTo d life before r
+    → passes_openings test d (r ∷ before) (r ∷ before) ≡ true → test life ≡ true
+tried_newest test d r before life plain e = ⊎_elim
+    (λ dialled.
+    let is = MatchBool-at_true (IsPlainDial d life (r ∷ before) before) (IsPlainAnswer d life before) dialled plain.begins in
+    tried_dial test d (r ∷ before) life dialled (or_right (eqb life.opening (length before) && answers d life r) (is_at (answers d life) life.opening before) is.opened)
+    (stands_first (comes_from life.address) (greets d life) 0 (r ∷ before) is.replied) e)
+    (λ answered.
+    let is = MatchBool-at_false (IsPlainDial d life (r ∷ before) before) (IsPlainAnswer d life before) answered plain.begins in
+    tried_answer test d (r ∷ before) life answered (or_right (eqb life.opening (length before) && greets_once d life r) (is_at (greets_once d life) life.opening before) is.opened)
+    (or_right (leb life.opening (length before) && answers d life r) (some_since (answers d life) life.opening before)
+    (stands_first (goes_to life.address) (answers d life) life.opening before is.replied)) e)
     (cases_Bool life.is_dialled)
 
 -- ---- where all pass, the search says so
@@ -164,13 +185,28 @@ pub search_finds_all : SearchFindsAll
 search_finds_all test d past = (
   λ e life plain.
       ⊎_elim
-      (λ other. absurd (both_ways (not (is_plain d life past)) (not_from_true (is_plain d life past) ((plain_is_tested d life past).1 plain)) other))
+      (λ other. absurd (both_ways (not (is_plain d life past)) (not_from_true (is_plain d life past) ((plain_is_tested d life past past).1 plain)) other))
       (λ passes. passes)
       (or_cases (not (is_plain d life past)) (test life) (tried_plain (λ l. not (is_plain d l past) || test l) d past life plain e)),
   λ all.
       openings_pass (λ l. not (is_plain d l past) || test l) d past
       (λ life. ⊎_elim
-      (λ plain. or_right (not (is_plain d life past)) (test life) (all life ((plain_is_tested d life past).0 plain)))
+      (λ plain. or_right (not (is_plain d life past)) (test life) (all life ((plain_is_tested d life past past).0 plain)))
       (λ other. or_left (not (is_plain d life past)) (test life) (not_from_false (is_plain d life past) other))
       (cases_Bool (is_plain d life past))) past,
+)
+
+pub newest_finds_all : NewestFindsAll
+newest_finds_all test d r before = (
+  λ e life plain.
+      ⊎_elim
+      (λ other. absurd (both_ways (not (is_plain_newest d life (r ∷ before))) (not_from_true (is_plain_newest d life (r ∷ before)) ((plain_is_tested d life (r ∷ before) before).1 plain)) other))
+      (λ passes. passes)
+      (or_cases (not (is_plain_newest d life (r ∷ before))) (test life) (tried_newest (λ l. not (is_plain_newest d l (r ∷ before)) || test l) d r before life plain e)),
+  λ all.
+      openings_pass (λ l. not (is_plain_newest d l (r ∷ before)) || test l) d (r ∷ before)
+      (λ life. ⊎_elim
+      (λ plain. or_right (not (is_plain_newest d life (r ∷ before))) (test life) (all life ((plain_is_tested d life (r ∷ before) before).0 plain)))
+      (λ other. or_left (not (is_plain_newest d life (r ∷ before))) (test life) (not_from_false (is_plain_newest d life (r ∷ before)) other))
+      (cases_Bool (is_plain_newest d life (r ∷ before)))) (r ∷ before),
 )

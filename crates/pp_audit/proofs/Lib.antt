@@ -33,3 +33,10 @@ pub mod ReadStandings
 pub mod HashSpans
 pub mod FarChunks
 pub mod Plannings
+pub mod Claimings
+pub mod ClaimedNodes
+pub mod Provings
+pub mod Contradicting
+pub mod Storings
+pub mod LongHashes
+pub mod StoredTests

@@ -1,7 +1,7 @@
 -- A recorded list, one entry more.
-use Rattle.std.proofs.Common.{◌≡◌, ℕ, ◌+◌, ◌<◌, ◌≤◌, leb, Bool, ◌&&◌, ◌||◌, List, [], ◌∷◌, length, get_or, take, map, reverse, refl, sym, ◌∙◌, ap, arith, add-one}
+use Rattle.std.proofs.Common.{◌≡◌, ℕ, ◌+◌, ◌-◌, ◌<◌, ◌≤◌, leb, Bool, ◌&&◌, ◌||◌, List, [], ◌∷◌, length, get_or, take, map, reverse, refl, sym, ◌∙◌, ap, arith, add-one}
 use Rattle.std.proofs.Math.Seq.{take-suc}
-use Rattle.std.proofs.lemmas.List.{reverse-append, map-append, length-reverse, length-map, length-take, take_all}
+use Rattle.std.proofs.lemmas.List.{get_or_default, reverse-append, map-append, length-reverse, length-map, length-take, take_all}
 use Rattle.pp_terms.specs.format.Traffic.{Record}
 use Rattle.pp_traffic.specs.Past.{some_since}
 use Rattle.pp_audit.specs.declared.entry.Entry.{Entry}
@@ -34,3 +34,17 @@ since_more test from xs i x found lt is so_far =
 
 pub length_past : (xs : List Entry) → length (past xs) ≡ length xs
 length_past xs = length-reverse (map record_of xs) ∙ length-map xs record_of
+
+-- the newest entry, and those before it
+newest_first : (xs : List Entry) (x : Entry) → 0 < length xs → x ≡ get_or xs (length xs - 1) x → past xs ≡ record_of x ∷ first (length xs - 1) xs
+newest_first xs x some is =
+    sym (first_all xs (length xs - 1 + 1) (omega arith)) ∙ one_more xs (length xs - 1) x (omega arith) is
+
+pub entry_at : (xs : List Entry) (i : ℕ) → i < length xs → (x : Entry) × (x ≡ get_or xs i x)
+entry_at [] i lt = absurd (omega arith)
+entry_at (y ∷ ys) i lt = (get_or (y ∷ ys) i y, get_or_default (y ∷ ys) i y (get_or (y ∷ ys) i y) lt)
+
+pub newest_split : (xs : List Entry) → 0 < length xs → (x : Entry) × (past xs ≡ record_of x ∷ first (length xs - 1) xs)
+newest_split xs some =
+    let x = entry_at xs (length xs - 1) (omega (arith, some)) in
+    (x.0, newest_first xs x.0 some x.1)

@@ -57,14 +57,14 @@ from_on d window past i front life is =
 
 -- ---- numbers, and sources
 
-below_found : (test : ℕ → Bool) (n : ℕ) → some_below test n ≡ true → (k : ℕ) × (k < n) × (test k ≡ true)
+pub below_found : (test : ℕ → Bool) (n : ℕ) → some_below test n ≡ true → (k : ℕ) × (k < n) × (test k ≡ true)
 below_found test zero e = absurd cc
 below_found test (suc n) e = ⊎_elim
     (λ here. (n, omega arith, here))
     (λ before. let f = below_found test n before in (f.0, omega (arith, f.1), f.2))
     (or_cases (test n) (some_below test n) e)
 
-found_below : (test : ℕ → Bool) (n k : ℕ) → k < n → test k ≡ true → some_below test n ≡ true
+pub found_below : (test : ℕ → Bool) (n k : ℕ) → k < n → test k ≡ true → some_below test n ≡ true
 found_below test zero k lt e = absurd (omega arith)
 found_below test (suc n) k lt e = ⊎_elim
     (λ same. or_left (test n) (some_below test n) (ap (λ (m : ℕ). test m) (sym same) ∙ e))

@@ -6,9 +6,9 @@ use Rattle.pp_terms.specs.format.Traffic.{Address, Record, Received, Quiet, Sent
 use Rattle.pp_terms.specs.format.Descriptor.{Descriptor}
 use Rattle.pp_traffic.specs.Past.{read}
 use Rattle.pp_traffic.specs.Life.{Life}
-use Rattle.pp_traffic.specs.Plain.{IsPlainNow}
+use Rattle.pp_traffic.specs.Plain.{IsPlainNow, IsPlainUpTo}
 use Rattle.pp_audit.specs.Parts.{first_shake}
-use Rattle.pp_audit.specs.PlainTests.{is_plain}
+use Rattle.pp_audit.specs.PlainTests.{is_plain, is_plain_newest}
 
 -- the channel that a handshake opens at a place, before its reply: it came, or was sent
 abbrev pub answered_at : Address → ℕ → ℕ → Life
@@ -57,3 +57,9 @@ each_plain test d past = passes_openings (λ life. not (is_plain d life past) ||
 abbrev pub SearchFindsAll : Type 0
 SearchFindsAll = (test : Life → Bool) (d : Descriptor) (past : List Record)
     → (each_plain test d past ≡ true) ↔ ((life : Life) → IsPlainNow d life past → test life ≡ true)
+
+-- And where each channel that is plain up to the newest record is to pass it, likewise.
+abbrev pub NewestFindsAll : Type 0
+NewestFindsAll = (test : Life → Bool) (d : Descriptor) (r : Record) (before : List Record)
+    → (passes_openings (λ life. not (is_plain_newest d life (r ∷ before)) || test life) d (r ∷ before) (r ∷ before) ≡ true)
+    ↔ ((life : Life) → IsPlainUpTo d life before r → test life ≡ true)

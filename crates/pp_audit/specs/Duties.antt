@@ -11,9 +11,16 @@ use Rattle.pp_audit.specs.Asks.{may_be_served}
 use Rattle.pp_audit.specs.Debts.{leaves_few}
 use Rattle.pp_audit.specs.declared.debts.Debt.TheVariants as debts
 use Rattle.pp_audit.specs.Offers.{may_be_asked, asks_offered}
-use Rattle.pp_audit.specs.PlainTests.{is_plain}
+use Rattle.pp_audit.specs.PlainTests.{is_plain, is_plain_newest}
+use Rattle.pp_audit.specs.Storings.{stores_newest}
+use Rattle.pp_tree.specs.Book.{entry}
 use Rattle.pp_audit.specs.declared.duties.Duty.{Duty}
 use Rattle.pp_audit.specs.declared.duties.Duty.TheVariants as duties
+
+-- a duty is owed to a plain channel; where it is of the newest record, to one that is plain up to it
+abbrev pub is_due : Duty → Descriptor → List Record → Life → Bool
+is_due (duties.Stores book held) d past life = is_plain_newest d life past
+is_due _ d past life = is_plain d life past
 
 abbrev pub duty_of : Duty → Descriptor → List Record → Life → Bool
 duty_of duties.KeepsUp d past life = wrote_lately d life (now past) past
@@ -21,7 +28,8 @@ duty_of (duties.Serves refusals stood) d past life = not (may_be_served d past l
 duty_of (duties.Tells stood) d past life =
     not (is_heard d life past) || (leaves_few 0 debts.Untold stood.now d past life || nat_le fewest_new (new_count d life past))
 duty_of (duties.Asks held) d past life = not (may_be_asked d past life) || asks_offered held.now d past life
+duty_of (duties.Stores book held) d past life = stores_newest d (entry book.now) held.now past life
 
--- a plain channel passes the test of a duty
+-- a channel passes the test of a duty that it is owed
 abbrev pub is_done : Duty → Descriptor → List Record → Life → Bool
-is_done duty d past life = not (is_plain d life past) || duty_of duty d past life
+is_done duty d past life = not (is_due duty d past life) || duty_of duty d past life

@@ -24,3 +24,9 @@ pub mod KeptTurns
 pub mod ReadStandings
 pub mod Plans
 pub mod Plannings
+pub mod Claims
+pub mod Provings
+pub mod Contradictions
+pub mod Storings
+pub mod Digests
+pub mod Stored

@@ -4,7 +4,7 @@ ghost use Rattle.std.specs.Prelude.{◌≡◌, option_map};
 ghost use Rattle.pp_audit.specs.Entries.{past, life_of, record_of};
 ghost use Rattle.pp_outside.specs.Outside.{address_of};
 ghost use Rattle.pp_audit.specs.Channels as terms;
-ghost use Rattle.pp_audit.specs.Duties.{duty_of, is_done};
+ghost use Rattle.pp_audit.specs.Duties.{is_done};
 
 use crate::duties::{Duty, is_done};
 use crate::entry::{Entry, Life, bytes_of};
@@ -120,13 +120,13 @@ fn passes_opening<'d, 'm>(
     }
 }
 
-/// Whether it is so of each plain channel.
+/// Whether it is so of each channel to which the duty is owed.
 pub(crate) fn each_plain<'d, 'm>(
     duty: Duty<'d>,
     descriptor: &Descriptor,
     entries: &'m [Entry<'m>],
 ) -> bool
-    ensures { result ≡ terms.each_plain (duty_of duty.entry descriptor.now (past entries.now)) descriptor.now (past entries.now) }
+    ensures { result ≡ terms.passes_openings (is_done duty.entry descriptor.now (past entries.now)) descriptor.now (past entries.now) (past entries.now) }
 {
     let mut all = true;
     for (place, entry) in entries.iter().enumerate() {

@@ -8,17 +8,18 @@ ghost use Rattle.pp_audit.specs.Asks.{may_be_served};
 ghost use Rattle.pp_audit.specs.Debts as terms;
 ghost use Rattle.pp_audit.specs.Offers.{may_be_asked, asks_offered};
 ghost use Rattle.pp_audit.specs.declared.debts.Debt.TheVariants as debts;
-ghost use Rattle.pp_audit.specs.Duties.{duty_of, is_done};
+ghost use Rattle.pp_audit.specs.Duties.{is_due, duty_of, is_done};
 
 use crate::asking::is_heard;
 use crate::asks::may_be_served;
 use crate::debts::{Debt, leaves_few};
 use crate::entry::{Entry, Life};
 use crate::offers::{asks_offered, may_be_asked};
-use crate::plain::is_plain;
+use crate::plain::{is_plain, is_plain_newest};
 use crate::silence::keeps_up;
+use crate::storing::stores_newest;
 use crate::telling::tells_many;
-use pp_tree::Descriptor;
+use pp_tree::{Book, Descriptor};
 
 /// What is asked of a channel.
 #[derive(Clone, Copy)]
@@ -32,6 +33,8 @@ pub(crate) enum Duty<'a> {
     Tells(&'a [bool]),
     /// Where it may be asked, each chunk that it offers was asked for, or is held. Which chunks are.
     Asks(&'a [bool]),
+    /// Each chunk that the newest datagram brings and that claims prove is held, or contradicts the book. Which chunks are held.
+    Stores(&'a Book, &'a [bool]),
 }
 
 // Whether at most so many chunks are owed, where the channel may be served.
@@ -81,10 +84,28 @@ fn does<'d, 'm>(
         Duty::Serves(refusals, stood) => serves(refusals, stood, descriptor, life, entries),
         Duty::Tells(stood) => tells(stood, descriptor, life, entries),
         Duty::Asks(held) => asks(held, descriptor, life, entries),
+        Duty::Stores(book, held) => stores_newest(descriptor, book, held, life, entries),
     }
 }
 
-/// Whether it is so of the channel, where that is plain.
+// Whether the duty is owed to the channel.
+fn is_due<'d, 'm>(
+    duty: Duty<'d>,
+    descriptor: &Descriptor,
+    life: Life,
+    entries: &'m [Entry<'m>],
+) -> bool
+    ensures { result ≡ is_due duty.entry descriptor.now (past entries.now) (life_of life) }
+{
+    match duty {
+        Duty::Stores(_, _) => is_plain_newest(descriptor, life, entries),
+        Duty::KeepsUp | Duty::Serves(_, _) | Duty::Tells(_) | Duty::Asks(_) => {
+            is_plain(descriptor, life, entries)
+        }
+    }
+}
+
+/// Whether it is so of the channel, where it is owed to that.
 pub(crate) fn is_done<'d, 'm>(
     duty: Duty<'d>,
     descriptor: &Descriptor,
@@ -93,5 +114,5 @@ pub(crate) fn is_done<'d, 'm>(
 ) -> bool
     ensures { result ≡ is_done duty.entry descriptor.now (past entries.now) (life_of life) }
 {
-    !is_plain(descriptor, life, entries) || does(duty, descriptor, life, entries)
+    !is_due(duty, descriptor, life, entries) || does(duty, descriptor, life, entries)
 }

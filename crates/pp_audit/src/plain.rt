@@ -158,23 +158,65 @@ fn is_answer<'m>(descriptor: &Descriptor, life: Life, entries: &'m [Entry<'m>]) 
 }
 
 // Whether this peer opened, and the first datagram from the peer's address is the reply.
-fn is_dial<'m>(descriptor: &Descriptor, life: Life, entries: &'m [Entry<'m>]) -> bool
-    ensures { result ≡ tests.is_dial descriptor.now (life_of life) (past entries.now) }
+fn is_dial<'m>(
+    descriptor: &Descriptor,
+    life: Life,
+    reach: &'m [Entry<'m>],
+    entries: &'m [Entry<'m>],
+) -> bool
+    ensures { result ≡ tests.is_dial descriptor.now (life_of life) (past reach.now) (past entries.now) }
 {
     is_at(Kind::Answers, descriptor, life, life.opening, entries)
-        && first_since(Kind::ComesFrom, Kind::Greets, descriptor, life, 0, entries)
+        && first_since(Kind::ComesFrom, Kind::Greets, descriptor, life, 0, reach)
 }
 
 // Whether the channel began as one of the two.
-fn begins_plain<'m>(descriptor: &Descriptor, life: Life, entries: &'m [Entry<'m>]) -> bool
-    ensures { result ≡ (if life.is_dialled then tests.is_dial descriptor.now (life_of life) (past entries.now)
+fn begins_plain<'m>(
+    descriptor: &Descriptor,
+    life: Life,
+    reach: &'m [Entry<'m>],
+    entries: &'m [Entry<'m>],
+) -> bool
+    ensures { result ≡ (if life.is_dialled then tests.is_dial descriptor.now (life_of life) (past reach.now) (past entries.now)
         else tests.is_answer descriptor.now (life_of life) (past entries.now)) }
 {
     if life.is_dialled {
-        is_dial(descriptor, life, entries)
+        is_dial(descriptor, life, reach, entries)
     } else {
         is_answer(descriptor, life, entries)
     }
+}
+
+/// Whether the channel is plain at the end of the entries, where a reply is looked for as far as given.
+pub(crate) fn is_plain_by<'m>(
+    descriptor: &Descriptor,
+    life: Life,
+    reach: &'m [Entry<'m>],
+    entries: &'m [Entry<'m>],
+) -> bool
+    ensures { result ≡ tests.is_plain_by descriptor.now (life_of life) (past reach.now) (past entries.now) }
+{
+    life.local > 0
+        && life.remote > 0
+        && !some_until(Kind::Concerns, descriptor, life, life.opening, entries)
+        && begins_plain(descriptor, life, reach, entries)
+        && !some_since(Kind::ClosesOn, descriptor, life, life.opening, entries)
+        && is_timely(descriptor, life, entries)
+}
+
+/// Whether the channel is plain up to the newest entry.
+pub(crate) fn is_plain_newest<'m>(
+    descriptor: &Descriptor,
+    life: Life,
+    entries: &'m [Entry<'m>],
+) -> bool
+    ensures { result ≡ tests.is_plain_newest descriptor.now (life_of life) (past entries.now) }
+{
+    let count = entries.len();
+    if count == 0 {
+        return false;
+    }
+    is_plain_by(descriptor, life, entries, &entries[..count - 1])
 }
 
 /// Whether the channel is plain at the end of the entries: both sides opened it afresh, by one handshake each, and neither
@@ -183,10 +225,5 @@ pub fn is_plain<'m>(descriptor: &Descriptor, life: Life, entries: &'m [Entry<'m>
     ensures test { result ≡ tests.is_plain descriptor.now (life_of life) (past entries.now) }
     ensures exact { IsTrue result ↔ plain.IsPlainNow descriptor.now (life_of life) (past entries.now) }
 {
-    life.local > 0
-        && life.remote > 0
-        && !some_until(Kind::Concerns, descriptor, life, life.opening, entries)
-        && begins_plain(descriptor, life, entries)
-        && !some_since(Kind::ClosesOn, descriptor, life, life.opening, entries)
-        && is_timely(descriptor, life, entries)
+    is_plain_by(descriptor, life, entries, entries)
 }

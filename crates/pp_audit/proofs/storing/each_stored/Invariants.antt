@@ -1,0 +1,20 @@
+use Rattle.std.proofs.Common.{◌≡◌, ◌≤◌, ◌-◌, [], length}
+use Rattle.pp_tree.specs.Book.{entry}
+use Rattle.pp_audit.specs.Entries.{past, life_of}
+use Rattle.pp_audit.specs.Parts.{all, rest}
+use Rattle.pp_audit.specs.Storings.{is_stored, each_stored, known_behind}
+use Rattle.pp_audit.proofs.Sendings.{IsOn}
+use Rattle.pp_audit.proofs.storing.each_stored.Given as goal
+
+abbrev pub invariant-messages : goal.invariant-messages
+invariant-messages l = record {
+  within : l.at ≤ length l.bytes;
+  few : l.count ≤ l.at;
+  on : IsOn (λ front part.
+      each_stored (λ f m. is_stored l.descriptor (entry l.book) l.held (known_behind l.descriptor (life_of l.life) (past l.before) f) m) front part
+      ≡ each_stored (λ f m. is_stored l.descriptor (entry l.book) l.held (known_behind l.descriptor (life_of l.life) (past l.before) f) m) [] (all l.descriptor l.bytes))
+      (all l.descriptor l.bytes) l.count (rest l.descriptor l.bytes l.at);
+}
+
+abbrev pub decreases-messages : goal.decreases-messages
+decreases-messages l = length l.bytes - l.at
