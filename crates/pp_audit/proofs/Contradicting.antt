@@ -1,6 +1,6 @@
 -- A book contradicts what is met exactly where it does at one of three nodes of a layer.
-use Rattle.std.proofs.Common.{◌≡◌, ◌↔◌, ◌⊎◌, inl, inr, ⊎_elim, ℕ, ◌+◌, ◌-◌, ◌/◌, ◌^◌, ◌<◌, ◌≤◌, eqb, leb, Bool, true, false, cond, not, ◌&&◌, ◌||◌, Option, Some, None, List, refl, sym, ◌∙◌, ap, subst, arith}
-use Rattle.std.specs.Prelude.{nat_eq, option_and_then}
+use Rattle.std.proofs.Common.{◌≡◌, ◌⊎◌, inl, inr, ⊎_elim, ℕ, ◌-◌, ◌^◌, ◌<◌, ◌≤◌, eqb, leb, Bool, true, false, cond, ◌&&◌, ◌||◌, Option, Some, None, List, refl, sym, ◌∙◌, ap, arith}
+use Rattle.std.specs.Prelude.{nat_eq}
 use Rattle.std.specs.Cmp.Lexicographic.{pointwise}
 use Rattle.std.proofs.lemmas.Bool.{and_parts, or_cases, or_left, or_right, cases_Bool, both_ways, not-true, not_from_false, eqb-true, leb-true}
 use Rattle.std.proofs.lemmas.Slice.Eq.{bytes_eq-Decides}
@@ -8,13 +8,12 @@ use Rattle.sha2.specs.Sha256.{sha256}
 use Rattle.pp_terms.specs.format.Descriptor.{Descriptor, chunks_of, height_of}
 use Rattle.pp_terms.specs.tree.Book.{LookUp}
 use Rattle.pp_terms.specs.tree.Claims.{or_else, met_at_peaks, met_above, met, Contradicts}
-use Rattle.pp_terms.specs.tree.Proves.{climbed, filled, last_layer, peak_offset}
+use Rattle.pp_terms.specs.tree.Proves.{climbed, last_layer, peak_offset}
 use Rattle.pp_terms.specs.tree.Tree.{is_full, is_peak}
 use Rattle.pp_terms.proofs.Peaks.{peak_found, above_is}
 use Rattle.pp_traffic.proofs.PlansInBooks.{full_low}
 use Rattle.pp_audit.specs.Provings.{climbed_last}
 use Rattle.pp_audit.specs.Contradictions.{way_offset, full_offset, root_offset, met_on_way, met_at_peak, met_to_root, met_by, differs, contradicts_at, contradicts_in, contradicts, ContradictsIsTested}
-use Rattle.pp_audit.specs.Search.{some_below}
 use Rattle.pp_audit.proofs.Searches.{below_found, found_below}
 
 -- ---- what is met

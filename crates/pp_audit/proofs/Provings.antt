@@ -1,22 +1,22 @@
 -- Whether what is claimed proves a chunk, part by part.
-use Rattle.std.proofs.Common.{◌≡◌, ◌↔◌, ⊎_elim, ℕ, zero, suc, ◌+◌, ◌-◌, ◌*◌, ◌/◌, ◌%◌, ◌^◌, ◌<◌, ◌≤◌, eqb, ltb, Bool, true, false, cond, not, ◌&&◌, ◌||◌, Option, Some, None, List, [], ◌∷◌, length, refl, sym, ◌∙◌, ap, subst, arith, add-one}
+use Rattle.std.proofs.Common.{◌≡◌, ⊎_elim, ℕ, zero, suc, ◌+◌, ◌-◌, ◌*◌, ◌/◌, ◌%◌, ◌^◌, ◌<◌, ◌≤◌, eqb, ltb, Bool, true, false, cond, ◌&&◌, ◌||◌, Option, Some, None, List, [], ◌∷◌, length, refl, sym, ◌∙◌, ap, arith, add-one}
 use Rattle.std.specs.Prelude.{is_some, is_none, option_and_then}
 use Rattle.std.specs.List.{list_all, find}
-use Rattle.std.proofs.lemmas.Bool.{and_parts, and_from, ltb-true, lt-ltb, eqb-true, eq-eqb, cases_lt, cases_Bool}
+use Rattle.std.proofs.lemmas.Bool.{and_parts, and_from, lt-ltb, eqb-true, eq-eqb, cases_lt, cases_Bool}
 use Rattle.std.proofs.lemmas.Nat.{pow_pos}
 use Rattle.std.proofs.Math.Pow.{pow_mono}
 use Rattle.std.proofs.lemmas.Slice.Eq.{bytes_eq-Decides}
 use Rattle.std.proofs.Math.Nat.{div-lt_iff_lt-mul}
 use Rattle.sha2.specs.Sha256.{sha256}
 use Rattle.pp_terms.specs.format.Descriptor.{Descriptor, chunks_of, height_of}
-use Rattle.pp_terms.specs.tree.Book.{LookUp, AreDigests}
+use Rattle.pp_terms.specs.tree.Book.{LookUp}
 use Rattle.pp_terms.specs.tree.Content.{chunk_length}
-use Rattle.pp_terms.specs.tree.Proves.{joined, climbed, filled, first_absent, last_layer, peak_offset, Proves}
+use Rattle.pp_terms.specs.tree.Proves.{joined, climbed, first_absent, last_layer, peak_offset}
 use Rattle.pp_terms.specs.tree.Bins.{sibling}
 use Rattle.pp_terms.specs.tree.Tree.{Node, above, peaks, is_peak}
 use Rattle.pp_terms.proofs.Peaks.{peak_found, peak_from, above_is}
 use Rattle.pp_audit.specs.Search.{some_below}
-use Rattle.pp_audit.specs.Provings.{is_same, has_peaks, leads_at, leads_up, looked_up, climbed_last, leads_to_root, proves, ProvesIsTested}
+use Rattle.pp_audit.specs.Provings.{is_same, has_peaks, leads_at, leads_up, climbed_last, leads_to_root, ProvesIsTested}
 use Rattle.pp_audit.proofs.Searches.{below_found, found_below}
 
 -- ---- a climb, layer by layer

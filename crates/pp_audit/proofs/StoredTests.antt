@@ -13,8 +13,7 @@ use Rattle.pp_terms.specs.tree.Proves.{Proves}
 use Rattle.pp_traffic.specs.Life.{Life, comes_on, closes}
 use Rattle.pp_traffic.specs.Past.{now, read}
 use Rattle.pp_traffic.specs.Plain.{IsPlainUpTo}
-use Rattle.pp_promises.specs.Answered.{is_of}
-use Rattle.pp_promises.specs.Stored.{claimed_before, met_before, BringsChunk, StoresProved, StoresAll}
+use Rattle.pp_promises.specs.Stored.{claimed_before, met_before, BringsChunk, StoresAll}
 use Rattle.pp_audit.specs.Channels.{passes_openings}
 use Rattle.pp_audit.specs.Contradictions.{contradicts}
 use Rattle.pp_audit.specs.Digests.{is_long, AllAreLong}
@@ -23,7 +22,6 @@ use Rattle.pp_audit.specs.Provings.{proves}
 use Rattle.pp_audit.specs.Stored.{stores_all}
 use Rattle.pp_audit.specs.Storings.{known_behind, is_stored, each_stored, stores_on, stores_newest}
 use Rattle.pp_audit.specs.declared.entry.Entry.{Entry}
-use Rattle.pp_audit.specs.Entries.{record_of}
 use Rattle.pp_audit.proofs.Pasts.{first, one_more, entry_at}
 use Rattle.pp_audit.proofs.ChannelSearch.{newest_finds_all}
 use Rattle.pp_audit.proofs.Claimings.{claimed_is}

@@ -1,5 +1,4 @@
-use Rattle.std.proofs.Common.{◌≡◌, List, [], take, sym, ◌∙◌, arith}
-use Rattle.pp_terms.specs.format.Messages.{Message}
+use Rattle.std.proofs.Common.{◌≡◌, [], take, sym, ◌∙◌, arith}
 use Rattle.pp_tree.specs.Book.{entry}
 use Rattle.pp_wire.specs.Views.{message_of}
 use Rattle.pp_audit.specs.Entries.{past, life_of}
