@@ -40,3 +40,4 @@ pub mod Contradicting
 pub mod Storings
 pub mod LongHashes
 pub mod StoredTests
+pub mod AckedTests

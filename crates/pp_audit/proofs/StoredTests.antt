@@ -31,7 +31,7 @@ use Rattle.pp_audit.proofs.Provings.{proves_is_tested}
 use Rattle.pp_audit.proofs.Storings.{one_of_each, each_of_one}
 
 -- what is known there, both ways
-known_is : (d : Descriptor) (life : Life) (r : Record) (before : List Record) (front : List Message) → claimed_before d life r before front ≡ known_behind d life before front
+pub known_is : (d : Descriptor) (life : Life) (r : Record) (before : List Record) (front : List Message) → claimed_before d life r before front ≡ known_behind d life before front
 known_is d life r before front = claimed_is d life (now (r ∷ before)) front before
 
 -- ---- one chunk

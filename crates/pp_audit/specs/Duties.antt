@@ -7,6 +7,7 @@ use Rattle.pp_traffic.specs.Life.{Life}
 use Rattle.pp_traffic.specs.Asking.{is_heard}
 use Rattle.pp_promises.specs.Answered.{wrote_lately}
 use Rattle.pp_promises.specs.Announced.{fewest_new, new_count}
+use Rattle.pp_audit.specs.Acknowledgements.{acknowledges}
 use Rattle.pp_audit.specs.Asks.{may_be_served}
 use Rattle.pp_audit.specs.Debts.{leaves_few}
 use Rattle.pp_audit.specs.declared.debts.Debt.TheVariants as debts
@@ -29,6 +30,7 @@ duty_of (duties.Tells stood) d past life =
     not (is_heard d life past) || (leaves_few 0 debts.Untold stood.now d past life || nat_le fewest_new (new_count d life past))
 duty_of (duties.Asks held) d past life = not (may_be_asked d past life) || asks_offered held.now d past life
 duty_of (duties.Stores book held) d past life = stores_newest d (entry book.now) held.now past life
+duty_of (duties.Acknowledges book) d past life = acknowledges d (entry book.now) past life
 
 -- a channel passes the test of a duty that it is owed
 abbrev pub is_done : Duty → Descriptor → List Record → Life → Bool

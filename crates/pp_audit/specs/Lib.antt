@@ -30,3 +30,4 @@ pub mod Contradictions
 pub mod Storings
 pub mod Digests
 pub mod Stored
+pub mod Acknowledgements

@@ -45,3 +45,4 @@ mark_of marks.Chokes d r = chokes d r
 mark_of marks.Requests d r = requests d r
 mark_of marks.Closes d r = is_closing d r
 mark_of (marks.AsksFor i) d r = asks_for d i r
+mark_of (marks.Brings i) d r = announced.came_in d i r

@@ -10,6 +10,7 @@ ghost use Rattle.pp_audit.specs.Offers.{may_be_asked, asks_offered};
 ghost use Rattle.pp_audit.specs.declared.debts.Debt.TheVariants as debts;
 ghost use Rattle.pp_audit.specs.Duties.{is_due, duty_of, is_done};
 
+use crate::acking::acknowledges;
 use crate::asking::is_heard;
 use crate::asks::may_be_served;
 use crate::debts::{Debt, leaves_few};
@@ -35,6 +36,9 @@ pub(crate) enum Duty<'a> {
     Asks(&'a [bool]),
     /// Each chunk that the newest datagram brings and that claims prove is held, or contradicts the book. Which chunks are held.
     Stores(&'a Book, &'a [bool]),
+    /// At the end of a quiet turn each chunk that came first in an earlier one, and that claims prove, is acknowledged, or
+    /// contradicts the book.
+    Acknowledges(&'a Book),
 }
 
 // Whether at most so many chunks are owed, where the channel may be served.
@@ -85,6 +89,7 @@ fn does<'d, 'm>(
         Duty::Tells(stood) => tells(stood, descriptor, life, entries),
         Duty::Asks(held) => asks(held, descriptor, life, entries),
         Duty::Stores(book, held) => stores_newest(descriptor, book, held, life, entries),
+        Duty::Acknowledges(book) => acknowledges(descriptor, book, life, entries),
     }
 }
 
@@ -99,9 +104,11 @@ fn is_due<'d, 'm>(
 {
     match duty {
         Duty::Stores(_, _) => is_plain_newest(descriptor, life, entries),
-        Duty::KeepsUp | Duty::Serves(_, _) | Duty::Tells(_) | Duty::Asks(_) => {
-            is_plain(descriptor, life, entries)
-        }
+        Duty::KeepsUp
+        | Duty::Serves(_, _)
+        | Duty::Tells(_)
+        | Duty::Asks(_)
+        | Duty::Acknowledges(_) => is_plain(descriptor, life, entries),
     }
 }
 

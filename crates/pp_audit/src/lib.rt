@@ -2,6 +2,7 @@
 //! whatever decides them faster. Nothing here takes memory.
 #![tactic(auto)]
 
+mod acking;
 mod announced;
 mod answered;
 mod asked;
@@ -50,7 +51,7 @@ mod timing;
 mod turns;
 mod unread;
 
-pub use announced::tells_all;
+pub use announced::{acknowledges_all, tells_all};
 pub use answered::{chokes_none, keeps_up_but, lets_in_but};
 pub use asked::asks_but;
 pub use asking::{is_asked, is_choked, is_heard, is_told};

@@ -4,6 +4,7 @@ ghost use Rattle.std.specs.Prelude.{◌≡◌, ◌≤◌, length, count_by};
 ghost use Rattle.std.specs.List.{list_any};
 ghost use Rattle.pp_traffic.specs.Committed.{requests};
 ghost use Rattle.pp_traffic.specs.Turns.{is_closing};
+ghost use Rattle.pp_promises.specs.Announced.{came_in};
 ghost use Rattle.pp_promises.specs.Answered.{opens, chokes};
 ghost use Rattle.pp_promises.specs.Asked.{asks_for};
 ghost use Rattle.pp_audit.specs.Entries.{past, record_of};
@@ -28,6 +29,8 @@ pub(crate) enum Mark {
     Closes,
     /// With a REQUEST of a chunk.
     AsksFor(u64),
+    /// A chunk came with it.
+    Brings(u64),
 }
 
 fn opens<'m>(descriptor: &Descriptor, entry: &'m Entry<'m>) -> bool
@@ -82,6 +85,17 @@ fn asks_for<'m>(descriptor: &Descriptor, chunk: u64, entry: &'m Entry<'m>) -> bo
     }
 }
 
+fn brings<'m>(descriptor: &Descriptor, chunk: u64, entry: &'m Entry<'m>) -> bool
+    ensures { result ≡ came_in descriptor.now chunk (record_of entry.now) }
+{
+    match *entry {
+        Entry::Quiet { .. } | Entry::Sent { .. } => false,
+        Entry::Received { bytes, .. } => {
+            has_sort(Sort::DataOf(chunk), descriptor, bytes, first_place(bytes))
+        }
+    }
+}
+
 // Whether the entry is so.
 fn is_marked<'m>(mark: Mark, descriptor: &Descriptor, entry: &'m Entry<'m>) -> bool
     ensures { result ≡ mark_of mark descriptor.now (record_of entry.now) }
@@ -92,6 +106,7 @@ fn is_marked<'m>(mark: Mark, descriptor: &Descriptor, entry: &'m Entry<'m>) -> b
         Mark::Requests => requests(descriptor, entry),
         Mark::Closes => is_closing(descriptor, entry),
         Mark::AsksFor(chunk) => asks_for(descriptor, chunk, entry),
+        Mark::Brings(chunk) => brings(descriptor, chunk, entry),
     }
 }
 

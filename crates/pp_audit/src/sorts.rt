@@ -1,16 +1,16 @@
 //! Sorts of messages, and whether a datagram has one of a sort.
 
-ghost use Rattle.std.specs.Prelude.{◌≡◌, ◌≤◌, length};
+ghost use Rattle.std.specs.Prelude.{◌≡◌, ◌≤◌, length, take};
 ghost use Rattle.std.specs.List.{list_any};
 ghost use Rattle.pp_traffic.specs.Plain.{is_handshake};
 ghost use Rattle.pp_promises.specs.OwnSide.{has_in, names_in};
 ghost use Rattle.pp_promises.specs.Announced as announced;
 ghost use Rattle.pp_promises.specs.Answered.{is_choke};
 ghost use Rattle.pp_wire.specs.Views.{message_of};
-ghost use Rattle.pp_audit.specs.Parts.{rest};
+ghost use Rattle.pp_audit.specs.Parts.{all, rest};
 ghost use Rattle.pp_audit.specs.Sorts.{is_request, announces_in, sort_of};
 
-use crate::reading::{is_from, is_handshake, message_at};
+use crate::reading::{first_place, is_from, is_handshake, message_at};
 use crate::standing::within;
 use pp_options::Options;
 use pp_tree::Descriptor;
@@ -125,6 +125,32 @@ pub(crate) fn has_sort(sort: Sort, descriptor: &Descriptor, bytes: &[u8], start:
             return true;
         }
         at = next;
+    }
+    false
+}
+
+/// Whether one is among the first messages, so many.
+pub(crate) fn has_sort_in_front(
+    sort: Sort,
+    descriptor: &Descriptor,
+    bytes: &[u8],
+    count: usize,
+) -> bool
+    ensures { result ≡ list_any (sort_of sort) (take count (all descriptor.now bytes.now)) }
+{
+    let mut at = first_place(bytes);
+    let mut left = count;
+    'messages: while left > 0 {
+        match message_at(descriptor, bytes, at) {
+            Some((message, next)) => {
+                if is_sort(sort, &message) {
+                    return true;
+                }
+                at = next;
+                left -= 1;
+            }
+            None => return false,
+        }
     }
     false
 }
