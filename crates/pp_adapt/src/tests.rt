@@ -5,41 +5,76 @@ use pp_outside::{
     Address, Disk, DiskFault, Event, Link, LinkFault, Sink, SinkFault, Source, SourceFault,
 };
 use std::alloc::{AllocError, Global};
-use std::fs;
+use std::fs::{self, File};
 use std::io::{self, ErrorKind, Read};
 use std::net::{Net, UdpSocket};
 use std::os::unix::fs::symlink;
+use std::rt::Files;
 use std::test::Fail;
 
+// A disk over the file of that name, with nothing in it.
+fn emptied<R: Files<File = File> + AllocGlobal + Drop>(
+    rt: R,
+    name: &str,
+) -> Result<FileDisk<R>, Fail> {
+    fs::write(&rt, name, b"".as_slice())?;
+    let mut disk = FileDisk::new(rt);
+    disk.attach(name)?;
+    Ok(disk)
+}
+
+// Six bytes of a disk.
+fn six(disk: &mut impl Disk, place: u32) -> Result<[u8; 6], Fail> {
+    let mut into = [7; 6];
+    disk.read_at(u64::from(place), &mut into)?;
+    Ok(into)
+}
+
 #[test]
-fn keeps_a_store_in_a_locked_file(rt: HostRuntime) -> Result<(), Fail> {
-    let _ = fs::remove_dir_all(&rt, "stores");
-    fs::create_dir(&rt, "stores")?;
-    let mut disk = FileDisk::new(&rt);
-    assert_eq!(rt; disk.len(), Err(DiskFault));
-    disk.attach("stores/first")?;
+fn fills_gaps_with_zeros(rt: HostRuntime) -> Result<(), Fail> {
+    let mut disk = emptied(&rt, "gaps")?;
+    disk.write_at(64, b"abc")?;
+    assert_eq!(rt; six(&mut disk, 62)?, [0, 0, b'a', b'b', b'c', 0]);
+    assert_eq!(rt; six(&mut disk, 1 << 31)?, [0; 6]);
+    Ok(())
+}
+
+#[test]
+fn is_as_long_as_its_writes(rt: HostRuntime) -> Result<(), Fail> {
+    let mut disk = emptied(&rt, "lengths")?;
     assert_eq!(rt; disk.len()?, 0);
     disk.write_at(64, b"abc")?;
     disk.sync()?;
-    disk.sync()?;
     assert_eq!(rt; disk.len()?, 67);
-    let mut into = [7; 6];
-    disk.read_at(62, &mut into)?;
-    assert_eq!(rt; into, [0, 0, b'a', b'b', b'c', 0]);
-    disk.read_at(1 << 39, &mut into)?;
-    assert_eq!(rt; into, [0; 6]);
     disk.write_at(70, b"")?;
     assert_eq!(rt; disk.len()?, 70);
+    Ok(())
+}
+
+#[test]
+fn locks_its_file(rt: HostRuntime) -> Result<(), Fail> {
+    let _first = emptied(&rt, "locked")?;
     let mut second = FileDisk::new(&rt);
-    assert_eq!(rt; second.attach("stores/first"), Err(DiskFault));
+    assert_eq!(rt; second.attach("locked"), Err(DiskFault));
     assert_eq!(rt; (second.faults(), second.hard()), (1, 1));
-    assert_eq!(rt; second.read_at(0, &mut into), Err(DiskFault));
-    assert_eq!(rt; (second.faults(), second.hard()), (2, 1));
-    disk.attach("stores/other")?;
-    second.attach("stores/first")?;
-    assert_eq!(rt; second.len()?, 70);
+    Ok(())
+}
+
+#[test]
+fn lets_its_file_go(rt: HostRuntime) -> Result<(), Fail> {
+    let mut first = emptied(&rt, "let go")?;
+    first.attach("instead")?;
+    assert_eq!(rt; emptied(&rt, "let go")?.len()?, 0);
+    Ok(())
+}
+
+#[test]
+fn refuses_calls_without_a_file(rt: HostRuntime) -> Result<(), Fail> {
+    let mut disk = FileDisk::new(&rt);
+    assert_eq!(rt; disk.len(), Err(DiskFault));
     assert_eq!(rt; (disk.faults(), disk.hard()), (1, 1));
-    fs::remove_dir_all(&rt, "stores")?;
+    assert_eq!(rt; disk.read_at(0, &mut [0]), Err(DiskFault));
+    assert_eq!(rt; (disk.faults(), disk.hard()), (2, 1));
     Ok(())
 }
 

@@ -24,30 +24,67 @@ fn sealed<R: Files<File = File> + AllocGlobal + Drop>(
     })
 }
 
+// One byte of a disk.
+fn one(disk: &mut impl Disk, place: u32) -> Result<u8, DiskFault> {
+    let mut into = [0];
+    match disk.read_at(u64::from(place), &mut into) {
+        Ok(()) => Ok(into[0]),
+        Err(fault) => Err(fault),
+    }
+}
+
+// A disk over such a file of `abc`, of which a reading met a gathered write of byte 1.
+fn refused<R: Files<File = File> + AllocGlobal + Drop>(
+    rt: R,
+    name: &str,
+) -> Result<FileDisk<R>, Fail> {
+    fs::write(&rt, name, b"abc".as_slice())?;
+    let mut disk = sealed(rt, name)?;
+    disk.write_at(1, b"x")?;
+    match one(&mut disk, 1) {
+        Ok(_) => Err("read".into()),
+        Err(_) => Ok(disk),
+    }
+}
+
+#[test]
+fn a_reading_elsewhere_is_not_refused(rt: HostRuntime) -> Result<(), Fail> {
+    fs::write(&rt, "elsewhere", b"abc".as_slice())?;
+    let mut disk = sealed(&rt, "elsewhere")?;
+    disk.write_at(0, b"x")?;
+    assert_eq!(rt; one(&mut disk, 2), Ok(b'c'));
+    assert_eq!(rt; one(&mut disk, 0), Err(DiskFault));
+    assert_eq!(rt; one(&mut disk, 2), Ok(b'c'));
+    assert_eq!(rt; (disk.faults(), disk.hard()), (1, 0));
+    Ok(())
+}
+
 #[test]
 fn a_refused_gathered_write_is_final(rt: HostRuntime) -> Result<(), Fail> {
-    fs::write(&rt, "sealed", b"abc".as_slice())?;
-    let mut disk = sealed(&rt, "sealed")?;
-    let mut into = [0];
-    disk.write_at(0, b"x")?;
-    disk.read_at(2, &mut into)?;
-    assert_eq!(rt; &into, b"c");
-    disk.write_at(1, b"x")?;
-    assert_eq!(rt; disk.read_at(1, &mut into), Err(DiskFault));
-    assert_eq!(rt; (disk.faults(), disk.hard()), (1, 0));
+    let mut disk = refused(&rt, "final")?;
     assert_eq!(rt; disk.write_at(2, b"x"), Err(DiskFault));
     assert_eq!(rt; disk.sync(), Err(DiskFault));
     assert_eq!(rt; disk.len(), Err(DiskFault));
     assert_eq!(rt; (disk.faults(), disk.hard()), (4, 3));
-    assert_eq!(rt; disk.read_at(0, &mut into), Err(DiskFault));
-    disk.read_at(2, &mut into)?;
-    assert_eq!(rt; &into, b"c");
+    Ok(())
+}
+
+#[test]
+fn a_refused_gathered_write_is_not_done(rt: HostRuntime) -> Result<(), Fail> {
+    let mut disk = refused(&rt, "sealed")?;
+    assert_eq!(rt; one(&mut disk, 1), Err(DiskFault));
+    assert_eq!(rt; fs::read(&rt, "sealed")?.as_slice(), b"abc".as_slice());
+    Ok(())
+}
+
+#[test]
+fn an_attachment_begins_anew(rt: HostRuntime) -> Result<(), Fail> {
+    let mut disk = refused(&rt, "old")?;
     disk.attach("new")?;
     disk.write_at(0, b"x")?;
     disk.sync()?;
     assert_eq!(rt; disk.len()?, 1);
-    assert_eq!(rt; (disk.faults(), disk.hard()), (5, 3));
-    assert_eq!(rt; fs::read(&rt, "sealed")?.as_slice(), b"abc".as_slice());
+    assert_eq!(rt; (disk.faults(), disk.hard()), (1, 0));
     Ok(())
 }
 
