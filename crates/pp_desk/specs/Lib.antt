@@ -2,3 +2,4 @@ pub mod Steps
 pub mod Delivers
 pub mod Chunks
 pub mod Laws
+pub mod Stored

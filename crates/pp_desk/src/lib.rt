@@ -7,11 +7,13 @@ mod chunk;
 mod delivery;
 mod greeting;
 mod steps;
+mod stored;
 
 pub use chunk::{Service, deliver_chunk};
 pub use delivery::{Outgoing, deliver};
 pub use greeting::{close, greet};
 pub use steps::Delivered;
+pub use stored::CommittedChunks;
 
 /// What follows from a delivery for the link, the counts, the seat's story and what is read of the records. It does nothing.
 pub fn laws_of_deliveries()

@@ -7,9 +7,10 @@ ghost use Rattle.pp_desk.specs.Steps.{IsPlain};
 
 use super::*;
 use pp_draft::{ChunkReader, Delivery, Note, Receiver, Unread};
-use pp_outside::{Address, Call, Disk, Event, Link, LinkFault, MemoryLink, NullDisk};
+use pp_outside::{Address, Call, Disk, Event, Link, LinkFault, MemoryDisk, MemoryLink, NullDisk};
 use pp_ranges::ChunkRange;
 use pp_seat::Seat;
+use pp_store::Store;
 use pp_tree::{Book, Descriptor, Digest, Method, Node};
 use std::alloc::{AllocError, Global};
 use std::test::*;
@@ -385,5 +386,61 @@ fn a_close_is_a_handshake_from_channel_0(rt: HostRuntime) -> Result<(), AllocErr
     assert_eq!(rt; link.sent(), 1);
     let want = [0, 0, 0, 7, 0, 0, 0, 0, 0, 0xff];
     assert_eq!(rt; link.sent_bytes(0)[..], want[..]);
+    Ok(())
+}
+
+// The store of `abc`: its header, the chunk, zeros and an open gate.
+fn store_of_abc() -> [u8; 1153] {
+    let mut image = [0u8; 1153];
+    image[..8].copy_from_slice(b"PPSTORE2");
+    image[10] = 4;
+    image[19] = 3;
+    image[20..52].copy_from_slice(&ROOT);
+    image[64..67].copy_from_slice(b"abc");
+    image[1152] = 0x4f;
+    image
+}
+
+// The chunk of such a store, read as a datagram has it read.
+fn read_from(alloc: Global, image: &[u8]) -> Result<Option<Result<[u8; 3], Unread>>, Fail> {
+    let Ok(descriptor) = Descriptor::new(Digest::new(ROOT), 1024, 3, Method::Range32) else {
+        return Ok(None);
+    };
+    if descriptor.chunks() != 1 {
+        return Ok(None);
+    }
+    if descriptor.chunk_len(0) != 3 {
+        return Ok(None);
+    }
+    let mut disk = MemoryDisk::new(alloc, image)?;
+    let mut book = Book::empty(alloc);
+    book.prepare(alloc, &descriptor)?;
+    let Ok(store) = Store::open(alloc, &descriptor, &mut disk, &mut book) else {
+        return Ok(None);
+    };
+    let chunks = CommittedChunks {
+        store: &store,
+        book: &book,
+    };
+    let mut into = [0; 3];
+    match chunks.read(0, &mut into, &mut disk) {
+        Ok(()) => Ok(Some(Ok(into))),
+        Err(unread) => Ok(Some(Err(unread))),
+    }
+}
+
+#[test]
+fn reads_a_chunk_from_its_store(rt: HostRuntime) -> Result<(), Fail> {
+    let read = read_from(rt.alloc(), &store_of_abc())?;
+    assert_eq!(rt; read, Some(Ok(*b"abc")));
+    Ok(())
+}
+
+#[test]
+fn reads_no_changed_chunk(rt: HostRuntime) -> Result<(), Fail> {
+    let mut image = store_of_abc();
+    image[66] = b'd';
+    let read = read_from(rt.alloc(), &image)?;
+    assert_eq!(rt; read, Some(Err(Unread::Damaged)));
     Ok(())
 }
