@@ -1,6 +1,6 @@
 -- How a run ended, from how the command ended that its words spell.
 use Rattle.std.proofs.Common.{◌≡◌, ◌⊎◌, ℕ, List, codes, refl, sym, ◌∙◌, subst}
-use Rattle.pp_terms.specs.command.Commands.{Command, Import, Seed, Fetch, Check, Export, Replay, Rehearse}
+use Rattle.pp_terms.specs.command.Commands.{Command, Import, Seed, Fetch, Check, Export, Upgrade, Replay, Rehearse}
 use Rattle.pp_terms.specs.command.CommandLine.{Spells, IsImport, IsSeed, IsOnStore, IsOneOf, IsFirstWrong}
 use Rattle.pp_terms.specs.command.Stream.{SourceState, SinkState}
 use Rattle.pp_terms.specs.command.Usage as wrong
@@ -97,6 +97,7 @@ never (Check store descriptor) number old new one end =
 never (Fetch store descriptor listen turns order peers) number old new one end = end
 never (Export store descriptor) number old new one end =
     subst (λ (s : Status). ExportsIn s descriptor old new) (usage_only end.status (sym end.number ∙ one)) end.ends
+never (Upgrade store descriptor) number old new one end = end
 never Replay number old new one end = end
 never (Rehearse n) number old new one end = end
 

@@ -118,6 +118,7 @@ fn obey<D: Disk, L: Link, S: Source, K: Sink>(
         }
         // These are not built, so they are never asked for.
         Command::Fetch { .. } => unreachable!(),
+        Command::Upgrade { .. } => unreachable!(),
         Command::Replay => unreachable!(),
         Command::Rehearse { .. } => unreachable!(),
     }

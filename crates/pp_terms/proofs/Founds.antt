@@ -1,7 +1,7 @@
 -- What an opening finds in an image, and what the image holds.
 use Rattle.std.proofs.Common.{◌≡◌, ℕ, ◌<◌, ◌==◌, Bool, true, false, Option, Some, None, List, length, refl, sym, ◌∙◌, ap}
 use Rattle.std.specs.Prelude.{◌&&◌, is_some}
-use Rattle.std.proofs.lemmas.Bool.{and_parts}
+use Rattle.std.proofs.lemmas.Bool.{and_parts, and_from}
 use Rattle.sha2.specs.Sha256.{sha256}
 use Rattle.pp_terms.specs.tree.Content.{chunk_length}
 use Rattle.pp_terms.specs.tree.Book.{has_peaks}
@@ -25,15 +25,12 @@ held_known d image i held =
     let second = and_parts (has_peaks (known d image) (chunks_of d)) long first.0 in
     (second.0, matched_some (known d image 0 i) (sha256 bytes) first.1)
 
-both_true : (a b : Bool) → a ≡ true → b ≡ true → (a && b) ≡ true
-both_true a b x y = (λ i. x i && y i)
-
 -- a chunk that is open and held is found
 pub held_found : (d : Descriptor) (image : List ℕ) (i : ℕ) → is_open d image i ≡ true → holds d image i ≡ true → is_found d image i ≡ true
 held_found d image i opened held =
     let parts = held_known d image i held in
-    both_true (is_open d image i && has_peaks (known d image) (chunks_of d)) (is_some (known d image 0 i))
-    (both_true (is_open d image i) (has_peaks (known d image) (chunks_of d)) opened parts.0) parts.1
+    and_from (is_open d image i && has_peaks (known d image) (chunks_of d)) (is_some (known d image 0 i))
+    (and_from (is_open d image i) (has_peaks (known d image) (chunks_of d)) opened parts.0) parts.1
 
 -- a chunk that is found is open, and the leaf and all peaks are known
 pub found_parts : (d : Descriptor) (image : List ℕ) (i : ℕ) → is_found d image i ≡ true
@@ -51,7 +48,7 @@ found_held d image i within begins sound = by_gate (is_open d image i) refl
     by_gate : (b : Bool) → is_open d image i ≡ b → is_found d image i ≡ (is_open d image i && holds d image i)
     by_gate true opened =
         let held = sound.held begins i within opened in
-        held_found d image i opened held ∙ sym (both_true (is_open d image i) (holds d image i) opened held)
+        held_found d image i opened held ∙ sym (and_from (is_open d image i) (holds d image i) opened held)
     by_gate false closed =
         ap (λ (b : Bool). b && has_peaks (known d image) (chunks_of d) && is_some (known d image 0 i)) closed
         ∙ sym (ap (λ (b : Bool). b && holds d image i) closed)

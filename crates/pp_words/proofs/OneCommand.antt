@@ -10,10 +10,10 @@ use Rattle.pp_terms.specs.tree.Content.{IsChunkSize}
 use Rattle.pp_terms.specs.format.Descriptor.{Descriptor}
 use Rattle.pp_terms.specs.format.Traffic.{Address}
 use Rattle.pp_terms.specs.format.Addresses.{IsAddress}
-use Rattle.pp_terms.specs.command.Commands.{Order, Sequential, Rarest, order_text, Command, Import, Seed, Fetch, Check, Export, Replay, Rehearse}
+use Rattle.pp_terms.specs.command.Commands.{Order, Sequential, Rarest, order_text, Command, Import, Seed, Fetch, Check, Export, Upgrade, Replay, Rehearse}
 use Rattle.pp_terms.specs.command.Usage as wrong
 use Rattle.pp_terms.specs.command.Usage.{Usage, usage}
-use Rattle.pp_terms.specs.command.CommandLine.{IsDescriptorText, IsImport, IsSeed, IsFetch, IsOnStore, IsRehearse, Spells, Shape, import_shape, seed_shape, fetch_shape, check_shape, export_shape, replay_shape, rehearse_shape, commands, shape_of, named, IsFirstWrong}
+use Rattle.pp_terms.specs.command.CommandLine.{IsDescriptorText, IsImport, IsSeed, IsFetch, IsOnStore, IsRehearse, Spells, Shape, import_shape, seed_shape, fetch_shape, check_shape, export_shape, upgrade_shape, replay_shape, rehearse_shape, commands, shape_of, named, IsFirstWrong}
 use Rattle.pp_tree.proofs.Readings.{descriptor_same}
 use Rattle.pp_tree.proofs.Sizes.{chunk_size_range}
 use Rattle.pp_words.proofs.AddressParts.{address_same}
@@ -132,6 +132,13 @@ export_only words store descriptor one (Export store' descriptor') two =
     ap (λ s. Export s descriptor) a ∙ ap (λ x. Export store' x) b
 export_only words store descriptor one d two = absurd (true≢false (sym (name_is words (codes "export") _ d one.spelled two refl)))
 
+upgrade_only : (words : List (List ℕ)) (store : List ℕ) (descriptor : Descriptor) → IsOnStore (codes "upgrade") words store descriptor
+    → (d : Command) → Spells words d → Upgrade store descriptor ≡ d
+upgrade_only words store descriptor one (Upgrade store' descriptor') two =
+    let (a, b) = on_store_same (codes "upgrade") words store store' descriptor descriptor' one two in
+    ap (λ s. Upgrade s descriptor) a ∙ ap (λ x. Upgrade store' x) b
+upgrade_only words store descriptor one d two = absurd (true≢false (sym (name_is words (codes "upgrade") _ d one.spelled two refl)))
+
 replay_only : (words : List (List ℕ)) → words ≡ codes "replay" ∷ [] → (d : Command) → Spells words d → Replay ≡ d
 replay_only words one Replay two = refl
 replay_only words one d two = absurd (true≢false (sym (name_is words (codes "replay") _ d one two refl)))
@@ -148,6 +155,7 @@ one_command words (Seed store descriptor listen turns) d one two = seed_only wor
 one_command words (Fetch store descriptor listen turns order peers) d one two = fetch_only words store descriptor listen turns order peers one d two
 one_command words (Check store descriptor) d one two = check_only words store descriptor one d two
 one_command words (Export store descriptor) d one two = export_only words store descriptor one d two
+one_command words (Upgrade store descriptor) d one two = upgrade_only words store descriptor one d two
 one_command words Replay d one two = replay_only words one d two
 one_command words (Rehearse number) d one two = rehearse_only words number one d two
 
@@ -179,17 +187,21 @@ not_first text shape shapes never more =
     ap (λ b. cond b (Some shape) (named text shapes)) (other_name shape.name text never) ∙ more
 
 pub none_named : (text : List ℕ) → (text ≡ codes "import" → ⊥) → (text ≡ codes "seed" → ⊥) → (text ≡ codes "fetch" → ⊥) → (text ≡ codes "check" → ⊥)
-    → (text ≡ codes "export" → ⊥) → (text ≡ codes "replay" → ⊥) → (text ≡ codes "rehearse" → ⊥) → named text commands ≡ None
-none_named text a b c d e f g =
+    → (text ≡ codes "export" → ⊥) → (text ≡ codes "upgrade" → ⊥) → (text ≡ codes "replay" → ⊥) → (text ≡ codes "rehearse" → ⊥) → named text commands ≡ None
+none_named text a b c d e u f g =
     not_first text import_shape from_seed a (not_first text seed_shape from_fetch b (not_first text fetch_shape from_check c
-    (not_first text check_shape from_export d (not_first text export_shape from_replay e (not_first text replay_shape (rehearse_shape ∷ []) f
-    (not_first text rehearse_shape [] g refl))))))
+    (not_first text check_shape from_export d (not_first text export_shape from_upgrade e
+    (not_first text upgrade_shape from_replay u (not_first text replay_shape (rehearse_shape ∷ []) f
+    (not_first text rehearse_shape [] g refl)))))))
   where
     from_replay : List Shape
     from_replay = replay_shape ∷ rehearse_shape ∷ []
 
+    from_upgrade : List Shape
+    from_upgrade = upgrade_shape ∷ from_replay
+
     from_export : List Shape
-    from_export = export_shape ∷ from_replay
+    from_export = export_shape ∷ from_upgrade
 
     from_check : List Shape
     from_check = check_shape ∷ from_export

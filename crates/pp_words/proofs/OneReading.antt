@@ -4,7 +4,7 @@ use Rattle.std.specs.Prelude.{MatchOption}
 use Rattle.std.specs.List.{AllZip}
 use Rattle.pp_terms.specs.format.Traffic.{Address}
 use Rattle.pp_terms.specs.format.Addresses.{IsAddress}
-use Rattle.pp_terms.specs.command.Commands.{Command, Import, Seed, Fetch, Check, Export, Replay, Rehearse}
+use Rattle.pp_terms.specs.command.Commands.{Command, Import, Seed, Fetch, Check, Export, Upgrade, Replay, Rehearse}
 use Rattle.pp_terms.specs.command.Usage as wrong
 use Rattle.pp_terms.specs.command.Usage.{Usage, usage}
 use Rattle.pp_terms.specs.command.CommandLine.{Spells, Slot, AStore, AChunk, ANumber, ADescriptor, AnAddress, AnOrder, IsRight, IsWrong, Shape, commands, shape_of, named, IsOneOf, IsWrongFrom, IsFirstWrong}
@@ -106,6 +106,7 @@ words_of words (Fetch store descriptor listen turns order peers) is = record {
 }
 words_of words (Check store descriptor) is = record { rest = _; named = is.spelled; right = (is.named, ((descriptor, is.descriptor_is), tt)) }
 words_of words (Export store descriptor) is = record { rest = _; named = is.spelled; right = (is.named, ((descriptor, is.descriptor_is), tt)) }
+words_of words (Upgrade store descriptor) is = record { rest = _; named = is.spelled; right = (is.named, ((descriptor, is.descriptor_is), tt)) }
 words_of words Replay is = record { rest = []; named = is; right = tt }
 words_of words (Rehearse number) is = record { rest = _; named = is.spelled; right = ((number, refl, omega arith, is.low), tt) }
 
@@ -125,5 +126,6 @@ one_of_all (Seed store descriptor listen turns) = refl
 one_of_all (Fetch store descriptor listen turns order peers) = refl
 one_of_all (Check store descriptor) = refl
 one_of_all (Export store descriptor) = refl
+one_of_all (Upgrade store descriptor) = refl
 one_of_all Replay = refl
 one_of_all (Rehearse number) = refl

@@ -10,7 +10,7 @@ use Rattle.pp_tree.specs.declared.descriptor.DescriptorFault.TheVariants.{Form, 
 use Rattle.pp_words.specs.declared.types.Order.{Order}
 use Rattle.pp_words.specs.declared.types.Order.TheVariants.{Sequential, Rarest}
 use Rattle.pp_words.specs.declared.types.Command.{Command}
-use Rattle.pp_words.specs.declared.types.Command.TheVariants.{Import, Seed, Fetch, Check, Export, Replay, Rehearse}
+use Rattle.pp_words.specs.declared.types.Command.TheVariants.{Import, Seed, Fetch, Check, Export, Upgrade, Replay, Rehearse}
 use Rattle.pp_words.specs.declared.types.Usage.{Usage}
 use Rattle.pp_words.specs.declared.types.UsageKind.{UsageKind}
 use Rattle.pp_words.specs.declared.types.UsageKind.TheVariants as kind
@@ -30,6 +30,7 @@ command_of (Fetch store descriptor listen turns order peers) =
     terms.Fetch store.now descriptor (address_of listen) turns (order_of order) (map address_of peers.items)
 command_of (Check store descriptor) = terms.Check store.now descriptor
 command_of (Export store descriptor) = terms.Export store.now descriptor
+command_of (Upgrade store descriptor) = terms.Upgrade store.now descriptor
 command_of Replay = terms.Replay
 command_of (Rehearse number) = terms.Rehearse number
 

@@ -1,6 +1,6 @@
 // The words of each command, behind its name.
 ghost use Rattle.std.specs.Prelude.{codes, drop, IfOk, IfErr};
-ghost use Rattle.pp_terms.specs.command.CommandLine.{Spells, IsWrongFrom, import_shape, seed_shape, fetch_shape, check_shape, export_shape, replay_shape, rehearse_shape};
+ghost use Rattle.pp_terms.specs.command.CommandLine.{Spells, IsWrongFrom, import_shape, seed_shape, fetch_shape, check_shape, export_shape, upgrade_shape, replay_shape, rehearse_shape};
 ghost use Rattle.pp_words.specs.Views.{texts, command_of, usage_of};
 ghost use Rattle.pp_words.specs.Slots.{Takes};
 
@@ -82,6 +82,18 @@ pub(crate) fn export(words: &[String]) -> Result<Command<'_>, Usage>
     let descriptor = slots::descriptor(words, 2)?;
     slots::end(words, 3)?;
     Ok(Command::Export { store, descriptor })
+}
+
+pub(crate) fn upgrade(words: &[String]) -> Result<Command<'_>, Usage>
+    requires { Takes words.now 0 (codes "upgrade") }
+    ensures ok { IfOk result (λ c. Spells (texts words.now) (command_of c)) }
+    ensures err { IfErr result (λ u.
+        IsWrongFrom upgrade_shape.slots upgrade_shape.peers 1 (drop 1 (texts words.now)) (usage_of u)) }
+{
+    let store = slots::store(words, 1)?;
+    let descriptor = slots::descriptor(words, 2)?;
+    slots::end(words, 3)?;
+    Ok(Command::Upgrade { store, descriptor })
 }
 
 pub(crate) fn replay(words: &[String]) -> Result<Command<'_>, Usage>

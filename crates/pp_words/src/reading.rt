@@ -5,7 +5,7 @@ ghost use Rattle.pp_terms.specs.command.CommandLine.{Spells, IsFirstWrong, comma
 ghost use Rattle.pp_terms.specs.command.Usage as wrong;
 ghost use Rattle.pp_words.specs.Views.{texts, command_of, usage_of};
 
-use crate::commands::{check, export, fetch, import, rehearse, replay, seed};
+use crate::commands::{check, export, fetch, import, rehearse, replay, seed, upgrade};
 use crate::slots::word;
 use crate::types::{Command, Usage, UsageKind};
 
@@ -34,6 +34,7 @@ fn read_named(words: &[String]) -> Result<Command<'_>, Usage>
         "fetch" => fetch(words),
         "check" => check(words),
         "export" => export(words),
+        "upgrade" => upgrade(words),
         "replay" => replay(words),
         "rehearse" => rehearse(words),
         _ => Err(Usage {

@@ -164,6 +164,7 @@ fn reads_commands(rt: HostRuntime) -> Result<(), Fail> {
         ),
         (&["check", "s", D], Command::Check { store, descriptor }),
         (&["export", "s", D], Command::Export { store, descriptor }),
+        (&["upgrade", "s", D], Command::Upgrade { store, descriptor }),
         (&["replay"], Command::Replay),
         (
             &["rehearse", "18446744073709551615"],

@@ -45,6 +45,11 @@ pub enum Command<'a> {
         store: &'a str,
         descriptor: Descriptor,
     },
+    /// `upgrade STORE DESCRIPTOR`
+    Upgrade {
+        store: &'a str,
+        descriptor: Descriptor,
+    },
     /// `replay`
     Replay,
     /// `rehearse NUMBER`

@@ -8,7 +8,7 @@ use Rattle.pp_terms.specs.tree.Content.{IsChunkSize}
 use Rattle.pp_terms.specs.format.Descriptor.{Descriptor, descriptor_text, IsDescriptor}
 use Rattle.pp_terms.specs.format.Traffic.{Address}
 use Rattle.pp_terms.specs.format.Addresses.{IsAddress}
-use Rattle.pp_terms.specs.command.Commands.{Order, order_text, Command, Import, Seed, Fetch, Check, Export, Replay, Rehearse}
+use Rattle.pp_terms.specs.command.Commands.{Order, order_text, Command, Import, Seed, Fetch, Check, Export, Upgrade, Replay, Rehearse}
 use Rattle.pp_terms.specs.format.DescriptorFault.{DescriptorFault, HasFault}
 use Rattle.pp_terms.specs.command.Usage as wrong
 use Rattle.pp_terms.specs.command.Usage.{Usage, usage}
@@ -74,6 +74,7 @@ Spells words (Seed store descriptor listen turns) = IsSeed words store descripto
 Spells words (Fetch store descriptor listen turns order peers) = IsFetch words store descriptor listen turns order peers
 Spells words (Check store descriptor) = IsOnStore (codes "check") words store descriptor
 Spells words (Export store descriptor) = IsOnStore (codes "export") words store descriptor
+Spells words (Upgrade store descriptor) = IsOnStore (codes "upgrade") words store descriptor
 Spells words Replay = words ≡ codes "replay" ∷ []
 Spells words (Rehearse number) = IsRehearse words number
 
@@ -128,6 +129,9 @@ check_shape = record { name = codes "check"; slots = AStore ∷ ADescriptor ∷ 
 abbrev pub export_shape : Shape
 export_shape = record { name = codes "export"; slots = AStore ∷ ADescriptor ∷ []; peers = 0 }
 
+abbrev pub upgrade_shape : Shape
+upgrade_shape = record { name = codes "upgrade"; slots = AStore ∷ ADescriptor ∷ []; peers = 0 }
+
 abbrev pub replay_shape : Shape
 replay_shape = record { name = codes "replay"; slots = []; peers = 0 }
 
@@ -136,7 +140,8 @@ rehearse_shape = record { name = codes "rehearse"; slots = ANumber 0 (2 ^ 64) �
 
 -- all commands
 abbrev pub commands : List Shape
-commands = import_shape ∷ seed_shape ∷ fetch_shape ∷ check_shape ∷ export_shape ∷ replay_shape ∷ rehearse_shape ∷ []
+commands =
+    import_shape ∷ seed_shape ∷ fetch_shape ∷ check_shape ∷ export_shape ∷ upgrade_shape ∷ replay_shape ∷ rehearse_shape ∷ []
 
 abbrev pub shape_of : Command → Shape
 shape_of (Import store chunk) = import_shape
@@ -144,6 +149,7 @@ shape_of (Seed store descriptor listen turns) = seed_shape
 shape_of (Fetch store descriptor listen turns order peers) = fetch_shape
 shape_of (Check store descriptor) = check_shape
 shape_of (Export store descriptor) = export_shape
+shape_of (Upgrade store descriptor) = upgrade_shape
 shape_of Replay = replay_shape
 shape_of (Rehearse number) = rehearse_shape
 

@@ -19,5 +19,6 @@ pub data Command : Type 0 where
   Fetch : (store : List ℕ) (descriptor : Descriptor) (listen : Address) (turns : ℕ) (order : Order) (peers : List Address) → Command
   Check : (store : List ℕ) (descriptor : Descriptor) → Command
   Export : (store : List ℕ) (descriptor : Descriptor) → Command
+  Upgrade : (store : List ℕ) (descriptor : Descriptor) → Command
   Replay : Command
   Rehearse : (number : ℕ) → Command
