@@ -9,6 +9,7 @@ use Rattle.pp_traffic.specs.Past.{now}
 use Rattle.pp_traffic.specs.Life.{Life}
 use Rattle.pp_traffic.specs.Story.{Line, Heard, Said, hear, say, heard_in, said_in, told, story}
 use Rattle.pp_traffic.specs.Asking.{asks, asks_in}
+use Rattle.pp_traffic.proofs.OneMore.{before_opening}
 use Rattle.pp_audit.specs.declared.entry.Entry.{Entry}
 use Rattle.pp_audit.specs.Entries.{record_of, past}
 use Rattle.pp_audit.specs.Asks.{asks_by, asks_at}
@@ -35,15 +36,10 @@ asks_told d life is_opening moment (Quiet at) lines = omega arith
 asks_told d life is_opening moment (Sent sent_at receiver bytes) lines =
     let e = asks_said moment (said_in d life (Sent sent_at receiver bytes)) lines in omega (arith, e)
 
--- before the opening there is nothing
-none_before : (d : Descriptor) (life : Life) (past : List Record) → length past ≤ life.opening → story d life past ≡ []
-none_before d life [] le = refl
-none_before d life (r ∷ past) le = rw (lt-leb life.opening (length past) (omega (arith, le))) refl
-
 asks_more : (d : Descriptor) (life : Life) (r : Record) (before : List Record)
     → asks_in (story d life (r ∷ before)) ≡ asks_in (story d life before) + asks_at d life (length before) r
 asks_more d life r before = ⊎_elim
-    (λ lt. outside (lt-leb life.opening (length before) lt) (none_before d life before (omega (arith, lt))))
+    (λ lt. outside (lt-leb life.opening (length before) lt) (before_opening d life before (omega (arith, lt))))
     (λ le. inside (le-leb life.opening (length before) le))
     (cases_lt (length before) life.opening)
   where

@@ -12,12 +12,13 @@ use Rattle.pp_traffic.specs.Life.{Life, fits, begins_as, begins_fitting, greets,
 use Rattle.pp_traffic.specs.Places.{StandsFrom, StandsAt}
 use Rattle.pp_traffic.specs.Plain.{greets_once, first_since, IsPlainAnswer, IsPlainDial, IsPlainNow, IsPlainUpTo}
 use Rattle.pp_traffic.proofs.Standing.{found_at, found_since}
+use Rattle.pp_traffic.proofs.Plains.{first_some}
 use Rattle.pp_audit.specs.Parts.{first_shake}
 use Rattle.pp_audit.specs.PlainTests.{is_plain, is_plain_newest}
 use Rattle.pp_audit.specs.Channels.{answered_at, dialled_at, opened_by, replied_by, passes_reply, passes_replies, passes_opening, passes_openings, SearchFindsAll, NewestFindsAll}
 use Rattle.pp_audit.proofs.Shakes.{begins_as_shake, begins_fitting_shake}
 use Rattle.pp_audit.proofs.PlainParts.{plain_is_tested}
-use Rattle.pp_audit.proofs.Addresses.{same_is}
+use Rattle.pp_terms.proofs.Addressed.{same_is}
 
 -- ---- what a handshake names
 
@@ -100,18 +101,6 @@ tried test d past life number passes replies place since e o opened s shaken =
 
 -- ---- a plain channel is tried
 
-stands_first : (which test : Record → Bool) (place : ℕ) (past : List Record) → first_since which test place past ≡ true → some_since test place past ≡ true
-stands_first which test place [] e = absurd cc
-stands_first which test place (r ∷ past) e = by (some_since which place past) (λ f. stands_first which test place past f) e
-  where
-    by : (b : Bool) → (first_since which test place past ≡ true → some_since test place past ≡ true) → cond b (first_since which test place past) (leb place (length past) && which r && test r) ≡ true
-        → ((leb place (length past) && test r) || some_since test place past) ≡ true
-    by true more f = or_right (leb place (length past) && test r) (some_since test place past) (more f)
-    by false more f =
-        let a = and_parts (leb place (length past) && which r) (test r) f in
-        or_left (leb place (length past) && test r) (some_since test place past)
-        (and_from (leb place (length past)) (test r) (and_parts (leb place (length past)) (which r) a.0).0 a.1)
-
 tried_answer : (test : Life → Bool) (d : Descriptor) (past : List Record) (life : Life) → life.is_dialled ≡ false
     → is_at (greets_once d life) life.opening past ≡ true → some_since (answers d life) life.opening past ≡ true
     → passes_openings test d past past ≡ true → test life ≡ true
@@ -140,10 +129,10 @@ tried_plain : (test : Life → Bool) (d : Descriptor) (past : List Record) (life
 tried_plain test d past life plain e = ⊎_elim
     (λ dialled.
     let is = MatchBool-at_true (IsPlainDial d life past past) (IsPlainAnswer d life past) dialled plain.begins in
-    tried_dial test d past life dialled is.opened (stands_first (comes_from life.address) (greets d life) 0 past is.replied) e)
+    tried_dial test d past life dialled is.opened (first_some (comes_from life.address) (greets d life) 0 past is.replied) e)
     (λ answered.
     let is = MatchBool-at_false (IsPlainDial d life past past) (IsPlainAnswer d life past) answered plain.begins in
-    tried_answer test d past life answered is.opened (stands_first (goes_to life.address) (answers d life) life.opening past is.replied) e)
+    tried_answer test d past life answered is.opened (first_some (goes_to life.address) (answers d life) life.opening past is.replied) e)
     (cases_Bool life.is_dialled)
 
 -- and one that is plain up to the newest record
@@ -153,12 +142,12 @@ tried_newest test d r before life plain e = ⊎_elim
     (λ dialled.
     let is = MatchBool-at_true (IsPlainDial d life (r ∷ before) before) (IsPlainAnswer d life before) dialled plain.begins in
     tried_dial test d (r ∷ before) life dialled (or_right (eqb life.opening (length before) && answers d life r) (is_at (answers d life) life.opening before) is.opened)
-    (stands_first (comes_from life.address) (greets d life) 0 (r ∷ before) is.replied) e)
+    (first_some (comes_from life.address) (greets d life) 0 (r ∷ before) is.replied) e)
     (λ answered.
     let is = MatchBool-at_false (IsPlainDial d life (r ∷ before) before) (IsPlainAnswer d life before) answered plain.begins in
     tried_answer test d (r ∷ before) life answered (or_right (eqb life.opening (length before) && greets_once d life r) (is_at (greets_once d life) life.opening before) is.opened)
     (or_right (leb life.opening (length before) && answers d life r) (some_since (answers d life) life.opening before)
-    (stands_first (goes_to life.address) (answers d life) life.opening before is.replied)) e)
+    (first_some (goes_to life.address) (answers d life) life.opening before is.replied)) e)
     (cases_Bool life.is_dialled)
 
 -- ---- where all pass, the search says so

@@ -10,7 +10,8 @@ use Rattle.pp_traffic.specs.Turns.{in_turns}
 use Rattle.pp_promises.specs.LastTurn.{first_turn}
 use Rattle.pp_promises.specs.Asked.{dials, IsMissed, DialsBut}
 use Rattle.pp_audit.specs.Dials.{missed, misses}
-use Rattle.pp_audit.proofs.Addresses.{same_is, same_equiv}
+use Rattle.pp_terms.proofs.Addressed.{same_is}
+use Rattle.pp_audit.proofs.Addresses.{same_equiv}
 
 missed_is : (d : Descriptor) (addresses : List Address) (past : List Record) (a : Address) → list_any (same_address a) addresses ≡ true → missed d past a ≡ true → IsMissed d addresses past a
 missed_is d addresses past a given e =

@@ -6,6 +6,7 @@ use Rattle.pp_traffic.specs.Past.{now, is_event, some_since}
 use Rattle.pp_traffic.specs.Life.{Life, greets}
 use Rattle.pp_traffic.specs.Story.{Line, told}
 use Rattle.pp_promises.specs.ReadStory.{with_unread, is_read, read_story}
+use Rattle.pp_ranges.proofs.Runs.{or_swap}
 use Rattle.pp_audit.specs.declared.entry.Entry.{Entry}
 use Rattle.pp_audit.specs.declared.standing.Question.{Question}
 use Rattle.pp_audit.specs.declared.standing.Standing.{Standing}
@@ -26,17 +27,11 @@ read_at_first d life b e = e ∙ by life.is_dialled
     by true = refl
     by false = refl
 
-either_first : (x y z : Bool) → (x || (y || z)) ≡ (y || (x || z))
-either_first true true z = refl
-either_first true false z = refl
-either_first false true z = refl
-either_first false false z = refl
-
 read_one_more : (d : Descriptor) (life : Life) (xs : List Entry) (i : ℕ) (x : Entry) (found : Bool) → i < length xs → x ≡ get_or xs i x
     → found ≡ is_read d life (first i xs) → ((leb life.opening i && greets d life (record_of x)) || found) ≡ is_read d life (first (i + 1) xs)
 read_one_more d life xs i x found lt is so_far =
     rw (one_more xs i x lt is, length_first xs i (omega arith), so_far)
-    (either_first (leb life.opening i && greets d life (record_of x)) (not life.is_dialled) (some_since (greets d life) life.opening (first i xs)))
+    (or_swap (leb life.opening i && greets d life (record_of x)) (not life.is_dialled) (some_since (greets d life) life.opening (first i xs)))
 
 pub read_by : (d : Descriptor) (life : Life) (xs : List Entry) (i : ℕ) (x : Entry) (found greeted : Bool) → i < length xs → x ≡ get_or xs i x
     → found ≡ is_read d life (first i xs) → greeted ≡ (leb life.opening i && greets d life (record_of x))

@@ -6,11 +6,13 @@ use Rattle.pp_terms.specs.format.Traffic.{Record, Received, Quiet, Sent}
 use Rattle.pp_terms.specs.format.Descriptor.{Descriptor}
 use Rattle.pp_terms.specs.format.Messages.{Message, Handshake, Data, Ack, Have, Integrity, Pex4, PexReq, Request, Cancel, Choke, Unchoke, Pex6}
 use Rattle.pp_terms.specs.tree.Range.{Span, within}
+use Rattle.pp_terms.proofs.Within.{within_past}
 use Rattle.pp_traffic.specs.Past.{read}
 use Rattle.pp_traffic.specs.Life.{Life}
 use Rattle.pp_traffic.specs.Story.{Line, Heard, Said, Taken, story}
 use Rattle.pp_traffic.specs.Asking.{choked, asked_by, asked_after, asked}
 use Rattle.pp_traffic.specs.Keeping.{announces}
+use Rattle.pp_traffic.proofs.Chokes.{said_none}
 use Rattle.pp_promises.specs.Served.{is_announced, is_owed}
 use Rattle.pp_promises.proofs.ReadStories.{owed_is_asked}
 use Rattle.pp_audit.specs.Alike.{top_in, top_of, top}
@@ -23,18 +25,15 @@ IsPast i (Have span) = within span i ≡ false
 IsPast i (Request span) = within span i ≡ false
 IsPast i _ = Unit {0}
 
-span_past : (span : Span) (i : ℕ) → span.last < i → within span i ≡ false
-span_past span i lt = and_right (leb span.first i) (leb i span.last) (lt-leb i span.last lt)
-
 message_past : (i : ℕ) (m : Message) → top_in m < i → IsPast i m
 message_past i (Handshake source options) lt = tt
 message_past i (Data chunk sent_at bytes) lt = tt
-message_past i (Ack span delay) lt = span_past span i lt
-message_past i (Have span) lt = span_past span i lt
+message_past i (Ack span delay) lt = within_past span i lt
+message_past i (Have span) lt = within_past span i lt
 message_past i (Integrity span digest) lt = tt
 message_past i (Pex4 address port) lt = tt
 message_past i PexReq lt = tt
-message_past i (Request span) lt = span_past span i lt
+message_past i (Request span) lt = within_past span i lt
 message_past i (Cancel span) lt = tt
 message_past i Choke lt = tt
 message_past i Unchoke lt = tt
@@ -64,24 +63,10 @@ by_past i c Choke x e s = s
 by_past i c Unchoke x e s = s
 by_past i c (Pex6 address port) x e s = s
 
-after_past : (i : ℕ) (m : Message) (x : Bool) → x ≡ false → asked_after i m x ≡ false
-after_past i (Handshake source options) x s = s
-after_past i (Data chunk sent_at bytes) x s = and_right (not (eqb chunk i)) x s
-after_past i (Ack span delay) x s = s
-after_past i (Have span) x s = s
-after_past i (Integrity span digest) x s = s
-after_past i (Pex4 address port) x s = s
-after_past i PexReq x s = s
-after_past i (Request span) x s = s
-after_past i (Cancel span) x s = s
-after_past i Choke x s = refl
-after_past i Unchoke x s = s
-after_past i (Pex6 address port) x s = s
-
 lines_past : (i : ℕ) (lines : List Line) → AllLines (IsPast i) lines → asked i lines ≡ false
 lines_past i [] all = refl
 lines_past i (Heard now m ∷ before) all = by_past i (choked before) m (asked i before) all.0 (lines_past i before all.1)
-lines_past i (Said now m ∷ before) all = after_past i m (asked i before) (lines_past i before all.1)
+lines_past i (Said now m ∷ before) all = said_none i m (asked i before) (lines_past i before all.1)
 lines_past i (Taken now ∷ before) all = lines_past i before all
 
 pub asked_past : (d : Descriptor) (life : Life) (i : ℕ) (past : List Record) → top d past < i → asked i (story d life past) ≡ false

@@ -1,7 +1,7 @@
 -- The best of several chunks.
 use Rattle.std.proofs.Common.{◌≡◌, ◌≢◌, ◌==◌, ◌⊎◌, inl, inr, ⊎_elim, ℕ, ◌+◌, ◌<◌, ◌≤◌, Bool, true, false, ◌&&◌, List, [], length, Option, None, Some, sym, ◌∙◌, ap, subst, arith, slice_index_or}
 use Rattle.std.specs.Prelude.{MatchOption}
-use Rattle.std.proofs.lemmas.Bool.{cases_lt, eqb-true, eq-eqb, and_parts, false_from_ne_true}
+use Rattle.std.proofs.lemmas.Bool.{cases_lt, eqb-true, eq-eqb, and_parts, false_from_ne_true, and_from}
 use Rattle.pp_terms.proofs.Facts.{member_below}
 use Rattle.pp_tree.specs.Sets.{is_in_all}
 use Rattle.pp_avail.specs.declared.ranker.Rank.{Rank}
@@ -82,9 +82,6 @@ candidates_inside o seat wanted past j candidate = ⊎_elim (λ lt. lt) (λ ge. 
     apart true b both none = cc
     apart false b both none = cc
 
-and_true : (a b : Bool) → a ≡ true → b ≡ true → (a && b) ≡ true
-and_true a b one two = cc (ap (λ (x : Bool). x && b) one)
-
 -- a candidate of so many copies is in all three sets
 in_all : (o : Offers) (seat : ℕ) (wanted set level : List Bool) (count j : ℕ)
     → length wanted ≡ o.chunks → set ≡ slice_index_or o.seats seat []
@@ -93,8 +90,8 @@ in_all : (o : Offers) (seat : ℕ) (wanted set level : List Bool) (count j : ℕ
 in_all o seat wanted set level count j size is counted candidate equal =
     let parts = and_parts (slice_index_or wanted j false) (has o seat j) candidate in
     let inside : j < o.chunks = omega (arith, member_below wanted j parts.0, size) in
-    and_true (slice_index_or wanted j false) (slice_index_or set j false && slice_index_or level j false) parts.0
-    (and_true (slice_index_or set j false) (slice_index_or level j false)
+    and_from (slice_index_or wanted j false) (slice_index_or set j false && slice_index_or level j false) parts.0
+    (and_from (slice_index_or set j false) (slice_index_or level j false)
     (ap (λ (xs : List Bool). slice_index_or xs j false) is ∙ parts.1) (counted j inside ∙ eq-eqb (copies o j) count equal))
 
 -- The first of the wanted chunks that the seat has, among those of so many copies.
@@ -114,7 +111,7 @@ first_of_level o seat wanted set level count (Some i) size is counted found =
     let rest = and_parts (slice_index_or set i false) (slice_index_or level i false) parts.1 in
     let inside : i < o.chunks = omega (arith, found.0, size) in (
       inside,
-      and_true (slice_index_or wanted i false) (has o seat i) parts.0 (ap (λ (xs : List Bool). slice_index_or xs i false) (sym is) ∙ rest.0),
+      and_from (slice_index_or wanted i false) (has o seat i) parts.0 (ap (λ (xs : List Bool). slice_index_or xs i false) (sym is) ∙ rest.0),
       eqb-true (copies o i) count (sym (counted i inside) ∙ rest.1),
       λ j candidate equal. ⊎_elim
           (λ below. let all = in_all o seat wanted set level count j size is counted candidate equal in let out = found.2 j below in absurd (cc (all, out)))

@@ -6,7 +6,7 @@ use Rattle.std.specs.Int.{bit_at, bit_not}
 use Rattle.std.proofs.lemmas.Nat.Bits.{bit_at_and, bit_at_not, bit_at-lt}
 use Rattle.std.proofs.lemmas.List.{length-set, length-replicate, get_or-set_same, get_or-set_other, get_or-replicate, get_or_past, get_or_default}
 use Rattle.std.proofs.lemmas.List.Sums.{sum_by-set, sum_by-cons, count_by-le-length}
-use Rattle.std.proofs.lemmas.Bool.{cases_eq, cases_lt, eq-eqb, ne_eqb, eqb-true, eqb-false, and_parts, not-true, false_from_ne_true, both_ways}
+use Rattle.std.proofs.lemmas.Bool.{cases_eq, cases_lt, eq-eqb, ne_eqb, eqb-true, eqb-false, and_parts, not-true, false_from_ne_true, both_ways, and_right}
 use Rattle.std.proofs.lemmas.Bool.Decides.{nat_tests}
 use Rattle.std.proofs.Math.Bool.{or-false}
 use Rattle.pp_tree.specs.Bits.{bit_of}
@@ -226,11 +226,7 @@ pub filled_more : (old cur new t inside : Bool) (q w : ℕ) → cur ≡ (old || 
     → new ≡ (old || (t && (inside && nat_lt q (w + 1))))
 filled_more true cur new t inside q w now then = then ∙ ap (λ (b : Bool). b || (t && (q == w && inside))) now
 filled_more false cur new false inside q w now then = then ∙ ap (λ (b : Bool). b || false) now
-filled_more false cur new true false q w now then = then ∙ ap (λ (b : Bool). b || (q == w && false)) now ∙ none (q == w)
-  where
-    none : (b : Bool) → (b && false) ≡ false
-    none true = refl
-    none false = refl
+filled_more false cur new true false q w now then = then ∙ ap (λ (b : Bool). b || (q == w && false)) now ∙ and_right (q == w) false refl
 filled_more false cur new true true q w now then = grind (arith, nat_tests)
 
 pub filled_all : (old t : Bool) (i first last w : ℕ) → last / 64 < w

@@ -6,7 +6,7 @@ use Rattle.std.specs.Bool.{IsTrue}
 use Rattle.std.specs.Option.{is_some}
 use Rattle.std.proofs.lemmas.Nat.Bits.{bit_at-zero}
 use Rattle.std.proofs.lemmas.List.{get_or-set_same, get_or-set_other, length-replicate}
-use Rattle.std.proofs.lemmas.Bool.{cases_eq, eq-eqb, ne_eqb, false_from_ne_true}
+use Rattle.std.proofs.lemmas.Bool.{cases_eq, eq-eqb, ne_eqb, false_from_ne_true, and_right}
 use Rattle.pp_tree.specs.Bits.{bit_of, bits_of}
 use Rattle.pp_tree.specs.Marks.{words_for, IsFirstFrom}
 use Rattle.pp_tree.proofs.Packing.{joined, no_bit, zero_at}
@@ -126,11 +126,7 @@ added_inside count words marks w bits i is inside low past =
 pub emptied_inside : (count : ℕ) (words marks : List ℕ) (w i : ℕ) → IsRow count words marks → w < length words → count ≤ i
     → bit_of (slice_set words w 0) i ≡ false
 emptied_inside count words marks w i is inside past =
-    bits_emptied words w i inside ∙ ap (λ (b : Bool). not (i / 64 == w) && b) (is.inside i past) ∙ no_more (not (i / 64 == w))
-  where
-    no_more : (t : Bool) → (t && false) ≡ false
-    no_more true = refl
-    no_more false = refl
+    bits_emptied words w i inside ∙ ap (λ (b : Bool). not (i / 64 == w) && b) (is.inside i past) ∙ and_right (not (i / 64 == w)) false refl
 
 -- a row without a marked word has no bit set
 pub none_marked_bits : (count : ℕ) (words marks : List ℕ) (xs : List Bool) (i : ℕ) (found : Option ℕ) (none : Bool) → bits_of count words ≡ xs → IsRow count words marks

@@ -23,7 +23,8 @@ use Rattle.pp_core.specs.declared.counts.Counts.{Counts}
 use Rattle.pp_core.specs.declared.channel.Channel.{Channel}
 use Rattle.pp_core.specs.declared.hearing.Heard as heard
 use Rattle.pp_core.proofs.Following.{Later, follow_all}
-use Rattle.pp_core.proofs.Seats.{same_self, follow_taken}
+use Rattle.pp_terms.proofs.Addressed.{same_self}
+use Rattle.pp_core.proofs.Seats.{follow_taken}
 
 pub number_some : (word : ℕ) → 0 < number_from word
 number_some word = ⊎_elim

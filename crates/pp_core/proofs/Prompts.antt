@@ -22,6 +22,7 @@ use Rattle.pp_outside.specs.Arrivals.{IsEvent}
 use Rattle.pp_outside.specs.declared.link.Address.{Address}
 use Rattle.pp_outside.specs.declared.link.Event.{Event}
 use Rattle.pp_outside.specs.declared.link.Event.TheVariants.{Datagram as Came, Quiet}
+use Rattle.pp_traffic.proofs.Plains.{first_some}
 use Rattle.pp_core.specs.Hearing.{is_closing, after_message, counted, hear_all}
 use Rattle.pp_core.specs.Taking.{Taken, leaves, is_refused, number_from, opened_by, greet_fitting, take_greeting, take_numbered, take_for, take_datagram}
 use Rattle.pp_core.specs.Events.{reached, after_event}
@@ -285,21 +286,10 @@ lets_turn d added past r sent old new after x before is knocked once first = ⊎
 
 -- ---- no chunk is left
 
-since_first : (which test : Record → Bool) (place : ℕ) (past : List Record) → first_since which test place past ≡ true → some_since test place past ≡ true
-since_first which test place [] e = e
-since_first which test place (r ∷ past) e = ⊎_elim
-    (λ some. or_right (leb place (length past) && test r) (some_since test place past)
-    (since_first which test place past (sym (cond-true (some_since which place past) (first_since which test place past) (leb place (length past) && which r && test r) some) ∙ e)))
-    (λ none.
-    let outer = and_parts (leb place (length past) && which r) (test r) (sym (cond-false (some_since which place past) (first_since which test place past) (leb place (length past) && which r && test r) none) ∙ e) in
-    or_left (leb place (length past) && test r) (some_since test place past)
-    (and_from (leb place (length past)) (test r) (and_parts (leb place (length past)) (which r) outer.0).0 outer.1))
-    (cases_Bool (some_since which place past))
-
 plain_replied : (d : Descriptor) (life : Life) (past : List Record) → life.is_dialled ≡ false → IsPlainNow d life past → some_since (answers d life) life.opening past ≡ true
 plain_replied d life past answered plain =
     let begun : IsPlainAnswer d life past = subst (λ (b : Bool). MatchBool b (IsPlainDial d life past past) (IsPlainAnswer d life past)) answered plain.begins in
-    since_first (goes_to life.address) (answers d life) life.opening past begun.replied
+    first_some (goes_to life.address) (answers d life) life.opening past begun.replied
 
 some_asked : (list : List Span) (i : ℕ) → has list i ≡ true → is_asked list ≡ true
 some_asked [] i e = absurd (false≢true e)

@@ -22,16 +22,13 @@ use Rattle.pp_core.specs.Standing.{State, IsKept, StandsFor}
 use Rattle.pp_core.specs.declared.counts.Counts.{Counts}
 use Rattle.pp_core.specs.declared.channel.Channel.{Channel}
 use Rattle.pp_core.specs.declared.hearing.Heard.{Heard}
-use Rattle.pp_core.proofs.Seats.{same_self}
+use Rattle.pp_terms.proofs.Addressed.{same_self}
+use Rattle.pp_terms.proofs.Risings.{gains_nothing, gains_twice}
 use Rattle.pp_core.proofs.Servings.{MayParts, may_parts, reads_nothing}
 use Rattle.pp_core.proofs.Sends.{lost_unsent, lost_unread, lost_damaged, KeptBut, lost_but, unheld_but, SameTies, stands_met, stands_due, stands_replied, stands_delivered}
 
 same_core : (s : State) (channel : Option Channel) (k : Counts) → SameCore s (record s { channel = channel; counts = k })
 same_core s channel k = record { descriptor = refl; committed = refl; latest = refl; numbers = refl; is_live = refl }
-
-pub gains_nothing : (old new : Option (List Record)) → new ≡ old → GainsRecords old [] new
-gains_nothing None new e = e
-gains_nothing (Some xs) new e = e
 
 owes_none : (s : State) (c : Channel) → s.channel ≡ Some c → owes_reply c ≡ false → OwesNone s
 owes_none s c here e = subst (λ (o : Option Channel). MatchOption o (Unit {0}) (λ x. owes_reply x ≡ false)) (sym here) e
@@ -150,12 +147,6 @@ sends_next book disk disk' seen seen' s new n =
     (sends_served book disk disk' seen seen' s n.served.chunk n.channel n.heard n.here (may_parts n.channel n.may) n.served.least n.served.served)
 
 -- ---- one after the other
-
-pub gains_twice : (a b c : Option (List Record)) (x y : List Record) → GainsRecords a x b → GainsRecords b y c → GainsRecords a (y ++ x) c
-gains_twice None b c x y p q = let q' : GainsRecords None y c = subst (λ (o : Option (List Record)). GainsRecords o y c) p q in q'
-gains_twice (Some xs) b c x y p q =
-    let q' : GainsRecords (Some (x ++ xs)) y c = subst (λ (o : Option (List Record)). GainsRecords o y c) p q in
-    q' ∙ ap (λ (ys : List Record). Some ys) (sym (append_assoc y x xs))
 
 pub all_both : (P : Record → Type 0) (x y : List Record) → AllByRecursion P x → AllByRecursion P y → AllByRecursion P (x ++ y)
 all_both P [] y a b = b

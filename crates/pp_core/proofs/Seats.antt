@@ -15,22 +15,6 @@ use Rattle.pp_outside.specs.Outside.{address_of}
 use Rattle.pp_core.specs.Standing.{Follows, SeatStands, DialsNone}
 use Rattle.pp_core.specs.declared.channel.Channel.{Channel}
 
--- ---- addresses
-
-pub same_self : (a : Address) → same_address a a ≡ true
-same_self (V4 bytes port) = and_from (pointwise nat_eq bytes bytes) (eqb port port) (bytes_same bytes) (eq-eqb port port refl)
-same_self (V6 bytes port) = and_from (pointwise nat_eq bytes bytes) (eqb port port) (bytes_same bytes) (eq-eqb port port refl)
-
-pub same_is : (a b : Address) → same_address a b ≡ true → a ≡ b
-same_is (V4 a p) (V4 b q) e =
-    let parts = and_parts (pointwise nat_eq a b) (eqb p q) e in
-    ap (λ (xs : List ℕ). V4 xs p) (same_text a b (sym parts.0)) ∙ ap (λ (n : ℕ). V4 b n) (eqb-true p q parts.1)
-same_is (V4 a p) (V6 b q) e = absurd cc
-same_is (V6 a p) (V4 b q) e = absurd cc
-same_is (V6 a p) (V6 b q) e =
-    let parts = and_parts (pointwise nat_eq a b) (eqb p q) e in
-    ap (λ (xs : List ℕ). V6 xs p) (same_text a b (sym parts.0)) ∙ ap (λ (n : ℕ). V6 b n) (eqb-true p q parts.1)
-
 -- ---- what stays of a seat
 
 pub seat_began : (d : Descriptor) (whole : ℕ → Type 0) (c : Channel) (life : Life) (past : List Record) → SeatStands d whole c life past → life.opening < length past

@@ -33,7 +33,8 @@ use Rattle.pp_core.specs.declared.counts.Counts.{Counts}
 use Rattle.pp_core.specs.declared.channel.Channel.{Channel}
 use Rattle.pp_core.proofs.Askings.{without_runs, without_from, without_to}
 use Rattle.pp_core.proofs.Paths.{chunks_bounds, path_given, path_carried, path_complete}
-use Rattle.pp_core.proofs.Seats.{same_self, same_is, seat_began, GoesOn, seat_on, seat_lives, none_dialled}
+use Rattle.pp_terms.proofs.Addressed.{same_self, same_is}
+use Rattle.pp_core.proofs.Seats.{seat_began, GoesOn, seat_on, seat_lives, none_dialled}
 use Rattle.pp_core.proofs.Servings.{MayParts}
 use Rattle.pp_core.proofs.Turning.{weaker_seat}
 

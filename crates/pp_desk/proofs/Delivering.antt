@@ -2,7 +2,7 @@
 use Rattle.std.proofs.Common.{◌≡◌, ℕ, zero, suc, ◌+◌, ◌-◌, ◌<◌, ◌≤◌, Bool, true, false, List, [], ◌∷◌, ◌++◌, get_or, take, drop, length, refl, sym, ◌∙◌, ap, subst, arith, append_assoc, append-nil}
 use Rattle.std.specs.Prelude.{replicate}
 use Rattle.std.specs.List.{AllByRecursion}
-use Rattle.std.proofs.lemmas.List.{length-take, length-drop, take_all, take-append-drop, drop-drop}
+use Rattle.std.proofs.lemmas.List.{length-take, length-drop, take_all, take-append-drop, drop-drop, drop_all}
 use Rattle.std.proofs.Math.Seq.{take-add}
 use Rattle.pp_terms.specs.format.Descriptor.{Descriptor, chunks_of}
 use Rattle.pp_draft.specs.declared.note.Note.{Note}
@@ -53,12 +53,6 @@ delivers_twice w some more rest old mid new a b = record {
 
 -- ---- one more by a post
 
-drop_none : (notes : List Note) (k : ℕ) → length notes ≤ k → drop k notes ≡ []
-drop_none [] zero le = refl
-drop_none [] (suc k) le = refl
-drop_none (n ∷ notes) zero le = absurd (omega arith)
-drop_none (n ∷ notes) (suc k) le = drop_none notes k (omega arith)
-
 -- the rest of a slice
 pub rest_of : (notes : List Note) (from : ℕ) → take (length notes - from) (drop from notes) ≡ drop from notes
 rest_of notes from = take_all (length notes - from) (drop from notes) (omega (arith, length-drop from notes))
@@ -90,7 +84,7 @@ delivers_more w notes rest from count sent old mid new is before posts follow co
 pub delivers_all : (w : Way) (notes : List Note) (from : ℕ) (old new : At) → length notes ≤ from → Delivers w (take from notes) (drop from notes) old new → Delivers w notes [] old new
 delivers_all w notes from old new all h =
     subst (λ (ns : List Note). Delivers w ns [] old new) (take_all from notes all)
-    (subst (λ (ns : List Note). Delivers w (take from notes) ns old new) (drop_none notes from all) h)
+    (subst (λ (ns : List Note). Delivers w (take from notes) ns old new) (drop_all from notes all) h)
 
 -- ---- what is asked of a part of the notes
 

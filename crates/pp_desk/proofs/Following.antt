@@ -26,15 +26,6 @@ use Rattle.pp_desk.proofs.Saying.{with_said_append, say_append, may_split}
 
 -- ---- the link
 
-gains_twice : (a b c : Option (List Record)) (first then : List Record) → GainsRecords a first b → GainsRecords b then c → GainsRecords a (then ++ first) c
-gains_twice None b c first then p q = subst (λ (o : Option (List Record)). GainsRecords o then c) p q
-gains_twice (Some old) b c first then p q =
-    subst (λ (o : Option (List Record)). GainsRecords o then c) p q ∙ ap Some (sym (append_assoc then first old))
-
-gains_none : (old new : Option (List Record)) → new ≡ old → GainsRecords old [] new
-gains_none None new e = e
-gains_none (Some old) new e = e
-
 record StepCarries (w : Way) (b : Batch) (old new : At) : Type 0 where
   gained : GainsRecords old.link.traffic (cond b.sent (Sent w.moment w.receiver b.bytes ∷ []) []) new.link.traffic
   risen : old.so_far.refused < new.so_far.refused → HasRisen old.link.faults new.link.faults
@@ -49,18 +40,12 @@ by_sent receiver moment bytes notes true old new so_far after sends is =
     (sends.outcome, λ lt. absurd (omega (arith, lt, same)), omega (arith, same))
 by_sent receiver moment bytes notes false old new so_far after sends is =
     let more : after.refused ≡ so_far.refused + 1 = ap (λ (x : Delivered). x.refused) is in
-    (gains_none old.traffic new.traffic sends.outcome.0, λ lt. sends.outcome.1, omega (arith, more))
+    (gains_nothing old.traffic new.traffic sends.outcome.0, λ lt. sends.outcome.1, omega (arith, more))
 
 step_carries : (w : Way) (b : Batch) (old new : At) → DeliversOne w b old new → StepCarries w b old new
 step_carries w b old new one =
     let r = by_sent w.receiver w.moment b.bytes b.notes b.sent old.link new.link old.so_far new.so_far one.goes one.count in
     record { gained = r.0; risen = r.1; grows = r.2 }
-
-risen_first : (a b c : ℕ) → b ≤ c → HasRisen a b → HasRisen a c
-risen_first a b c le h = λ lt. let x = h (omega arith) in omega arith
-
-risen_then : (a b c : ℕ) → a ≤ b → HasRisen b c → HasRisen a c
-risen_then a b c le h = λ lt. let x = h lt in omega arith
 
 record Grows (w : Way) (bs : List Batch) (old new : At) : Type 0 where
   carries : Carries w bs old new
@@ -68,7 +53,7 @@ record Grows (w : Way) (bs : List Batch) (old new : At) : Type 0 where
 
 each_grows : (w : Way) (bs : List Batch) (old new : At) → DeliversEach w bs old new → Grows w bs old new
 each_grows w [] old new h = subst (λ (x : At). Grows w [] old x) (sym h) (record {
-  carries = record { gained = gains_none old.link.traffic old.link.traffic refl; nexts = refl; bound = refl; later = omega arith; risen = λ lt. absurd (omega arith) };
+  carries = record { gained = gains_nothing old.link.traffic old.link.traffic refl; nexts = refl; bound = refl; later = omega arith; risen = λ lt. absurd (omega arith) };
   grows = omega arith;
 })
 each_grows w (b ∷ bs) old new h =
@@ -92,8 +77,8 @@ each_grows w (b ∷ bs) old new h =
     }
   where
     by_place : {a b c f g k : ℕ} → (a < b) ⊎ (b ≤ a) → a < c → f ≤ g → g ≤ k → (a < b → HasRisen f g) → (b < c → HasRisen g k) → HasRisen f k
-    by_place {a} {b} {c} {f} {g} {k} (inl up) lt first then one two = risen_first f g k then (one up)
-    by_place {a} {b} {c} {f} {g} {k} (inr low) lt first then one two = risen_then f g k first (two (omega arith))
+    by_place {a} {b} {c} {f} {g} {k} (inl up) lt first then one two = risen_more f g k then (one up)
+    by_place {a} {b} {c} {f} {g} {k} (inr low) lt first then one two = risen_less f g k first (two (omega arith))
 
 pub link_carries : LinkCarries
 link_carries w bs old new h = (each_grows w bs old new h).carries

@@ -4,7 +4,7 @@ use Rattle.std.specs.Prelude.{replicate}
 use Rattle.std.specs.List.{AllByRecursion}
 use Rattle.std.specs.Int.{w32, to_be_bytes}
 use Rattle.std.proofs.lemmas.Bool.{cases_lt}
-use Rattle.std.proofs.lemmas.List.{length-take, length-append, take_at}
+use Rattle.std.proofs.lemmas.List.{length-take, length-append, take_at, drop_all}
 use Rattle.pp_terms.specs.format.Descriptor.{Descriptor}
 use Rattle.pp_terms.specs.format.Options.{IsBytes}
 use Rattle.pp_terms.specs.format.Messages.{Message}
@@ -86,12 +86,6 @@ drop_at_index [] k x lt = absurd (omega arith)
 drop_at_index (n ∷ notes) zero x lt = refl
 drop_at_index (n ∷ notes) (suc k) x lt = drop_at_index notes k x (omega arith)
 
-drop_none : (notes : List Note) (k : ℕ) → length notes ≤ k → drop k notes ≡ []
-drop_none [] zero le = refl
-drop_none [] (suc k) le = refl
-drop_none (n ∷ notes) zero le = absurd (omega arith)
-drop_none (n ∷ notes) (suc k) le = drop_none notes k (omega arith)
-
 -- all notes have room
 pub packs_all : (d : Descriptor) (channel : ℕ) (notes : List Note) (k count end : ℕ) (out : List ℕ) → count ≡ k → 0 < d.chunk → channel < 2 ^ 32 → IsBytes out → length out ≡ 16384
     → 0 < length notes → k ≤ length notes → length notes ≤ k → HasPacked d channel notes k end out → Packs d channel notes count (take end out)
@@ -102,7 +96,7 @@ packs_all d channel notes k count end out same some low fits size any within all
       written = front_datagram d channel packed.messages end out some low fits size packed.front;
       some = omega arith;
       within = within;
-      full = subst (λ (rest : List Note). LacksRoom d (take end out) rest) (sym (drop_none notes k all)) tt;
+      full = subst (λ (rest : List Note). LacksRoom d (take end out) rest) (sym (drop_all k notes all)) tt;
     })
 
 -- one has none

@@ -14,6 +14,7 @@ use Rattle.pp_outside.specs.Outside.{address_of}
 use Rattle.pp_outside.specs.declared.link.Address.{Address}
 use Rattle.pp_channels.specs.Seats.{AreSeats, is_begun, is_source}
 use Rattle.pp_channels.specs.declared.channel.Channel.{Channel}
+use Rattle.pp_promises.proofs.ReadStories.{unread_before}
 use Rattle.pp_lives.specs.Reading.{is_blank}
 use Rattle.pp_promises.specs.ReadStory.{is_read, read_story}
 use Rattle.pp_lives.specs.Reading.{is_proven, is_waiting}
@@ -26,7 +27,7 @@ use Rattle.pp_lives.proofs.Staying.{began, waits_dialled, waits_unproven, at_apa
 use Rattle.pp_lives.proofs.Own.{stands_of, still_apart, at_seat_now}
 use Rattle.pp_lives.proofs.Edits.{steady_waits, steady_alike, source_moves, was_steady}
 use Rattle.pp_lives.proofs.Sent.{sent_misses, stands_said, told_unsaid}
-use Rattle.pp_lives.proofs.Opened.{closed_at_opening, none_told}
+use Rattle.pp_lives.proofs.Opened.{closed_at_opening}
 
 -- nothing of it is said on any life whose peer's number isn't 0
 pub dial_says_none : (d : Descriptor) (c : Channel) (l : Life) (r : Record) → IsDialOf d c r → 0 < l.remote → said_in d l r ≡ []
@@ -107,7 +108,7 @@ blank_first d c moment receiver bytes past remote is some =
     let said : List Line = say (now past) (said_in d life r) (read_story d life past) in
     cond-true (leb (length past) (length past)) (cond (is_read d life (r ∷ past)) said said) [] from
     ∙ same_both (is_read d life (r ∷ past)) said said refl
-    ∙ ap (λ (ms : List Message). say (now past) ms (read_story d life past)) (dial_says_none d c life r is some) ∙ none_told d life past (omega arith)
+    ∙ ap (λ (ms : List Message). say (now past) ms (read_story d life past)) (dial_says_none d c life r is some) ∙ unread_before d life past (omega arith)
 
 -- The first handshake was sent: the life begins.
 pub dialled_seated : (d : Descriptor) (t new : Seats) (lives : ℕ → Option Life) (seat : ℕ) (c c' : Channel) (moment : ℕ) (receiver : traffic.Address) (bytes : List ℕ) (past : List Record)

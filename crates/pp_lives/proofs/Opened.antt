@@ -13,6 +13,7 @@ use Rattle.pp_outside.specs.Outside.{address_of, is_same}
 use Rattle.pp_outside.specs.declared.link.Address.{Address}
 use Rattle.pp_channels.specs.Seats.{AreSeats, is_source, has_remote, answered}
 use Rattle.pp_channels.specs.declared.channel.Channel.{Channel}
+use Rattle.pp_promises.proofs.ReadStories.{unread_before}
 use Rattle.pp_lives.specs.Reading.{is_blank}
 use Rattle.pp_promises.specs.ReadStory.{read_story}
 use Rattle.pp_lives.specs.Reading.{is_waiting}
@@ -52,10 +53,6 @@ closed_at_opening d life r past le =
     (and_left (ltb life.opening (length past) && closes_on d life r) (not life.is_dialled || shakes_on d life r || some_since (shakes_on d life) life.opening past)
     (and_left (ltb life.opening (length past)) (closes_on d life r) (le-ltb life.opening (length past) le)))
     (none_closed d life past le)
-
-pub none_told : (d : Descriptor) (life : Life) (past : List Record) → length past ≤ life.opening → read_story d life past ≡ []
-none_told d life [] le = refl
-none_told d life (r ∷ past) le = let early : leb life.opening (length past) ≡ false = lt-leb life.opening (length past) (omega arith) in rw early refl
 
 stands_opened : (d : Descriptor) (t : Seats) (seat : ℕ) (sender : Address) (remote local moment : ℕ) (bytes : List ℕ) (past : List Record)
     → IsOpeningFor d t seat sender remote local (Received moment (address_of sender) bytes)
@@ -169,7 +166,7 @@ opened_tells d t new lives seat sender remote local moment bytes past s is ch =
     (and_from (comes_from l'.address r) (is_number 0 (read d r).channel) is.from (ap (is_number 0) is.number)) is.fitting in
     let since_opening : leb (length past) (length past) ≡ true = le-leb (length past) (length past) (omega arith) in
     let at_opening : eqb (length past) (length past) ≡ true = eq-eqb (length past) (length past) refl in
-    let none : read_story d l' past ≡ [] = none_told d l' past (omega arith) in
+    let none : read_story d l' past ≡ [] = unread_before d l' past (omega arith) in
     record {
       none = ap (λ (o : Option Channel). read_of d o (lives seat) past) is.free;
       own = record {

@@ -30,7 +30,6 @@ use Rattle.pp_core.specs.Counting.{tally_of}
 use Rattle.pp_core.specs.Sends.{IsOurs, HasShape, WasDamaged}
 use Rattle.pp_core.specs.Standing.{State, IsWhole, DialsNone, StandsFor}
 use Rattle.pp_core.specs.Writing.{hash_of, path_nodes}
-use Rattle.pp_core.proofs.Relations.{gains_nothing}
 use Rattle.pp_node.specs.Looking.{IsOf, Lasts}
 use Rattle.pp_node.specs.Outside.{Outside}
 use Rattle.pp_node.specs.Preparing.{IsUnsent, IsReady, HasPrepared, LeavesDisk, LeavesLink}
@@ -43,7 +42,7 @@ use Rattle.pp_node.specs.declared.preparing.SeedFault.{SeedFault}
 use Rattle.pp_node.specs.declared.preparing.SeedFault.TheVariants as fault
 use Rattle.pp_node.specs.declared.status.Status.{Status}
 use Rattle.pp_node.specs.declared.status.Status.TheVariants.{Done, Usage, NotAStore, Incomplete, DiskFault, LinkFault, SourceFault, SinkFault, NotEmpty, ContentSize, Memory, Damaged}
-use Rattle.pp_node.proofs.Turns.{risen_less}
+use Rattle.pp_terms.proofs.Risings.{risen_less, gains_nothing}
 use Rattle.pp_node.proofs.Readies.{since_later}
 
 -- ---- no announced chunk is lost

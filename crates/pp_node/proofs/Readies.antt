@@ -31,7 +31,7 @@ use Rattle.pp_node.specs.declared.preparing.SeedFault.{SeedFault}
 use Rattle.pp_node.specs.declared.preparing.SeedFault.TheVariants.{NotAStore, Disk, Link, Memory}
 use Rattle.pp_node.specs.declared.preparing.Ready.{Ready}
 use Rattle.pp_node.proofs.Looks.{none_other, fresh_kept, other_kept, other_since}
-use Rattle.pp_node.proofs.Turns.{risen_less}
+use Rattle.pp_terms.proofs.Risings.{risen_less}
 
 -- ---- what stood goes on standing
 

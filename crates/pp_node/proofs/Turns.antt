@@ -26,7 +26,8 @@ use Rattle.pp_core.specs.Serving.{HasPaths}
 use Rattle.pp_core.specs.Standing.{State, IsWhole, StandsFor}
 use Rattle.pp_core.proofs.Counted.{CountsTurn, event_counted, event_refusals, refusal_counted, sent_turns, sent_refusals, sent_sound, sent_whole}
 use Rattle.pp_core.proofs.Prompts.{lets_event, serves_turn}
-use Rattle.pp_core.proofs.Relations.{gains_twice, gains_nothing, all_both, reads_twice}
+use Rattle.pp_core.proofs.Relations.{all_both, reads_twice}
+use Rattle.pp_terms.proofs.Risings.{risen_more, risen_less, gains_nothing, gains_twice}
 use Rattle.pp_core.proofs.Servings.{reads_nothing}
 use Rattle.pp_core.proofs.Staying.{event_descriptor, event_committed, paths_kept}
 use Rattle.pp_core.proofs.Turning.{stands_event, stands_refused}
@@ -51,12 +52,6 @@ waits_took seen mid s taken event buffer whole fits gained is =
     (subst (λ (r : Record). GainsRecords seen.traffic (r ∷ []) mid.traffic) (sym (same_record event buffer)) gained) is
 
 -- ---- counts of devices
-
-risen_more : (a b c : ℕ) → b ≤ c → HasRisen a b → HasRisen a c
-risen_more a b c le risen below = let lt = risen (omega (arith, le, below)) in omega (arith, lt, le)
-
-pub risen_less : (a b c : ℕ) → a ≤ b → HasRisen b c → HasRisen a c
-risen_less a b c le risen below = let lt = risen below in omega (arith, lt, le)
 
 -- ---- ends of turns
 

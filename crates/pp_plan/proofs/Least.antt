@@ -1,6 +1,6 @@
 -- Brought hashes complete a path exactly where all of its plan is among them.
 use Rattle.std.proofs.Common.{◌≡◌, ⊎_elim, ℕ, zero, suc, ◌+◌, ◌*◌, ◌/◌, ◌^◌, ◌<◌, ◌≤◌, Bool, true, false, cond, not, ◌&&◌, ◌||◌, List, [], ◌∷◌, ◌++◌, refl, sym, ◌∙◌, ap, arith, add-one, pow-suc}
-use Rattle.std.proofs.lemmas.Bool.{cases_Bool, or_parts, both_ways, cond-true, cond-false}
+use Rattle.std.proofs.lemmas.Bool.{cases_Bool, or_parts, both_ways, cond-true, cond-false, and_left}
 use Rattle.std.proofs.lemmas.List.Folds.{list_all-append}
 use Rattle.std.specs.List.{list_all}
 use Rattle.pp_terms.specs.tree.Tree.{Node, height, peaks, above, is_peak, leaf_at}
@@ -94,12 +94,8 @@ all_same p q none (x ∷ xs) = ap (λ (b : Bool). b && list_all p xs) (or_none (
 sent_all : (p q : Node → Bool) → ((n : Node) → q n ≡ false) → (xs : List Node) → list_all p (cond (list_all q xs) [] xs) ≡ list_all (λ n. p n || q n) xs
 sent_all p q none [] = refl
 sent_all p q none (x ∷ xs) =
-    ap (λ (ys : List Node). list_all p ys) (cond-false (q x && list_all q xs) [] (x ∷ xs) (no_more (q x) (list_all q xs) (none x)))
+    ap (λ (ys : List Node). list_all p ys) (cond-false (q x && list_all q xs) [] (x ∷ xs) (and_left (q x) (list_all q xs) (none x)))
     ∙ all_same p q none (x ∷ xs)
-  where
-    no_more : (b c : Bool) → b ≡ false → (b && c) ≡ false
-    no_more true c e = absurd cc
-    no_more false c e = refl
 
 peaks_sent : (chunks : ℕ) (brought told : Node → Bool) → IsTold chunks told → list_all brought (cond (list_all told (peaks chunks)) [] (peaks chunks)) ≡ ready chunks brought told
 peaks_sent chunks brought told is = ⊎_elim

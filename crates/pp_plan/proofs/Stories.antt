@@ -1,6 +1,6 @@
 -- What a story's messages tell is all peaks or nothing.
 use Rattle.std.proofs.Common.{◌≡◌, inl, inr, ⊎_elim, ℕ, Bool, true, false, nat_le, nat_lt, ◌&&◌, ◌||◌, List, [], ◌∷◌, refl}
-use Rattle.std.proofs.lemmas.Bool.{cases_Bool, and_parts, and_from, or_right, or_left, or_from}
+use Rattle.std.proofs.lemmas.Bool.{cases_Bool, and_parts, and_from, or_right, or_left, or_from, and_left}
 use Rattle.std.specs.List.{list_any, list_all}
 use Rattle.pp_terms.specs.tree.Tree.{Node, height, peaks, same_node, is_peak}
 use Rattle.pp_terms.specs.tree.Bins.{parent_of}
@@ -32,19 +32,15 @@ tells_together chunks span = ⊎_elim
     (λ some. inl (all_wider (is_peak chunks) (tells chunks span)
     (λ n e. and_from (nat_lt span.first chunks && nat_le span.first span.last) (is_peak chunks n || (nat_lt n.layer (height chunks) && meets chunks span (parent_of n))) some
     (or_left (is_peak chunks n) (nat_lt n.layer (height chunks) && meets chunks span (parent_of n)) e)) (peaks chunks) (peaks_are chunks)))
-    (λ none. inr (λ n. no_more (nat_lt span.first chunks && nat_le span.first span.last) (is_peak chunks n || (nat_lt n.layer (height chunks) && meets chunks span (parent_of n))) none))
+    (λ none. inr (λ n. and_left (nat_lt span.first chunks && nat_le span.first span.last) (is_peak chunks n || (nat_lt n.layer (height chunks) && meets chunks span (parent_of n))) none))
     (cases_Bool (nat_lt span.first chunks && nat_le span.first span.last))
-  where
-    no_more : (b c : Bool) → b ≡ false → (b && c) ≡ false
-    no_more true c e = absurd cc
-    no_more false c e = refl
 
 pub either_told : (chunks : ℕ) (one other : Node → Bool) → IsTold chunks one → IsTold chunks other → IsTold chunks (λ n. one n || other n)
 either_told chunks one other a b = ⊎_elim
     (λ all. inl (all_wider one (λ n. one n || other n) (λ n e. or_left (one n) (other n) e) (peaks chunks) all))
     (λ none. ⊎_elim
     (λ all. inl (all_wider other (λ n. one n || other n) (λ n e. or_right (one n) (other n) e) (peaks chunks) all))
-    (λ no_more. inr (λ n. or_from (one n) (other n) (none n) (no_more n)))
+    (λ and_left. inr (λ n. or_from (one n) (other n) (none n) (and_left n)))
     b)
     a
 

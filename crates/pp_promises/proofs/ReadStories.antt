@@ -1,6 +1,6 @@
 -- How what is read of a channel stands to its whole story.
 use Rattle.std.proofs.Common.{◌≡◌, ⊎_elim, ℕ, ◌<◌, leb, ltb, eqb, Bool, true, false, cond, not, ◌&&◌, ◌||◌, List, [], ◌∷◌, length, drop, refl, sym, ◌∙◌, ap, subst, MatchBool, arith}
-use Rattle.std.proofs.lemmas.Bool.{and_parts, and_from, and_right, or_parts, or_cases, or_left, or_right, leb-false, le-leb, lt-ltb}
+use Rattle.std.proofs.lemmas.Bool.{and_parts, and_from, and_right, or_parts, or_cases, or_left, or_right, leb-false, le-leb, lt-ltb, lt-leb}
 use Rattle.pp_terms.specs.format.Traffic.{Record, Received, Quiet, Sent}
 use Rattle.pp_terms.specs.tree.Tree.{Node}
 use Rattle.pp_terms.specs.format.Descriptor.{Descriptor}
@@ -227,10 +227,6 @@ after_all : (i at : ℕ) (ms : List Message) (o : Bool) (s : List Line) → (o �
 after_all i at [] o s f e = f e
 after_all i at (m ∷ ms) o s f e = after_all i at ms (asked_after i m o) (Said at m ∷ s) (after_asks i m o (asked i s) f) e
 
-pub or_false : (x y : Bool) → (x || y) ≡ false → x ≡ false
-or_false true y e = e
-or_false false y e = refl
-
 owed_asks : (d : Descriptor) (life : Life) (i : ℕ) (o barred : Bool) (at : ℕ) (r : Record) (owed : Bool) (s : List Line) → (barred ≡ false → choked s ≡ false) → (owed ≡ true → asked i s ≡ true)
     → owed_after d life i o barred r owed ≡ true → asked i (told d life o at r s) ≡ true
 owed_asks d life i o barred at (Received a sender bytes) owed s free f e = in_asks i at barred (heard_in d life o (Received a sender bytes)) owed s free f e
@@ -245,7 +241,7 @@ owed_is_asked d life i (r ∷ b) e = pick (leb life.opening (length b)) (owed_is
         → cond x (owed_after d life i (eqb life.opening (length b)) (choked (story d life b) || not (is_announced d i b)) r (is_owed d life i b)) false ≡ true
         → asked i (cond x (told d life (eqb life.opening (length b)) (now (r ∷ b)) r (story d life b)) []) ≡ true
     pick true ih w = owed_asks d life i (eqb life.opening (length b)) (choked (story d life b) || not (is_announced d i b)) (now (r ∷ b)) r (is_owed d life i b) (story d life b)
-        (or_false (choked (story d life b)) (not (is_announced d i b))) ih w
+        (λ e. (or_parts (choked (story d life b)) (not (is_announced d i b)) e).0) ih w
     pick false ih w = absurd cc
 
 -- ---- all is read of a plain channel
@@ -355,3 +351,8 @@ plains_are_read d life past plain = by_kind life.is_dialled refl plain.begins
     by_kind : (x : Bool) → life.is_dialled ≡ x → MatchBool x (IsPlainDial d life past past) (IsPlainAnswer d life past) → read_story d life past ≡ story d life past
     by_kind true e begins = (whole d life past e begins.replied plain.fresh).same
     by_kind false e begins = answers_are_read d life past e
+
+-- before the opening nothing is read
+pub unread_before : (d : Descriptor) (life : Life) (past : List Record) → length past ≤ life.opening → read_story d life past ≡ []
+unread_before d life [] le = refl
+unread_before d life (r ∷ past) le = let early : leb life.opening (length past) ≡ false = lt-leb life.opening (length past) (omega arith) in rw early refl

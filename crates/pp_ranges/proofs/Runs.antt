@@ -16,7 +16,7 @@ runs_weaken a b [] le h = tt
 runs_weaken a b (x ∷ xs) le h = (omega (arith, h.0), h.1, h.2)
 
 -- Bool's laws that are needed
-or_swap : (a b c : Bool) → (a || (b || c)) ≡ (b || (a || c))
+pub or_swap : (a b c : Bool) → (a || (b || c)) ≡ (b || (a || c))
 or_swap true true c = refl
 or_swap true false c = refl
 or_swap false true c = refl

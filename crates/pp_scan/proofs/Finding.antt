@@ -1,7 +1,7 @@
 -- What a scan finds, step by step.
 use Rattle.std.proofs.Common.{◌≡◌, ◌⊎◌, inl, inr, ⊎_elim, ℕ, suc, ◌^◌, ◌<◌, ◌≤◌, Bool, true, false, not, List, [], length, get_or, replicate, Result, Ok, Err, refl, sym, ◌∙◌, ap, subst, arith}
 use Rattle.std.specs.Prelude.{◌&&◌, is_some}
-use Rattle.std.proofs.lemmas.Bool.{false≢true, and_parts}
+use Rattle.std.proofs.lemmas.Bool.{false≢true, and_parts, and_right}
 use Rattle.std.proofs.lemmas.List.{length-replicate}
 use Rattle.pp_terms.specs.tree.Content.{chunk_length}
 use Rattle.pp_terms.specs.tree.Book.{LookUp, has_peaks}
@@ -22,7 +22,7 @@ use Rattle.pp_scan.specs.Holding.{is_there}
 use Rattle.pp_scan.specs.Scan.{IsScanned, HasFound}
 use Rattle.pp_scan.specs.Verify.{IsVerified, HasVerified}
 use Rattle.pp_scan.proofs.Reading.{known_after}
-use Rattle.pp_scan.proofs.Holds.{found_is, held_there, none_held, and_false, empty_none, empty_known}
+use Rattle.pp_scan.proofs.Holds.{found_is, held_there, none_held, empty_none, empty_known}
 use Rattle.pp_scan.proofs.Slots.{slot_or_last}
 
 -- a chunk has a byte
@@ -162,7 +162,7 @@ pub verified_none : (d : Descriptor) (disk : DiskState) (book : LookUp) (set set
     → IsVerified d disk book set'
 verified_none d disk book set set' room count lacks known_is kept =
     let out : (i : ℕ) → get_or set' i false ≡ false = λ i. kept i ∙ ap (λ (b : Bool). get_or set i false && b && is_some (book 0 i)) lacks
-    ∙ ap (λ (b : Bool). b && is_some (book 0 i)) (and_false (get_or set i false)) in
+    ∙ ap (λ (b : Bool). b && is_some (book 0 i)) (and_right (get_or set i false) false refl) in
     record {
       count = count ∙ room;
       leaf = λ i is. absurd (false≢true (sym (out i) ∙ is));

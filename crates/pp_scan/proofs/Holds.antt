@@ -2,7 +2,7 @@
 use Rattle.std.proofs.Common.{◌≡◌, ⊎_elim, ℕ, suc, ◌-◌, ◌/◌, ◌<◌, ◌==◌, nat_eq, nat_le, Bool, true, false, cond, Option, Some, None, List, [], length, refl, sym, ◌∙◌, ap, arith}
 use Rattle.std.specs.Prelude.{◌&&◌, is_some}
 use Rattle.std.specs.Cmp.Lexicographic.{pointwise}
-use Rattle.std.proofs.lemmas.Bool.{cases_lt}
+use Rattle.std.proofs.lemmas.Bool.{cases_lt, and_right}
 use Rattle.std.proofs.lemmas.Bool.Decides.{nat_tests}
 use Rattle.sha2.specs.Sha256.{sha256}
 use Rattle.pp_terms.specs.tree.Content.{chunk_length}
@@ -40,10 +40,6 @@ held_there d reads book i known_is peaks =
     ap (λ (b : LookUp). is_there d reads b i) same
     ∙ sym (ap (λ (t : Bool). t && (length bytes == chunk_length d.size d.chunk i) && matches (known d reads 0 i) (sha256 bytes)) peaks')
 
-pub and_false : (b : Bool) → (b && false) ≡ false
-and_false true = refl
-and_false false = refl
-
 -- in a sound file a chunk that was found is there
 pub found_there : (d : Descriptor) (reads : List ℕ) (book : LookUp) (i : ℕ) → HasKnown d reads book → has_peaks book (chunks_of d) ≡ true
     → HasHeader d reads → IsSound d reads → i < chunks_of d → is_found d reads i ≡ true → is_there d reads book i ≡ true
@@ -61,8 +57,8 @@ found_is d reads book i b known_is gate = by (is_some (book 0 i)) refl
         → (b && has_peaks book (chunks_of d) && is_some (book 0 i)) ≡ (is_open d reads i && has_peaks book (chunks_of d) && is_some (book 0 i))
     by true at = ap (λ (v : Bool). v && has_peaks book (chunks_of d) && is_some (book 0 i)) (gate at)
     by false at =
-        ap (λ (v : Bool). b && has_peaks book (chunks_of d) && v) at ∙ and_false (b && has_peaks book (chunks_of d))
-        ∙ sym (ap (λ (v : Bool). is_open d reads i && has_peaks book (chunks_of d) && v) at ∙ and_false (is_open d reads i && has_peaks book (chunks_of d)))
+        ap (λ (v : Bool). b && has_peaks book (chunks_of d) && v) at ∙ and_right (b && has_peaks book (chunks_of d)) false refl
+        ∙ sym (ap (λ (v : Bool). is_open d reads i && has_peaks book (chunks_of d) && v) at ∙ and_right (is_open d reads i && has_peaks book (chunks_of d)) false refl)
 
 -- without all peaks nothing is held
 pub none_held : (d : Descriptor) (reads : List ℕ) (book : LookUp) (i : ℕ) → HasKnown d reads book → has_peaks book (chunks_of d) ≡ false

@@ -10,6 +10,7 @@ use Rattle.pp_terms.specs.format.Descriptor.{Descriptor, chunks_of, height_of}
 use Rattle.pp_terms.specs.disk.Image.{is_open}
 use Rattle.pp_terms.specs.disk.Store.{pair_slot}
 use Rattle.pp_terms.proofs.Peaks.{above_is}
+use Rattle.pp_terms.proofs.Facts.{which_half}
 use Rattle.pp_scan.specs.Layers.{IsUnder, IsBareUnder}
 use Rattle.pp_scan.specs.Gates.{IsSlotUnder, ShowsGates}
 use Rattle.pp_scan.proofs.Layering.{under_child, bare_child, layer_up}
@@ -86,10 +87,7 @@ half_slot k i c s half under =
     (λ odd. let low : c * 2 ^ k ≡ (2 * i + 1) * 2 ^ k = ap (λ (n : ℕ). n * 2 ^ k) odd in
     let high : (c + 1) * 2 ^ k ≡ (2 * i + 1 + 1) * 2 ^ k = ap (λ (n : ℕ). (n + 1) * 2 ^ k) odd in
     record { from = omega (arith, under.from, low, size.0, size.3); to = omega (arith, under.to, high, size.1, size.4) })
-    (which c i half)
-  where
-    which : (c i : ℕ) → c / 2 ≡ i → (c ≡ 2 * i) ⊎ (c ≡ 2 * i + 1)
-    which c i half = ⊎_elim (λ e. inl e) (λ ne. inr (omega (arith, half, ne))) (cases_eq c (2 * i))
+    (which_half c i half)
 
 pub not_left : (k i : ℕ) → IsSlotUnder k (2 * i) (pair_slot k i) → ⊥
 not_left k i under = let size = sizes k i in let pos : 0 < 2 ^ k = pow_pos k in omega (arith, under.to, size.0, size.3, pos)

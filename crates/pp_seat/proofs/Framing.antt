@@ -1,4 +1,5 @@
 -- The frame and the tale of a channel's seat, record by record.
+use Rattle.pp_promises.proofs.ReadStories.{unread_before}
 use Rattle.pp_seat.proofs.Answering.{none_left}
 use Rattle.pp_traffic.proofs.Plains.{none_from_end}
 use Rattle.pp_traffic.proofs.OneMore.{story_opening}
@@ -14,6 +15,7 @@ use Rattle.pp_traffic.specs.Life.{Life, comes_on}
 use Rattle.pp_traffic.specs.Story.{Line, Heard, Said, Taken, hear, say, heard_in, said_in, told, story}
 use Rattle.pp_traffic.specs.Asking.{choked, asked_by, asked_after, asked, is_heard, asks_in, most_asks}
 use Rattle.pp_traffic.specs.Fates.{clock}
+use Rattle.pp_traffic.proofs.Chokes.{heard_choked, said_none}
 use Rattle.pp_promises.specs.LastTurn.{earlier}
 use Rattle.pp_promises.specs.OwnSide.{has_in}
 use Rattle.pp_promises.specs.ReadStory.{with_unread, is_read, read_story, proven_story}
@@ -225,35 +227,13 @@ owed_keeps d life place i o barred at (Sent moment receiver bytes) owed s le fre
     after_keeps place i at (said_in d life (Sent moment receiver bytes)) owed s f e
 
 -- what isn't announced isn't owed
-barred_heard : (i : ℕ) (m : Message) (o : Bool) → o ≡ false → asked_by i true m o ≡ false
-barred_heard i (Request span) o none = nothing _ o none
-  where
-    nothing : (w o : Bool) → o ≡ false → ((w && false) || o) ≡ false
-    nothing true o e = e
-    nothing false o e = e
-barred_heard i (Cancel span) o none = nothing _ o none
-  where
-    nothing : (w o : Bool) → o ≡ false → (w && o) ≡ false
-    nothing true o e = e
-    nothing false o e = refl
-barred_heard i _ o none = none
-
-none_after : (i : ℕ) (m : Message) (o : Bool) → o ≡ false → asked_after i m o ≡ false
-none_after i (Data chunk sent_at bytes) o none = nothing _ o none
-  where
-    nothing : (w o : Bool) → o ≡ false → (w && o) ≡ false
-    nothing true o e = e
-    nothing false o e = refl
-none_after i Choke o none = refl
-none_after i _ o none = none
-
 barred_all : (i : ℕ) (ms : List Message) (o : Bool) → o ≡ false → asked_after_heard i true ms o ≡ false
 barred_all i [] o none = none
-barred_all i (m ∷ ms) o none = barred_all i ms (asked_by i true m o) (barred_heard i m o none)
+barred_all i (m ∷ ms) o none = barred_all i ms (asked_by i true m o) (heard_choked i m o none)
 
 after_none : (i : ℕ) (ms : List Message) (o : Bool) → o ≡ false → asked_after_said i ms o ≡ false
 after_none i [] o none = none
-after_none i (m ∷ ms) o none = after_none i ms (asked_after i m o) (none_after i m o none)
+after_none i (m ∷ ms) o none = after_none i ms (asked_after i m o) (said_none i m o none)
 
 owed_none : (d : Descriptor) (life : Life) (i : ℕ) (o : Bool) (r : Record) (owed : Bool) → owed ≡ false → owed_after d life i o true r owed ≡ false
 owed_none d life i o (Received a sender bytes) owed none = barred_all i (heard_in d life o (Received a sender bytes)) owed none
@@ -569,16 +549,6 @@ tale_opened d life at sender bytes past opens answered elsewhere =
     first true true p q = absurd (false≢true (sym q))
     first true false p q = refl
     first false y p q = absurd (false≢true p)
-
-unread_before : (d : Descriptor) (life : Life) (past : List Record) → length past ≤ life.opening → read_story d life past ≡ []
-unread_before d life [] le = refl
-unread_before d life (r ∷ b) le = by (nat_le life.opening (length b)) refl
-  where
-    by : (x : Bool) → nat_le life.opening (length b) ≡ x
-        → cond x (cond (is_read d life (r ∷ b)) (told d life (eqb life.opening (length b)) (now (r ∷ b)) r (read_story d life b))
-        (with_unread d life (eqb life.opening (length b)) (now (r ∷ b)) r (read_story d life b))) [] ≡ []
-    by true is = absurd (let low : life.opening ≤ length b = leb-true life.opening (length b) is in omega arith)
-    by false is = refl
 
 tale_dialled : (d : Descriptor) (life : Life) (moment : ℕ) (receiver : Address) (bytes : List ℕ) (past : List Record) → life.opening ≡ length past
     → IsSameTale (with_said (now past) (said_in d life (Sent moment receiver bytes)) false no_tale) (tale_of d life (Sent moment receiver bytes ∷ past))

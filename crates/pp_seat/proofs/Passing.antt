@@ -14,6 +14,7 @@ use Rattle.pp_traffic.specs.Asking.{choked_by, choked, asked_by, asked_after, as
 use Rattle.pp_traffic.specs.Claims.{claims_in, with_claim}
 use Rattle.pp_traffic.specs.Hashes.{tells, is_told}
 use Rattle.pp_traffic.specs.Meter.{Meter, meter, covers, hits, acked, settled}
+use Rattle.pp_traffic.proofs.Chokes.{said_none, said_choked}
 use Rattle.pp_promises.specs.Announced.{is_told_of}
 use Rattle.pp_promises.specs.OwnSide.{is_old, has_old_request, is_choked_by_peer, is_offered}
 use Rattle.pp_seat.specs.Lines.{inside, asked_since, names_at, is_named_at, last_answer, last_question, Tale, with_line, with_said}
@@ -33,18 +34,6 @@ heard_barred i is_barred (Request span) before barred none =
     or_from (within span i && not is_barred) before (and_right (within span i) (not is_barred) (ap (λ (b : Bool). not b) barred)) none
 heard_barred i is_barred (Cancel span) before barred none = and_right (not (within span i)) before none
 heard_barred i is_barred _ before barred none = none
-
-said_none : (i : ℕ) (m : Message) (before : Bool) → before ≡ false → asked_after i m before ≡ false
-said_none i (Data chunk sent_at bytes) before none = and_right (not (eqb chunk i)) before none
-said_none i Choke before none = refl
-said_none i _ before none = none
-
-said_choked : (i : ℕ) (is_choked : Bool) (m : Message) (before : Bool) → choked_by m is_choked ≡ true → (is_choked ≡ true → before ≡ false)
-    → asked_after i m before ≡ false
-said_choked i is_choked (Data chunk sent_at bytes) before stands none = and_right (not (eqb chunk i)) before (none stands)
-said_choked i is_choked Choke before stands none = refl
-said_choked i is_choked Unchoke before stands none = absurd (false≢true stands)
-said_choked i is_choked _ before stands none = none stands
 
 pub choked_none : (place i : ℕ) (story : List Line) → choked story ≡ true → asked_since place i story ≡ false
 choked_none place i [] e = refl

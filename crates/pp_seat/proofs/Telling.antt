@@ -1,6 +1,6 @@
 -- What a story says once several REQUESTs, HAVEs or addresses were sent.
 use Rattle.std.proofs.Common.{◌≡◌, ◌⊎◌, inl, inr, ⊎_elim, ℕ, ◌+◌, ◌≤◌, max, eqb, Bool, true, false, ◌&&◌, ◌||◌, Option, Some, List, [], ◌∷◌, map, refl, ◌∙◌, ap, arith}
-use Rattle.std.proofs.lemmas.Bool.{and_from, and_right, or_cases, or_left, or_right, or_from, false≢true, eq-eqb}
+use Rattle.std.proofs.lemmas.Bool.{and_from, and_right, or_cases, or_left, or_right, or_from, false≢true, eq-eqb, and_left}
 use Rattle.std.proofs.lemmas.Bool.Decides.{nat_tests}
 use Rattle.pp_terms.specs.format.Messages.{Message, Have, Request, Pex4, Pex6}
 use Rattle.pp_terms.specs.tree.Range.{Span, within, has}
@@ -99,11 +99,8 @@ haves_fresh cursor range now p spans t refused split h = record {
     out : (i : ℕ) → max cursor (range.last + 1) ≤ i → within range i ≡ false
     out i high = grind (arith, nat_tests)
 
-    neither : (a b : Bool) → a ≡ false → (a && b) ≡ false
-    neither a b e = ap (λ (x : Bool). x && b) e
-
     off : (i : ℕ) → max cursor (range.last + 1) ≤ i → (has spans i && p) ≡ false
-    off i high = neither (has spans i) p (split i ∙ out i high)
+    off i high = and_left (has spans i) p (split i ∙ out i high)
 
 -- ---- addresses
 

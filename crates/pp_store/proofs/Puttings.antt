@@ -3,7 +3,7 @@ use Rattle.std.proofs.Common.{◌≡◌, ◌⊎◌, inl, inr, ⊎_elim, ℕ, ◌
 use Rattle.std.specs.Prelude.{◌||◌, ◌&&◌, OnErr, IfOk, IsOk, is_some}
 use Rattle.std.proofs.Math.ListN.{set, length-set}
 use Rattle.std.proofs.Math.Bool.{or-true}
-use Rattle.std.proofs.lemmas.Bool.{cases_eq, false≢true, and_parts}
+use Rattle.std.proofs.lemmas.Bool.{cases_eq, false≢true, and_parts, or_parts}
 use Rattle.sha2.specs.Sha256.{sha256}
 use Rattle.pp_terms.specs.Count.{HasCause}
 use Rattle.pp_terms.specs.tree.Content.{chunk_length}
@@ -36,12 +36,6 @@ either_case a b e = elim a as (λ v. (v || b) ≡ true → (v ≡ true) ⊎ (b �
 
 pub either_left : (a b : Bool) → a ≡ true → (a || b) ≡ true
 either_left a b e = ap (λ (v : Bool). v || b) e
-
-pub either_right : (a b : Bool) → b ≡ true → (a || b) ≡ true
-either_right a b e = ap (λ (v : Bool). a || v) e ∙ or-true a
-
-left_out : (a b : Bool) → (a || b) ≡ false → a ≡ false
-left_out a b e = elim a as (λ v. (v || b) ≡ false → v ≡ false) [ true ↦ λ h. h | false ↦ λ h. refl ] e
 
 other_set : (committed pending : List Bool) (i l : ℕ) → (l ≡ i → ⊥) → in_either committed (set pending i true) l ≡ in_either committed pending l
 other_set committed pending i l ne = ap (λ (b : Bool). get_or committed l false || b) (get_or-set_other pending i l true false ne)
@@ -77,7 +71,7 @@ module _ (d : Descriptor) (committed pending pairs pairs' : List Bool) (book : L
         (λ other. has_on d pairs pairs' l puts.stays (sized.supported l (sym (other_set committed pending i l other) ∙ held)))
         (cases_eq l i);
     apart = λ l two. ⊎_elim
-        (λ same. ap (λ (m : ℕ). get_or committed m false) same ∙ left_out (get_or committed i false) (get_or pending i false) absent)
+        (λ same. ap (λ (m : ℕ). get_or committed m false) same ∙ (or_parts (get_or committed i false) (get_or pending i false) absent).0)
         (λ other. sized.apart l (sym (get_or-set_other pending i l true false other) ∙ two))
         (cases_eq l i);
   }
@@ -96,7 +90,7 @@ module _ (d : Descriptor) (committed pending pairs pairs' : List Bool) (book : L
 
     pub put_gated : StaysGated s.descriptor (is_committed s) (is_committed s) old.history new.history
     put_gated = subst (λ (t : StoreState). StaysGated t.descriptor (is_committed t) (is_committed t) old.history new.history) view
-        ((puts.writes known).gated (λ l. get_or committed l false) (left_out (get_or committed i false) (get_or pending i false) absent')
+        ((puts.writes known).gated (λ l. get_or committed l false) ((or_parts (get_or committed i false) (get_or pending i false) absent').0)
         (λ l at. sized.supported l (either_left (get_or committed l false) (get_or pending l false) at)))
 
     kept : IsDescriptor d → (l : ℕ) → in_either committed pending l ≡ true → AgreesWith s book old.history.reads → is_there d new.history.reads book l ≡ true

@@ -25,3 +25,5 @@ pub mod PeakBooks
 pub mod ReadSteps
 pub mod MessageLengths
 pub mod Founds
+pub mod Risings
+pub mod Addressed

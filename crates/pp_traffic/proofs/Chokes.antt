@@ -7,12 +7,17 @@ use Rattle.pp_traffic.specs.Story.{Heard, Said, Taken}
 use Rattle.pp_traffic.specs.Asking.{choked_by, choked, asked_by, asked_after, asked}
 use Rattle.pp_traffic.specs.Laws.{ChokesEndAsking}
 
-heard_choked : (i : ℕ) (m : Message) (before : Bool) → before ≡ false → asked_by i true m before ≡ false
+pub heard_choked : (i : ℕ) (m : Message) (before : Bool) → before ≡ false → asked_by i true m before ≡ false
 heard_choked i (Request span) before none = or_from (within span i && false) before (and_right (within span i) false refl) none
 heard_choked i (Cancel span) before none = and_right (not (within span i)) before none
 heard_choked i _ before none = none
 
-said_choked : (i : ℕ) (is_choked : Bool) (m : Message) (before : Bool) → choked_by m is_choked ≡ true → (is_choked ≡ true → before ≡ false)
+pub said_none : (i : ℕ) (m : Message) (before : Bool) → before ≡ false → asked_after i m before ≡ false
+said_none i (Data chunk sent_at bytes) before none = and_right (not (eqb chunk i)) before none
+said_none i Choke before none = refl
+said_none i _ before none = none
+
+pub said_choked : (i : ℕ) (is_choked : Bool) (m : Message) (before : Bool) → choked_by m is_choked ≡ true → (is_choked ≡ true → before ≡ false)
     → asked_after i m before ≡ false
 said_choked i is_choked (Data chunk sent_at bytes) before stands none = and_right (not (eqb chunk i)) before (none stands)
 said_choked i is_choked Choke before stands none = refl

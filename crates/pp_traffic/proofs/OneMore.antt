@@ -66,7 +66,7 @@ story_step d life r past lt =
     let not_opening : eqb life.opening (length past) ≡ false = ne_eqb life.opening (length past) (λ e. omega arith) in
     rw (in_story, not_opening) refl
 
-before_opening : (d : Descriptor) (life : Life) (past : List Record) → length past ≤ life.opening → story d life past ≡ []
+pub before_opening : (d : Descriptor) (life : Life) (past : List Record) → length past ≤ life.opening → story d life past ≡ []
 before_opening d life [] le = refl
 before_opening d life (r ∷ past) le =
     let early : leb life.opening (length past) ≡ false = lt-leb life.opening (length past) (omega arith) in rw early refl

@@ -1,6 +1,6 @@
 -- Plain channels in words by places.
 use Rattle.std.proofs.Common.{◌≡◌, ◌⊎◌, inl, inr, ⊎_elim, ℕ, ◌+◌, ◌<◌, ◌≤◌, ltb, leb, Bool, true, false, not, ◌&&◌, ◌||◌, Option, Some, None, List, [], ◌∷◌, ◌++◌, length, refl, sym, ◌∙◌, ap, subst, arith}
-use Rattle.std.proofs.lemmas.Bool.{and_parts, and_from, or_cases, or_left, or_right, and_cases, not-true, lt-ltb, ltb-true, ltb-false, leb-true, le-leb, cases_Bool, both_ways, false_from_ne_true, cond-true, cond-false}
+use Rattle.std.proofs.lemmas.Bool.{and_parts, and_from, or_cases, or_left, or_right, and_cases, not-true, lt-ltb, ltb-true, ltb-false, leb-true, le-leb, cases_Bool, both_ways, false_from_ne_true, cond-true, cond-false, and_right}
 use Rattle.std.specs.Prelude.{MatchBool}
 use Rattle.std.specs.List.{AllByRecursion}
 use Rattle.std.proofs.lemmas.List.{length-append}
@@ -120,12 +120,8 @@ heard_from d life [] h before lt came all =
     (and_from (ltb life.opening (length before)) (comes_on d life h) (lt-ltb life.opening (length before) lt) came)
 heard_from d life (r ∷ after) h before lt came all =
     cond-false (ltb life.opening (length (after ++ h ∷ before)) && comes_on d life r) (Some (now (r ∷ (after ++ h ∷ before)))) (heard_at d life (after ++ h ∷ before))
-    (and_no (ltb life.opening (length (after ++ h ∷ before))) (comes_on d life r) all.0)
+    (and_right (ltb life.opening (length (after ++ h ∷ before))) (comes_on d life r) all.0)
     ∙ heard_from d life after h before lt came all.1
-  where
-    and_no : (a b : Bool) → b ≡ false → (a && b) ≡ false
-    and_no true b e = e
-    and_no false b e = refl
 
 heard_latest : (d : Descriptor) (life : Life) (past : List Record) (at : ℕ) → IsLatest d life past at → heard_at d life past ≡ Some at
 heard_latest d life past at is = subst (λ (xs : List Record). heard_at d life xs ≡ Some at) (sym is.split)

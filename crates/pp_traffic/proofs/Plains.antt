@@ -28,6 +28,19 @@ at_either test place r past e = ⊎_elim
     (λ before. inr before)
     (or_cases (eqb place (length past) && test r) (is_at test place past) e)
 
+-- the first that passes is one that passes
+pub first_some : (which test : Record → Bool) (place : ℕ) (past : List Record) → first_since which test place past ≡ true → some_since test place past ≡ true
+first_some which test place [] e = absurd cc
+first_some which test place (r ∷ past) e = by (some_since which place past) (λ f. first_some which test place past f) e
+  where
+    by : (b : Bool) → (first_since which test place past ≡ true → some_since test place past ≡ true) → cond b (first_since which test place past) (leb place (length past) && which r && test r) ≡ true
+        → ((leb place (length past) && test r) || some_since test place past) ≡ true
+    by true more f = or_right (leb place (length past) && test r) (some_since test place past) (more f)
+    by false more f =
+        let a = and_parts (leb place (length past) && which r) (test r) f in
+        or_left (leb place (length past) && test r) (some_since test place past)
+        (and_from (leb place (length past)) (test r) (and_parts (leb place (length past)) (which r) a.0).0 a.1)
+
 -- the first that passes is the same one, where there was one; else it is the new record
 pub first_either : (which test : Record → Bool) (place : ℕ) (r : Record) (past : List Record) → first_since which test place (r ∷ past) ≡ true
     → (first_since which test place past ≡ true) ⊎ ((some_since which place past ≡ false) × (place ≤ length past) × (which r ≡ true) × (test r ≡ true))

@@ -7,7 +7,7 @@ use Rattle.std.specs.Net.Grammar.{IsDotted, IsGroupsAfter, IsColonHex}
 use Rattle.std.proofs.NetLemmas.Options.{same_parts}
 use Rattle.std.proofs.NetLemmas.Ipv4.{read_ipv4_complete}
 use Rattle.std.proofs.NetLemmas.Ipv6.{read_ipv6_complete, EndsGroups-nil}
-use Rattle.std.proofs.lemmas.Bool.{cases_eq, ne_eqb, true≢false}
+use Rattle.std.proofs.lemmas.Bool.{cases_eq, ne_eqb, true≢false, or_right}
 use Rattle.pp_terms.specs.format.Addresses.{AreEightGroups}
 
 -- ---- IPv4
@@ -33,11 +33,7 @@ any_behind (x ∷ xs) ys e = any_behind xs ys (or_false_right (x == 46) _ e)
 
 any_here : (xs ys : List ℕ) → list_any (λ c. c == 46) (xs ++ 46 ∷ ys) ≡ true
 any_here [] ys = refl
-any_here (x ∷ xs) ys = or_is_true (x == 46) _ (any_here xs ys)
-  where
-    or_is_true : (a b : Bool) → b ≡ true → (a || b) ≡ true
-    or_is_true true b e = refl
-    or_is_true false b e = e
+any_here (x ∷ xs) ys = or_right (x == 46) _ (any_here xs ys)
 
 none_in_both : (xs ys : List ℕ) → list_any (λ c. c == 46) xs ≡ false → list_any (λ c. c == 46) ys ≡ false → list_any (λ c. c == 46) (xs ++ ys) ≡ false
 none_in_both [] ys p q = q

@@ -1,9 +1,10 @@
 use Rattle.std.proofs.Common.{◌≡◌, get_or, refl, subst, sym, ◌∙◌, false}
+use Rattle.std.proofs.lemmas.Bool.{or_right}
 use Rattle.pp_terms.specs.tree.Book.{IsRooted}
 use Rattle.pp_store.specs.Gates.{made_durable, IsRefusedCommit}
 use Rattle.pp_store.specs.Pairs.{GoesOnSince}
 use Rattle.pp_store.specs.Sound.{StaysGated}
-use Rattle.pp_store.proofs.Puttings.{held_within, either_left, either_right}
+use Rattle.pp_store.proofs.Puttings.{held_within, either_left}
 use Rattle.pp_store.proofs.Gated.{gated_more}
 use Rattle.pp_store.proofs.GateWrites.{durable_goes_on, refused_goes_on, durable_keeps, refused_keeps, durable_gated, refused_gated}
 use Rattle.pp_store.specs.Store.{StoreState, is_committed, is_held, AgreesWith, HoldsAll, AllStand, KnowsHeld, HasCommitted}
@@ -90,7 +91,7 @@ returns-in-Ok-clause-gated g c known =
     let before : StoreState = record { descriptor = c.self.inside.descriptor; committed = c.self.inside.committed; pending = c.self.inside.pending; pairs = c.self.inside.pairs; live = c.self.inside.live } in
     durable_gated c.self.inside.descriptor (is_held before) c.chunks.ensures.valid (is_committed before) c.self.inside.pending (g.D.Disk.state c.args.disk.now).history
     (g.D.Disk.state c.make_durable.new.disk).history (g.met.D.Disk.whole c.args.disk.now known) (λ i at. either_left (get_or c.self.inside.committed i false) (get_or c.self.inside.pending i false) at)
-    (λ i at. either_right (get_or c.self.inside.committed i false) (get_or c.self.inside.pending i false) at) holds moment within all (c.in-Ok.ensures.done known))
+    (λ i at. or_right (get_or c.self.inside.committed i false) (get_or c.self.inside.pending i false) at) holds moment within all (c.in-Ok.ensures.done known))
 
 pub returns-in-Err-clause-gated : goal.returns-in-Err-clause-gated
 returns-in-Err-clause-gated g c known =
@@ -100,7 +101,7 @@ returns-in-Err-clause-gated g c known =
     let before : StoreState = record { descriptor = c.self.inside.descriptor; committed = c.self.inside.committed; pending = c.self.inside.pending; pairs = c.self.inside.pairs; live = c.self.inside.live } in
     refused_gated c.self.inside.descriptor (is_held before) c.chunks.ensures.valid (is_committed before) c.self.inside.pending (g.D.Disk.state c.args.disk.now).history
     (g.D.Disk.state c.make_durable.new.disk).history (g.met.D.Disk.whole c.args.disk.now known) (λ i at. either_left (get_or c.self.inside.committed i false) (get_or c.self.inside.pending i false) at)
-    (λ i at. either_right (get_or c.self.inside.committed i false) (get_or c.self.inside.pending i false) at) holds moment within all (c.in-Err.ensures.refused known))
+    (λ i at. or_right (get_or c.self.inside.committed i false) (get_or c.self.inside.pending i false) at) holds moment within all (c.in-Err.ensures.refused known))
 
 pub returns-then-count-eq0-clause-gated : goal.returns-then-count-eq0-clause-gated
 returns-then-count-eq0-clause-gated g c known holds moment within all image since =
