@@ -77,7 +77,8 @@ pub fn header_difference<D: Disk>(
     }
 }
 
-fn first_difference(bytes: &[u8; 64], wanted: &[u8; 64]) -> Option<Difference>
+/// The first of 64 bytes that differs from the one that is wanted.
+pub fn first_difference(bytes: &[u8; 64], wanted: &[u8; 64]) -> Option<Difference>
     ensures { MatchOption result ((k : ℕ) → k < 64 → slice_index bytes.now k ≡ slice_index wanted.now k)
         (λ d. IsDifference bytes.now wanted.now d.at d.found d.want) }
 {

@@ -9,7 +9,8 @@ mod scanning;
 mod verifying;
 
 pub use layout::{
-    Difference, OPEN_GATE, file_size, gate_place, header_difference, header_of, slot_place,
+    Difference, OPEN_GATE, file_size, first_difference, gate_place, header_difference, header_of,
+    slot_place,
 };
 pub use scanning::{ScanFault, scan, scan_into};
 pub use verifying::verify;

@@ -119,7 +119,7 @@ open_kept d n (true ∷ bs) h i here = open_kept d (suc n) bs (after_write h (ga
     (cases_eq i n))
 open_kept d n (false ∷ bs) h i here = open_kept d (suc n) bs h i here
 
-open_made : (d : Descriptor) (n : ℕ) (bs : List Bool) (h : History) (k : ℕ) → get_or bs k false ≡ true → is_open d (after_writes h (gate_writes_from d n bs)).reads (n + k) ≡ true
+pub open_made : (d : Descriptor) (n : ℕ) (bs : List Bool) (h : History) (k : ℕ) → get_or bs k false ≡ true → is_open d (after_writes h (gate_writes_from d n bs)).reads (n + k) ≡ true
 open_made d n [] h k here = absurd (false≢true here)
 open_made d n (true ∷ bs) h zero here =
     let at : n + 0 ≡ n = omega arith in
@@ -131,6 +131,33 @@ open_made d n (true ∷ bs) h (suc k) here =
 open_made d n (false ∷ bs) h zero here = absurd (false≢true here)
 open_made d n (false ∷ bs) h (suc k) here =
     subst (λ (m : ℕ). is_open d (after_writes h (gate_writes_from d (suc n) bs)).reads m ≡ true) (let e : suc n + k ≡ n + suc k = omega arith in e) (open_made d (suc n) bs h k here)
+
+-- a gate that none of these opens keeps its byte
+pub gates_closed : (d : Descriptor) (n : ℕ) (bs : List Bool) (h : History) (i : ℕ) → ((k : ℕ) → get_or bs k false ≡ true → i ≡ n + k → ⊥)
+    → get_or (after_writes h (gate_writes_from d n bs)).reads (gate_place d.chunk i) 0 ≡ get_or h.reads (gate_place d.chunk i) 0
+gates_closed d n [] h i others = refl
+gates_closed d n (true ∷ bs) h i others =
+    let ne : i ≡ n → ⊥ = λ e. others 0 refl (let z : n ≡ n + 0 = omega arith in e ∙ z) in
+    gates_closed d (suc n) bs (after_write h (gate_place d.chunk n) open_gate) i
+    (λ k here e. others (suc k) here (let z : suc n + k ≡ n + suc k = omega arith in e ∙ z))
+    ∙ written_outside h.reads (gate_place d.chunk n) open_gate (gate_place d.chunk i)
+    (λ w. ⊎_elim (λ before. omega (arith, w.0)) (λ after. omega (arith, w.1)) (gates_clear d.chunk i n ne))
+gates_closed d n (false ∷ bs) h i others =
+    gates_closed d (suc n) bs h i (λ k here e. others (suc k) here (let z : suc n + k ≡ n + suc k = omega arith in e ∙ z))
+
+-- gates inside a file leave its length
+pub gates_size : (d : Descriptor) (n : ℕ) (bs : List Bool) (h : History) (size : ℕ) → ((k : ℕ) → get_or bs k false ≡ true → gate_place d.chunk (n + k) < size)
+    → length h.reads ≡ size → length (after_writes h (gate_writes_from d n bs)).reads ≡ size
+gates_size d n [] h size inside long = long
+gates_size d n (true ∷ bs) h size inside long =
+    let here : gate_place d.chunk (n + 0) < size = inside 0 refl in
+    let same : gate_place d.chunk (n + 0) ≡ gate_place d.chunk n = ap (λ (m : ℕ). gate_place d.chunk m) (let z : n + 0 ≡ n = omega arith in z) in
+    gates_size d (suc n) bs (after_write h (gate_place d.chunk n) open_gate) size
+    (λ k lt. subst (λ (m : ℕ). gate_place d.chunk m < size) (let z : n + suc k ≡ suc n + k = omega arith in z) (inside (suc k) lt))
+    (length-written h.reads (gate_place d.chunk n) open_gate ∙ omega (arith, here, same, long))
+gates_size d n (false ∷ bs) h size inside long =
+    gates_size d (suc n) bs h size
+    (λ k lt. subst (λ (m : ℕ). gate_place d.chunk m < size) (let z : n + suc k ≡ suc n + k = omega arith in z) (inside (suc k) lt)) long
 
 -- A chunk that is held stands once its gate is open, before or by these writes.
 pub stands_opened : (d : Descriptor) (set : List Bool) (h : History) (i : ℕ) → IsDescriptor d → HoldsIn d h.reads i

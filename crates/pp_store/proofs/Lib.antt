@@ -25,3 +25,6 @@ pub mod Committing
 pub mod Beginnings
 pub mod Writtens
 pub mod Freshening
+pub mod OldFiles
+pub mod Copies
+pub mod Upgrades

@@ -153,7 +153,7 @@ module _ (P : List ℕ → Type 0) (short : (image : List ℕ) → length image 
   synced_short : Throughout (synced old) first P
   synced_short = pending_short (synced old) synced-moment (λ image is. weaker (synced old).epoch 0 (replicate 8 0) image is)
 
-  clearing : (new : History) → Leaves (replicate 8 0) old new → (m : ℕ) → moment_of old < m → m ≤ moment_of new → Throughout new m P
+  pub clearing : (new : History) → Leaves (replicate 8 0) old new → (m : ℕ) → moment_of old < m → m ≤ moment_of new → Throughout new m P
   clearing _ (unsynced new is) m after le = let same : moment_of new ≡ moment_of old = ap moment_of is in absurd (omega (arith, after, le, same))
   clearing _ (front_refused new (inl same)) m after le =
       throughout_later new first m P after (subst (λ (h : History). Throughout h first P) (sym same) synced_short)

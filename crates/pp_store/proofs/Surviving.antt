@@ -14,7 +14,7 @@ use Rattle.pp_terms.specs.tree.Tree.{above}
 use Rattle.pp_terms.specs.tree.Book.{LookUp, has_peaks, has_peaks_below}
 use Rattle.pp_terms.specs.format.Descriptor.{Descriptor, chunks_of, height_of, IsDescriptor}
 use Rattle.pp_terms.specs.disk.Store.{header, chunk_place, pair_place, gate_place, AreApart, Has}
-use Rattle.pp_terms.specs.disk.Image.{slice, half, child, known, known_below, matches, is_open, StandsIn}
+use Rattle.pp_terms.specs.disk.Image.{slice, half, child, known, known_below, matches, holds, is_open, StandsIn}
 use Rattle.pp_terms.specs.disk.Disk.{DiskState, History, IsKnown, IsOver, DoesWrite, Throughout, written, pends}
 use Rattle.pp_terms.proofs.Headers.{length-header}
 use Rattle.pp_terms.proofs.Heights.{height_is}
@@ -246,29 +246,28 @@ header_over d place size under image valid far over has =
     has_over place size 0 (header d) under image (inl (omega (arith, length-header d valid.root_length))) over has
 
 -- a chunk that is held elsewhere
-pub holds_over : (d : Descriptor) (i place size : ℕ) (under image : List ℕ) → IsDescriptor d → IsClear d i place size → IsOver place size under image
-    → HoldsIn d under i → HoldsIn d image i
-holds_over d i place size under image valid clear over stands =
+pub held_elsewhere : (d : Descriptor) (i place size : ℕ) (under image : List ℕ) → IsDescriptor d → i < chunks_of d
+    → AreApart (chunk_place d.chunk i) (chunk_length d.size d.chunk i) place size
+    → ((k : ℕ) → k < height_of d → AreApart (pair_place d.chunk k (above (suc k) i)) 64 place size)
+    → ((k : ℕ) → IsUnfilled d k → AreApart (pair_place d.chunk k (above (suc k) (chunks_of d))) 64 place size)
+    → IsOver place size under image → holds d under i ≡ true → holds d image i ≡ true
+held_elsewhere d i place size under image valid within chunk way unfilled over stands =
     let want = chunk_length d.size d.chunk i in
     let bytes = slice under (chunk_place d.chunk i) want in
-    let tests = and_parts (has_peaks (known d under) (chunks_of d) && (length bytes == want)) (matches (known d under 0 i) (sha256 bytes)) (sym (sym stands.held)) in
+    let tests = and_parts (has_peaks (known d under) (chunks_of d) && (length bytes == want)) (matches (known d under 0 i) (sha256 bytes)) stands in
     let front = and_parts (has_peaks (known d under) (chunks_of d)) (length bytes == want) tests.0 in
-    let some = some_bytes d i valid stands.within in
+    let some = some_bytes d i valid within in
     let same : slice image (chunk_place d.chunk i) want ≡ bytes =
-    slice_over place size (chunk_place d.chunk i) want under image clear.chunk over (slice_inside under (chunk_place d.chunk i) want some (eqb-true _ _ front.1)) in
+    slice_over place size (chunk_place d.chunk i) want under image chunk over (slice_inside under (chunk_place d.chunk i) want some (eqb-true _ _ front.1)) in
     let peaks : has_peaks (known d image) (chunks_of d) ≡ true = peaks_in (known d image) (chunks_of d) 21 (λ k lt odd.
     let low = peak_low d k valid odd in
     let up : AllUp (λ l j. AreApart (pair_place d.chunk l j) 64 place size) (height_of d - k) k (above k (chunks_of d) - 1) =
-    up_peak d (λ l j. AreApart (pair_place d.chunk l j) 64 place size) (height_of d - k) k (omega arith) odd clear.unfilled in
+    up_peak d (λ l j. AreApart (pair_place d.chunk l j) 64 place size) (height_of d - k) k (omega arith) odd unfilled in
     kept k (above k (chunks_of d) - 1) low up (peak_in (known d under) (chunks_of d) 21 k front.0 lt odd)) in
     let leaf : matches (known d image 0 i) (sha256 (slice image (chunk_place d.chunk i) want)) ≡ true =
     ap (λ (x : List ℕ). matches (known d image 0 i) (sha256 x)) same ∙ leaf_kept (sha256 bytes) tests.1 in
     let length_kept : (length (slice image (chunk_place d.chunk i) want) == want) ≡ true = ap (λ (x : List ℕ). length x == want) same ∙ front.1 in
-    record {
-      begins = header_over d place size under image valid clear.behind over stands.begins;
-      within = stands.within;
-      held = sym (sym (λ t. peaks t && length_kept t && leaf t));
-    }
+    (λ t. peaks t && length_kept t && leaf t)
   where
     kept : (k j : ℕ) → k ≤ height_of d → AllUp (λ l m. AreApart (pair_place d.chunk l m) 64 place size) (height_of d - k) k j
         → is_some (known d under k j) ≡ true → is_some (known d image k j) ≡ true
@@ -291,8 +290,16 @@ holds_over d i place size under image valid clear over stands =
     leaf_kept : (digest : List ℕ) → matches (known d under 0 i) digest ≡ true → matches (known d image 0 i) digest ≡ true
     leaf_kept digest is =
         let up : AllUp (λ l m. AreApart (pair_place d.chunk l m) 64 place size) (height_of d) 0 i =
-        up_way (λ l m. AreApart (pair_place d.chunk l m) 64 place size) (height_of d) i (height_of d) 0 (omega arith) clear.way in
+        up_way (λ l m. AreApart (pair_place d.chunk l m) 64 place size) (height_of d) i (height_of d) 0 (omega arith) way in
         leaf_known digest up (known d under 0 i) refl is
+
+pub holds_over : (d : Descriptor) (i place size : ℕ) (under image : List ℕ) → IsDescriptor d → IsClear d i place size → IsOver place size under image
+    → HoldsIn d under i → HoldsIn d image i
+holds_over d i place size under image valid clear over stands = record {
+  begins = header_over d place size under image valid clear.behind over stands.begins;
+  within = stands.within;
+  held = sym (sym (held_elsewhere d i place size under image valid stands.within clear.chunk clear.way clear.unfilled over (sym (sym stands.held))));
+}
 
 -- a gate elsewhere stays open
 pub open_over : (d : Descriptor) (i place size : ℕ) (under image : List ℕ) → AreApart (gate_place d.chunk i) 1 place size → IsOver place size under image

@@ -14,3 +14,5 @@ pub mod Writes
 pub mod Answer
 pub mod Store
 pub mod Law
+pub mod Old
+pub mod Upgrade

@@ -1,6 +1,7 @@
 // Reading a source into a buffer.
-ghost use Rattle.std.specs.Prelude.{◌≡◌, ℕ, ◌+◌, ◌^◌, ◌≤◌, min, Some, List, length, take, drop, IfOk};
+ghost use Rattle.std.specs.Prelude.{◌≡◌, ℕ, ◌+◌, ◌^◌, ◌<◌, ◌≤◌, min, Some, List, length, take, drop, slice_index, IfOk, OnOk};
 ghost use Rattle.pp_terms.specs.Count.{HasCause};
+ghost use Rattle.pp_store.specs.Import.{TakesAtMost};
 
 use pp_outside::{Source, SourceFault};
 
@@ -24,4 +25,26 @@ pub(crate) fn fill<S: Source>(source: &mut S, buffer: &mut [u8]) -> Result<usize
         }
     }
     Ok(filled)
+}
+
+/// Does the same, and leaves zeros behind what it read.
+pub(crate) fn fill_zeroed<S: Source>(
+    source: &mut S,
+    buffer: &mut [u8],
+) -> Result<usize, SourceFault>
+    ensures within { IfOk result (λ n. n ≤ length buffer.new) }
+    ensures read { (content : List ℕ) → (S.state source.old).left ≡ Some content
+        → IfOk result (λ n. (n ≡ min (length content) (length buffer.new)) × ((S.state source.new).left ≡ Some (drop n content))) }
+    ensures bytes { (content : List ℕ) → (S.state source.old).left ≡ Some content
+        → OnOk result ((k : ℕ) → k < length buffer.new → slice_index buffer.new k ≡ slice_index content k) }
+    ensures takes { TakesAtMost (length buffer.new) (S.state source.old) (S.state source.new) }
+    ensures cause { HasCause (S.state source.old).faults (S.state source.new).faults result }
+{
+    match fill(source, buffer) {
+        Ok(count) => {
+            buffer[count..].fill(0);
+            Ok(count)
+        }
+        Err(fault) => Err(fault),
+    }
 }

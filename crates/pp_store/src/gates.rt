@@ -55,8 +55,8 @@ fn sync_gates<D: Disk>(
     }
 }
 
-// Opens the gates of the pending chunks.
-fn open_gates<D: Disk>(
+/// Opens the gates of the pending chunks, by rising number.
+pub(crate) fn open_gates<D: Disk>(
     descriptor: &Descriptor,
     pending: &ChunkSet,
     disk: &mut D,

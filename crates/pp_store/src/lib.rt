@@ -2,9 +2,13 @@
 #![tactic(auto)]
 
 mod admitting;
+mod copying;
 mod durable;
+#[cfg(test)]
+mod examples;
 mod filling;
 mod findings;
+mod finishing;
 mod gates;
 mod growing;
 mod importing;
@@ -16,6 +20,7 @@ mod probing;
 mod reading;
 #[cfg(test)]
 mod stopping;
+mod upgrading;
 
 pub use admitting::Put;
 pub use findings::{Probe, ProbeFault};
@@ -24,3 +29,4 @@ pub use keeping::Store;
 pub use laws::laws_of_stores;
 pub use probing::probe;
 pub use reading::{ReadFault, read_chunk};
+pub use upgrading::{UpgradeFault, upgrade};
