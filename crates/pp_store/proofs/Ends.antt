@@ -21,7 +21,9 @@ use Rattle.pp_store.specs.Front.{DoesFront, Leaves}
 use Rattle.pp_store.specs.Import.{most_bytes, TakesAtMost, IsUnbegun, IsDiskFault, HasAnswer, HasFault, LeavesWholeStores, DoesImport, IsLeft, unfinished, finished}
 use Rattle.pp_store.proofs.Nexts.{counted_more, counted_all, counted_below, full_whole}
 use Rattle.pp_store.proofs.Writings.{behind_more, behind_keeps}
+use Rattle.pp_store.specs.Sound.{StaysSound}
 use Rattle.pp_store.specs.Store.{cleared}
+use Rattle.pp_store.proofs.Staying.{clearing_sound, importing_sound, finishing_sound}
 use Rattle.pp_store.proofs.Sealing.{cleared-moment-of, clearing_right, walking_right, sealing_right, walking_none, walking_reads, unsynced_none, leaves-moment, stored, attachment_left}
 
 -- what was read is the content's next chunks
@@ -204,6 +206,7 @@ pub clearing_fault : {E : Type 0} (chunk : ℕ) (source : SourceState) (disk new
 clearing_fault chunk source disk new fault empty does = record {
   answer = record { risen = does.cause.risen refl; hard = does.hard_cause.risen refl };
   whole = λ known content told. clearing_right chunk content disk.history (empty known) new.history (does.leaves known);
+  sound = λ known content told fits. clearing_sound chunk content fits disk.history (empty known) new.history (does.leaves known);
   no_store = λ known. unsynced_none disk.history new.history (empty known) (does.leaves known);
   takes = λ content told. (0, omega arith, told);
   later = omega arith;
@@ -227,6 +230,7 @@ module _ {E : Type 0} (chunk : ℕ) (source source' : SourceState) (disk mid dis
   unbegun_import f answer = record {
     answer = answer;
     whole = λ known content told m after le. walking_right chunk content disk.history (empty known) disk'.history (behind known) m after;
+    sound = λ known content told fits. importing_sound chunk content fits disk.history (empty known) disk'.history (behind known);
     no_store = λ known same. walking_reads disk.history disk'.history (empty known) (behind known);
     takes = takes;
     later = later;
@@ -326,6 +330,15 @@ module _ {E : Type 0} (chunk : ℕ) (source source' : SourceState) (disk front m
       sealing_right chunk content disk.history (empty known) walked (behind_more (cleared disk.history) mid.history walked (behind_mid known) behind) whole'.1 h
       (subst (λ (x : Descriptor). Leaves (header x) walked h) whole'.0 leaves) m after
 
+  left_sound : IsKnown disk → (h : History) → IsLeft chunk size count peaks mid h → (content : List ℕ) → source.left ≡ Some content → IsContent chunk content
+      → StaysSound (imported content chunk) disk.history h
+  left_sound known _ (unfinished h behind) content told is =
+      importing_sound chunk content is disk.history (empty known) h (behind_more (cleared disk.history) mid.history h (behind_mid known) behind)
+  left_sound known _ (finished d walked h behind whole leaves) content told is =
+      let whole' = whole content (all content told) (partial content told) in
+      finishing_sound chunk content is disk.history (empty known) walked (behind_more (cleared disk.history) mid.history walked (behind_mid known) behind) whole'.1 h
+      (subst (λ (x : Descriptor). Leaves (header x) walked h) whole'.0 leaves)
+
   left_later : IsKnown disk → (h : History) → IsLeft chunk size count peaks mid h → moment_of disk.history < moment_of h
   left_later known _ (unfinished h behind) =
       let same : moment_of h ≡ moment_of (cleared disk.history) = ap (λ past. length past) (behind.past ∙ (behind_mid known).past) in
@@ -345,6 +358,7 @@ module _ {E : Type 0} (chunk : ℕ) (source source' : SourceState) (disk front m
   import_done result described stored' left fault kept takes later = record {
     answer = done_answer result described stored' fault;
     whole = λ known content told. left_whole known new.history (left (known_mid known)) content told;
+    sound = λ known content told fits. left_sound known new.history (left (known_mid known)) content told fits;
     no_store = λ known same. let after = left_later known new.history (left (known_mid known)) in absurd (omega (arith, after, same));
     takes = takes;
     later = later;

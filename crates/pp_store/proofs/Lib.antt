@@ -25,6 +25,7 @@ pub mod Committing
 pub mod Beginnings
 pub mod Writtens
 pub mod Freshening
+pub mod Staying
 pub mod OldFiles
 pub mod Copies
 pub mod Upgrades

@@ -29,65 +29,16 @@ use Rattle.pp_store.specs.declared.upgrading.UpgradeFault.TheVariants.{NotEmpty,
 use Rattle.pp_store.proofs.Copies.{takes_both}
 use Rattle.pp_store.proofs.Ends.{front_keeps, disk_more, takes_at_most}
 use Rattle.pp_store.proofs.Writings.{behind_keeps}
-use Rattle.pp_store.proofs.Freshening.{written_all, refused_all, kept_all, sound_zero, front_sound}
+use Rattle.pp_store.proofs.Freshening.{sound_zero, front_sound}
 use Rattle.pp_terms.proofs.Facts.{member_below}
 use Rattle.pp_store.proofs.GateWrites.{gates_closed, gates_size, gates_keep, open_made, over_torn}
+use Rattle.pp_store.proofs.Staying.{Stays, stays_more, sync_stays, front_stays, settled_zero, behind_stays, walking_sound}
 use Rattle.pp_store.proofs.OldFiles.{IsSlotwise, copied_slotwise, known_same, holds_same}
 use Rattle.pp_store.proofs.Opening.{has_header}
 use Rattle.pp_store.proofs.PairWrites.{gate_clear}
 use Rattle.pp_store.proofs.Sealing.{no_store, short_no_store, empty_no_store, clearing, walking_none, throughout_later}
 use Rattle.pp_store.proofs.Surviving.{some_chunks, held_elsewhere}
 use Rattle.pp_store.proofs.Gated.{gate_low, file_long}
-
--- ---- what goes on holding of every image since any moment
-
-abbrev pub Stays : (List ℕ → Type 0) → History → History → Type 0
-Stays P old new = (moment : ℕ) → moment ≤ moment_of old → Throughout old moment P → Throughout new moment P
-
-pub stays_more : (P : List ℕ → Type 0) (old mid new : History) → moment_of old ≤ moment_of mid → Stays P old mid → Stays P mid new → Stays P old new
-stays_more P old mid new later one two moment le all = two moment (omega (arith, le, later)) (one moment le all)
-
-pub sync_stays : (P : List ℕ → Type 0) (old : History) → P old.reads → Stays P old (synced old)
-sync_stays P old here moment le all = throughout_settled old moment old.reads P le all here
-
--- bytes at the front
-pub front_stays : (P : List ℕ → Type 0) (bytes : List ℕ) (old : History) → P old.reads
-    → ((image : List ℕ) → IsImage (pends (synced old).epoch 0 bytes) image → P image) → P (written old.reads 0 bytes)
-    → (new : History) → Leaves bytes old new → Stays P old new
-front_stays P bytes old here there done new leaves moment le all = by new leaves
-  where
-    first : Throughout (synced old) moment P
-    first = sync_stays P old here moment le all
-
-    by : (new : History) → Leaves bytes old new → Throughout new moment P
-    by _ (unsynced new is) = subst (λ (x : History). Throughout x moment P) (sym is) all
-    by _ (front_refused new refused) = refused_all P (synced old) 0 bytes moment there first new refused
-    by _ (front_unsynced new is) = subst (λ (x : History). Throughout x moment P) (sym is) (written_all P (synced old) 0 bytes moment there first)
-    by _ (front_kept new is) =
-        subst (λ (x : History). Throughout x moment P) (sym is)
-        (kept_all P (synced old) 0 bytes moment there first (omega (arith, le, moment-settled old old.reads)) done)
-
--- ---- writes behind a zero byte
-
--- a zero byte stands first in every image
-abbrev pub ZeroStands : History → Type 0
-ZeroStands h = Throughout h (moment_of h) (Has 0 (0 ∷ []))
-
-pub settled_zero : (h : History) (bytes : List ℕ) → 0 < length bytes → get_or bytes 0 0 ≡ 0 → ZeroStands (settled h bytes)
-settled_zero h bytes some none image since =
-    let is = sole_image bytes image (since_now (settled h bytes) image since) in
-    subst (Has 0 (0 ∷ [])) (sym is) (record {
-      inside = omega (arith, some);
-      same = λ k lt. let e : k ≡ 0 = omega arith in
-          subst (λ (n : ℕ). get_or bytes (0 + n) 0 ≡ get_or (0 ∷ []) n 0) (sym e) none;
-    })
-
-pub behind_stays : (P : List ℕ → Type 0) → ((image : List ℕ) → get_or image 0 0 ≡ 0 → P image) → (old new : History) → ZeroStands old → IsBehind old new
-    → Stays P old new
-behind_stays P zero_first old new stands behind moment le all image (inl now) =
-    zero_first image ((behind.front (moment_of old) 0 (0 ∷ []) (omega arith) stands image (inl now)).same 0 (omega arith))
-behind_stays P zero_first old new stands behind moment le all image (inr was) =
-    all image (inr (subst (λ (past : List Epoch). WasImage (drop moment past) image) behind.past was))
 
 -- ---- a verified file, and its header
 
@@ -198,22 +149,10 @@ module _ (d : Descriptor) (valid : IsDescriptor d) (old : History) (empty : old.
   pub none_first : get_or mid.reads 0 0 ≡ 0
   none_first = behind.header 0 (omega arith) ∙ written_inside old.reads 0 (replicate 8 0) 0 (omega arith)
 
-  cleared_zero : ZeroStands (cleared old)
-  cleared_zero =
-      settled_zero (after_write (synced old) 0 (replicate 8 0)) (written old.reads 0 (replicate 8 0))
-      (omega (arith, length-written old.reads 0 (replicate 8 0))) (written_inside old.reads 0 (replicate 8 0) 0 (omega arith))
-
   pub cleared_later : moment_of old + 2 ≡ moment_of mid
   cleared_later =
       let same : moment_of mid ≡ moment_of (cleared old) = ap (λ (past : List Epoch). length past) behind.past in
       omega (arith, same, moment-settled (after_write (synced old) 0 (replicate 8 0)) (written old.reads 0 (replicate 8 0)), moment-settled old old.reads)
-
-  pub copying_sound : StaysSound d old mid
-  copying_sound =
-      stays_more (IsSound d) old (cleared old) mid
-      (omega (arith, moment-settled (after_write (synced old) 0 (replicate 8 0)) (written old.reads 0 (replicate 8 0)), moment-settled old old.reads))
-      (front_sound d old valid empty (cleared old) (front_kept (cleared old) refl))
-      (behind_stays (IsSound d) (λ image none. sound_zero d image valid none) (cleared old) mid cleared_zero behind)
 
   -- no image with the header was left so far
   pub copying_none : (moment : ℕ) → moment_of old < moment → Throughout mid moment IsNoStore
@@ -235,7 +174,7 @@ module _ (d : Descriptor) (valid : IsDescriptor d) (old : History) (empty : old.
 
     pub sealed_sound : (new : History) → (new ≡ mid) ⊎ IsSealing d (synced mid) new → StaysSound d old new
     sealed_sound new left =
-        stays_more (IsSound d) old mid new (omega (arith, cleared_later)) copying_sound
+        stays_more (IsSound d) old mid new (omega (arith, cleared_later)) (walking_sound d valid old empty mid behind)
         (sealed_stays (IsSound d) (λ image none. sound_zero d image valid none) d mid none_first nonempty
         (λ set count held image im. ready_sound d (λ i. get_or set i false) image
         (ready_heading d valid (λ i. get_or set i false) (gates_opened d set (synced mid)).reads (ready set count held) image im))
@@ -417,7 +356,7 @@ module _ {E : Type 0} (d : Descriptor) (valid : IsDescriptor d) (source source' 
     fault = by f fault;
     whole = λ known bytes file moment after le image since begins.
         absurd (copying_none d valid disk.history (empty known) mid.history (behind known) moment after image since d valid begins);
-    sound = λ known. copying_sound d valid disk.history (empty known) mid.history (behind known);
+    sound = λ known. walking_sound d valid disk.history (empty known) mid.history (behind known);
     takes = takes;
     later = later;
     keeps = kept_mid;

@@ -11,7 +11,8 @@ use Rattle.pp_store.specs.declared.importing.ImportFault.TheVariants.{NotEmpty, 
 use Rattle.pp_store.specs.Keep.{KeepsDisk}
 use Rattle.pp_store.specs.Behind.{IsBehind}
 use Rattle.pp_store.specs.Imported.{imported}
-use Rattle.pp_store.specs.Growing.{IsPartial, IsWhole}
+use Rattle.pp_store.specs.Growing.{IsContent, IsPartial, IsWhole}
+use Rattle.pp_store.specs.Sound.{StaysSound}
 use Rattle.pp_store.specs.Front.{Leaves}
 
 -- the greatest size of a content in bytes: 2 ^ 20 chunks
@@ -82,6 +83,8 @@ LeavesWholeStores chunk content old new =
 pub record DoesImport (chunk : ℕ) (source source' : SourceState) (disk disk' : DiskState) (result : Result Descriptor ImportFault) : Type 0 where
   pub answer : HasAnswer chunk source source' disk disk' result
   pub whole : IsKnown disk → (content : List ℕ) → source.left ≡ Some content → LeavesWholeStores chunk content disk.history disk'.history
+  pub sound : IsKnown disk → (content : List ℕ) → source.left ≡ Some content → IsContent chunk content
+      → StaysSound (imported content chunk) disk.history disk'.history
   pub no_store : IsKnown disk → moment_of disk'.history ≡ moment_of disk.history → IsNoStore disk'.history.reads
   pub takes : TakesAtMost (most_bytes chunk + 1) source source'
   pub later : source.faults ≤ source'.faults

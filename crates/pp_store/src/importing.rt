@@ -8,7 +8,8 @@ ghost use Rattle.pp_terms.specs.disk.Disk.{IsKnown, Throughout, moment_of};
 ghost use Rattle.pp_store.specs.Keep.{KeepsDisk};
 ghost use Rattle.pp_store.specs.Behind.{KeepsBehind, DoesBehind};
 ghost use Rattle.pp_store.specs.Imported.{imported};
-ghost use Rattle.pp_store.specs.Growing.{IsPartial, IsBuilt, IsWhole};
+ghost use Rattle.pp_store.specs.Growing.{IsContent, IsPartial, IsBuilt, IsWhole};
+ghost use Rattle.pp_store.specs.Sound.{StaysSound};
 ghost use Rattle.pp_store.specs.Import.{most_bytes, HasAnswer, HasFault, IsDiskFault, IsLeft, LeavesWholeStores, IsUntouched, TakesAtMost, DoesImport};
 
 use crate::durable::keep_front;
@@ -54,6 +55,9 @@ pub fn import<D: Disk, S: Source>(
     ensures answer { HasAnswer chunk (S.state source.old) (S.state source.new) (D.state disk.old) (D.state disk.new) result }
     ensures whole { IsKnown (D.state disk.old) → (content : List ℕ) → (S.state source.old).left ≡ Some content
         → LeavesWholeStores chunk content (D.state disk.old).history (D.state disk.new).history }
+    // Images that were sound stay so.
+    ensures sound { IsKnown (D.state disk.old) → (content : List ℕ) → (S.state source.old).left ≡ Some content → IsContent chunk content
+        → StaysSound (imported content chunk) (D.state disk.old).history (D.state disk.new).history }
 
     // Before the first sync what reads give is no store, if the disk was empty.
     ensures no_store { IsKnown (D.state disk.old) → (D.state disk.old).history.reads ≡ []
