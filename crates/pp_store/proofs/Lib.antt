@@ -13,6 +13,7 @@ pub mod Ends
 pub mod Counted
 pub mod Opening
 pub mod Rereading
+pub mod RunSteps
 pub mod Surviving
 pub mod KnownPairs
 pub mod Gated

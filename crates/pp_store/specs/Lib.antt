@@ -8,6 +8,7 @@ pub mod Gates
 pub mod Import
 pub mod Probe
 pub mod ReadChunk
+pub mod Runs
 pub mod Sound
 pub mod Pairs
 pub mod Writes

@@ -18,6 +18,7 @@ mod leaves;
 mod pairing;
 mod probing;
 mod reading;
+mod runs;
 #[cfg(test)]
 mod stopping;
 mod upgrading;
@@ -29,4 +30,5 @@ pub use keeping::Store;
 pub use laws::laws_of_stores;
 pub use probing::probe;
 pub use reading::{ReadFault, read_chunk};
+pub use runs::{Run, read_run};
 pub use upgrading::{UpgradeFault, upgrade};

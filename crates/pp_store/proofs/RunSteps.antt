@@ -1,0 +1,108 @@
+-- Chunks that are read one behind the other into a buffer, and judged there.
+use Rattle.std.proofs.Common.{◌≡◌, ⊎_elim, ℕ, ◌+◌, ◌-◌, ◌*◌, ◌<◌, ◌≤◌, nat_eq, Bool, true, false, Option, Some, List, ◌++◌, length, take, drop, refl, sym, ◌∙◌, ap, subst, arith, below_more}
+use Rattle.std.specs.Prelude.{◌/◌, min}
+use Rattle.std.specs.Cmp.Lexicographic.{pointwise, same_text}
+use Rattle.std.proofs.Math.Nat.{mul-le-mul_left}
+use Rattle.std.proofs.Math.Seq.{drop-append_seam}
+use Rattle.std.proofs.lemmas.Bool.{cases_lt, cases_Bool}
+use Rattle.std.proofs.lemmas.List.{drop-drop, drop-append-le, take-append-le, take-append-drop, length-take, length-drop}
+use Rattle.sha2.specs.Sha256.{sha256}
+use Rattle.pp_terms.specs.tree.Content.{chunk_length}
+use Rattle.pp_terms.specs.tree.Book.{LookUp}
+use Rattle.pp_terms.specs.format.Descriptor.{Descriptor, chunks_of}
+use Rattle.pp_terms.specs.disk.Disk.{DiskState, IsKnown, IsRead}
+use Rattle.pp_terms.specs.disk.Store.{chunk_place}
+use Rattle.pp_scan.specs.Holding.{is_there}
+use Rattle.pp_store.specs.ReadChunk.{IsRightChunk, IsDamaged}
+use Rattle.pp_store.specs.Runs.{run_length, AreRightChunks, chunk_in, AreRead, AreLeaves, IsFirstDamaged}
+use Rattle.pp_store.proofs.Opening.{there_sound}
+
+-- whole chunks take no more bytes than more of them
+pub chunks_within : (k count chunk : ℕ) → k < count → k * chunk + chunk ≤ count * chunk
+chunks_within k count chunk lt = let le = mul-le-mul_left chunk lt in omega (arith, le)
+
+-- behind the bytes of the first `from` chunks
+pub chunk_in_behind : (d : Descriptor) (first from start : ℕ) (out : List ℕ) → start ≡ from * d.chunk → (j : ℕ) → chunk_in d (first + from) (drop start out) j ≡ chunk_in d first out (from + j)
+chunk_in_behind d first from start out is j =
+    let number : first + from + j ≡ first + (from + j) = omega arith in
+    let place : start + j * d.chunk ≡ (from + j) * d.chunk = omega (arith, is) in
+    ap (λ (i : ℕ). take (chunk_length d.size d.chunk i) (drop (j * d.chunk) (drop start out))) number
+    ∙ ap (λ (xs : List ℕ). take (chunk_length d.size d.chunk (first + (from + j))) xs) (drop-drop (j * d.chunk) start out ∙ ap (λ (n : ℕ). drop n out) place)
+
+-- as many leaves more
+pub leaves_on : (d : Descriptor) (first : ℕ) (book : LookUp) (out : List ℕ) (from start more : ℕ) → start ≡ from * d.chunk → AreLeaves d first book out from
+    → AreLeaves d (first + from) book (drop start out) more → AreLeaves d first book out (from + more)
+leaves_on d first book out from start more is before next k lt = ⊎_elim
+    (λ low. before k low)
+    (λ high.
+    let at : from + (k - from) ≡ k = omega arith in
+    let number : first + from + (k - from) ≡ first + k = omega arith in
+    ap (λ (i : ℕ). book 0 i) (sym number) ∙ next (k - from) (omega arith)
+    ∙ ap (λ (xs : List ℕ). Some (sha256 xs)) (chunk_in_behind d first from start out is (k - from) ∙ ap (λ (i : ℕ). chunk_in d first out i) at))
+    (cases_lt k from)
+
+-- the chunks in front of a write
+front_kept : (d : Descriptor) (first at : ℕ) (front one other : List ℕ) → length front ≡ at * d.chunk → (k : ℕ) → k < at → chunk_in d first (front ++ one) k ≡ chunk_in d first (front ++ other) k
+front_kept d first at front one other size k lt =
+    let room = chunks_within k at d.chunk lt in
+    let inside : k * d.chunk ≤ length front = omega (arith, room, size) in
+    let long : chunk_length d.size d.chunk (first + k) ≤ length (drop (k * d.chunk) front) = omega (arith, room, size, length-drop (k * d.chunk) front) in
+    same one inside long ∙ sym (same other inside long)
+  where
+    same : (rest : List ℕ) → k * d.chunk ≤ length front → chunk_length d.size d.chunk (first + k) ≤ length (drop (k * d.chunk) front)
+        → chunk_in d first (front ++ rest) k ≡ take (chunk_length d.size d.chunk (first + k)) (drop (k * d.chunk) front)
+    same rest inside long =
+        ap (λ (xs : List ℕ). take (chunk_length d.size d.chunk (first + k)) xs) (drop-append-le (k * d.chunk) front rest inside)
+        ∙ take-append-le (chunk_length d.size d.chunk (first + k)) (drop (k * d.chunk) front) rest long
+
+-- a write behind the chunks that were read, and one chunk more there
+module _ (d : Descriptor) (first : ℕ) (reads out new : List ℕ) (at start : ℕ) (is : start ≡ at * d.chunk) (inside : start ≤ length out) (before : AreRead d first reads out at) where
+  long : length (take start out) ≡ at * d.chunk
+  long = length-take start out ∙ omega (arith, inside, is)
+
+  kept : (k : ℕ) → k < at → chunk_in d first out k ≡ chunk_in d first (take start out ++ new) k
+  kept k lt = ap (λ (xs : List ℕ). chunk_in d first xs k) (sym (take-append-drop start out)) ∙ front_kept d first at (take start out) (drop start out) new long k lt
+
+  last : chunk_in d first (take start out ++ new) at ≡ take (chunk_length d.size d.chunk (first + at)) new
+  last = ap (λ (n : ℕ). take (chunk_length d.size d.chunk (first + at)) (drop n (take start out ++ new))) (sym long)
+      ∙ ap (λ (xs : List ℕ). take (chunk_length d.size d.chunk (first + at)) xs) (drop-append_seam (take start out) new)
+
+  pub read_kept : AreRead d first reads (take start out ++ new) at
+  read_kept k lt = subst (IsRead reads (chunk_place d.chunk (first + k))) (kept k lt) (before k lt)
+
+  pub read_more : IsRead reads (chunk_place d.chunk (first + at)) (take (chunk_length d.size d.chunk (first + at)) new) → AreRead d first reads (take start out ++ new) (at + 1)
+  read_more read = below_more _ _ read_kept (subst (IsRead reads (chunk_place d.chunk (first + at))) (sym last) read)
+
+-- ---- a whole run
+
+-- the buffer has room for each chunk of a run
+pub run_room : (d : Descriptor) (first room k : ℕ) → 0 < d.chunk → k < run_length d first room → k * d.chunk + d.chunk ≤ room
+run_room d first room k some lt =
+    let most : room / d.chunk * d.chunk ≤ room = omega arith in
+    let le = chunks_within k (room / d.chunk) d.chunk (omega (arith, lt)) in
+    omega (arith, most, le)
+
+-- what was read and has its leaves' digests
+pub right_run : (d : Descriptor) (first : ℕ) (book : LookUp) (disk : DiskState) (out : List ℕ) (read count : ℕ) → count ≤ read → (IsKnown disk → AreRead d first disk.history.reads out read)
+    → AreLeaves d first book out count → AreRightChunks d first book disk out count
+right_run d first book disk out read count le reads leaves k lt = record { count_is = refl; leaf_is = leaves k lt; read = λ known. reads known k (omega (arith, le, lt)) }
+
+pub damaged_run : (d : Descriptor) (first : ℕ) (book : LookUp) (disk : DiskState) (out : List ℕ) (read at : ℕ) (found kept : List ℕ) → (IsKnown disk → AreRead d first disk.history.reads out read)
+    → IsFirstDamaged d first book out read at found kept → IsDamaged d (first + at) book disk (drop (at * d.chunk) out) found kept
+damaged_run d first book disk out read at found kept reads is = record {
+  kept_is = is.kept_is;
+  found_is = is.found_is;
+  differ = is.differ;
+  read = λ known. reads known at is.among;
+}
+
+-- a damaged chunk isn't there
+pub damaged_absent : (d : Descriptor) (i : ℕ) (book : LookUp) (disk : DiskState) (out found kept : List ℕ) → IsDamaged d i book disk out found kept → IsKnown disk
+    → 0 < chunk_length d.size d.chunk i → chunk_length d.size d.chunk i ≤ length out → is_there d disk.history.reads book i ≡ true → ⊥
+damaged_absent d i book disk out found kept is known some room there =
+    let size : ℕ = chunk_length d.size d.chunk i in
+    let bytes : List ℕ = take size out in
+    ⊎_elim
+    (λ same. is.differ (is.found_is ∙ sym (same_text kept (sha256 bytes) (sym same))))
+    (λ other. there_sound d i book disk.history.reads bytes kept (chunk_place d.chunk i) size some (length-take size out ∙ omega (arith, room)) refl refl is.kept_is (is.read known) there (sym other))
+    (cases_Bool (pointwise nat_eq kept (sha256 bytes)))
