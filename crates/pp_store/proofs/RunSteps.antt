@@ -1,8 +1,8 @@
 -- Chunks that are read one behind the other into a buffer, and judged there.
-use Rattle.std.proofs.Common.{◌≡◌, ⊎_elim, ℕ, ◌+◌, ◌-◌, ◌*◌, ◌<◌, ◌≤◌, nat_eq, Bool, true, false, Option, Some, List, ◌++◌, length, take, drop, refl, sym, ◌∙◌, ap, subst, arith, below_more}
-use Rattle.std.specs.Prelude.{◌/◌, min}
+use Rattle.std.proofs.Common.{◌≡◌, ⊎_elim, ℕ, ◌+◌, ◌-◌, ◌*◌, ◌<◌, ◌≤◌, nat_eq, Bool, true, false, Option, Some, None, List, ◌++◌, length, take, drop, refl, sym, ◌∙◌, ap, subst, arith, below_more}
+use Rattle.std.specs.Prelude.{◌/◌, ◌%◌, min}
 use Rattle.std.specs.Cmp.Lexicographic.{pointwise, same_text}
-use Rattle.std.proofs.Math.Nat.{mul-le-mul_left}
+use Rattle.std.proofs.Math.Nat.{mul-le-mul_left, mul-le-mul_right}
 use Rattle.std.proofs.Math.Seq.{drop-append_seam}
 use Rattle.std.proofs.lemmas.Bool.{cases_lt, cases_Bool}
 use Rattle.std.proofs.lemmas.List.{drop-drop, drop-append-le, take-append-le, take-append-drop, length-take, length-drop}
@@ -14,7 +14,8 @@ use Rattle.pp_terms.specs.disk.Disk.{DiskState, IsKnown, IsRead}
 use Rattle.pp_terms.specs.disk.Store.{chunk_place}
 use Rattle.pp_scan.specs.Holding.{is_there}
 use Rattle.pp_store.specs.ReadChunk.{IsRightChunk, IsDamaged}
-use Rattle.pp_store.specs.Runs.{run_length, AreRightChunks, chunk_in, AreRead, AreLeaves, IsFirstDamaged}
+use Rattle.pp_store.specs.declared.reading.ReadFault.{ReadFault}
+use Rattle.pp_store.specs.Runs.{run_length, HasEnded, AreRightChunks, chunk_in, AreRead, AreLeaves, IsFirstDamaged}
 use Rattle.pp_store.proofs.Opening.{there_sound}
 
 -- whole chunks take no more bytes than more of them
@@ -81,6 +82,30 @@ run_room d first room k some lt =
     let most : room / d.chunk * d.chunk ≤ room = omega arith in
     let le = chunks_within k (room / d.chunk) d.chunk (omega (arith, lt)) in
     omega (arith, most, le)
+
+-- and for all of them
+pub run_fits : (d : Descriptor) (first room count : ℕ) → count ≤ run_length d first room → count * d.chunk ≤ room
+run_fits d first room count le =
+    let below : count * d.chunk ≤ room / d.chunk * d.chunk = mul-le-mul_right d.chunk (omega arith) in
+    ⊎_elim
+    (λ some. let most : room / d.chunk * d.chunk ≤ room = omega arith in omega (arith, below, most))
+    (λ none. let zero : count * d.chunk ≡ count * 0 = ap (λ (n : ℕ). count * n) (omega arith) in omega (arith, zero))
+    (cases_lt 0 d.chunk)
+
+-- no run has no chunk
+pub run_some : (d : Descriptor) (first room : ℕ) → 0 < d.chunk → d.chunk ≤ room → first < chunks_of d → 0 < run_length d first room
+run_some d first room some fits within = ⊎_elim
+    (λ more. omega arith)
+    (λ none. absurd (let zero : room / d.chunk * d.chunk ≡ 0 * d.chunk = ap (λ (n : ℕ). n * d.chunk) (omega arith) in
+    let rest : room % d.chunk < d.chunk = omega arith in
+    let whole : room / d.chunk * d.chunk + room % d.chunk ≡ room = omega arith in omega (arith, zero, rest, whole)))
+    (cases_lt 0 (room / d.chunk))
+
+-- a run is no longer than that
+pub run_within : (d : Descriptor) (first : ℕ) (book : LookUp) (disk disk' : DiskState) (out : List ℕ) (count : ℕ) (fault : Option ReadFault) → HasEnded d first book disk disk' out count fault
+    → count ≤ run_length d first (length out)
+run_within d first book disk disk' out count None is = omega arith
+run_within d first book disk disk' out count (Some fault) is = omega (arith, is.0)
 
 -- what was read and has its leaves' digests
 pub right_run : (d : Descriptor) (first : ℕ) (book : LookUp) (disk : DiskState) (out : List ℕ) (read count : ℕ) → count ≤ read → (IsKnown disk → AreRead d first disk.history.reads out read)
