@@ -5,7 +5,7 @@ use Rattle.std.specs.Cmp.Lexicographic.{pointwise}
 use Rattle.std.proofs.Math.Bool.{beq}
 use Rattle.std.specs.List.{list_any, list_all, range_with_len}
 use Rattle.std.proofs.lemmas.Bool.{lt-leb, and_parts, and_from}
-use Rattle.pp_promises.specs.Batches.{Pending, Batch, most_pending, longest_wait, is_late, is_full, is_due, with_puts, with_all_pending}
+use Rattle.pp_promises.specs.Batches.{Pending, Batch, most_pending, longest_wait, is_in, is_late, is_full, is_due, with_puts, with_all_pending, CommitsInTime}
 use Rattle.pp_audit.proofs.Sayings.{swap}
 use Rattle.pp_audit.specs.Batches as tests
 
@@ -30,14 +30,15 @@ all_same : (f g : ℕ → Bool) (xs : List ℕ) → ((i : ℕ) → f i ≡ g i) 
 all_same f g [] same = refl
 all_same f g (x ∷ xs) same = ap (λ (b : Bool). b && list_all f xs) (same x) ∙ ap (λ (b : Bool). g x && b) (all_same f g xs same)
 
+pub in_by : (stored : List ℕ) (now : ℕ) (b : Batch) (i : ℕ) → is_in (with_all_pending stored now b) i ≡ tests.is_in b.committed stored b.pending i
+in_by stored now b i = ap (λ (x : Bool). slice_index_or b.committed i false || x) (puts_any (λ p. eqb p.chunk i) stored now b.pending)
+
 pub due_by : (is_quiet : Bool) (now : ℕ) (stored : List ℕ) (b : Batch) → is_due is_quiet now (with_all_pending stored now b) ≡ tests.is_due is_quiet now stored b
 due_by is_quiet now stored b =
     let late : is_late now (with_all_pending stored now b) ≡ tests.is_late now b.pending =
     puts_any (λ p. leb (p.put_at + longest_wait) now) stored now b.pending ∙ ap (λ (x : Bool). x || tests.is_late now b.pending) (none_late now stored) in
     ap (λ (x : Bool). (is_quiet || x) || is_late now (with_all_pending stored now b))
-    (all_same (λ i. slice_index_or b.committed i false || list_any (λ p. eqb p.chunk i) (with_puts stored now b.pending))
-    (λ i. slice_index_or b.committed i false || tests.is_put stored b.pending i) (range_with_len 0 (length b.committed))
-    (λ i. ap (λ (x : Bool). slice_index_or b.committed i false || x) (puts_any (λ p. eqb p.chunk i) stored now b.pending)))
+    (all_same (is_in (with_all_pending stored now b)) (tests.is_in b.committed stored b.pending) (range_with_len 0 (length b.committed)) (in_by stored now b))
     ∙ ap (λ (x : Bool). (is_quiet || tests.are_all_in b.committed stored b.pending) || x) late
 
 pub full_by : (stored : List ℕ) (now : ℕ) (b : Batch) → is_full (with_all_pending stored now b) ≡ leb most_pending (length stored + length b.pending)
@@ -47,6 +48,31 @@ full_by stored now b = ap (λ (n : ℕ). leb most_pending n) (length-puts stored
 pub full_pending : (stored : List ℕ) (now : ℕ) (b : Batch) (full : Bool) → full ≡ leb most_pending (length stored + length b.pending)
     → is_full (with_all_pending stored now b) ≡ full
 full_pending stored now b full e = full_by stored now b ∙ sym e
+
+-- ---- both halves
+
+pub in_time : (is_quiet : Bool) (stored : List ℕ) (now : ℕ) (old new : Batch)
+    → tests.IsTimely is_quiet stored now old new → tests.LosesNone stored old new → CommitsInTime is_quiet stored now old new
+in_time is_quiet stored now old new timely none = record {
+  few = timely.few;
+  waits = timely.waits;
+  settled = timely.settled;
+  as_many = none.as_many;
+  stays = none.stays;
+  keeps = λ i lt. none.keeps i lt ∙ sym (in_by stored now old i);
+}
+
+pub timely_of : (is_quiet : Bool) (stored : List ℕ) (now : ℕ) (old new : Batch)
+    → CommitsInTime is_quiet stored now old new → tests.IsTimely is_quiet stored now old new
+timely_of is_quiet stored now old new s = record { few = s.few; waits = s.waits; settled = s.settled }
+
+pub none_lost_of : (is_quiet : Bool) (stored : List ℕ) (now : ℕ) (old new : Batch)
+    → CommitsInTime is_quiet stored now old new → tests.LosesNone stored old new
+none_lost_of is_quiet stored now old new s = record {
+  as_many = s.as_many;
+  stays = s.stays;
+  keeps = λ i lt. s.keeps i lt ∙ in_by stored now old i;
+}
 
 -- ---- lists of tests
 

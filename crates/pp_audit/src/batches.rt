@@ -52,7 +52,7 @@ fn is_pending(pending: &[Pending], chunk: u64) -> bool
 
 // Whether it is committed, or one of those that were stored or are pending.
 fn is_in(committed: &[bool], stored: &[u64], pending: &[Pending], chunk: usize) -> bool
-    ensures { result ≡ (slice_index_or committed.now chunk false || terms.is_put stored.now (map pending_of pending.now) chunk) }
+    ensures { result ≡ terms.is_in committed.now stored.now (map pending_of pending.now) chunk }
 {
     stands(committed, chunk as u64)
         || is_stored(stored, chunk as u64)
@@ -135,9 +135,59 @@ fn settles<'m>(is_quiet: bool, now: u64, new: &'m Batch<'m>) -> bool
     true
 }
 
+// Whether every chunk that was committed still is.
+fn stays_committed(old: &[bool], new: &[bool]) -> bool
+    ensures { IsTrue result ↔ terms.StaysCommitted old.now new.now }
+{
+    for chunk in 0..old.len() {
+        if old[chunk] && !stands(new, chunk as u64) {
+            return false;
+        }
+    }
+    true
+}
+
+// Whether exactly those chunks are in that were before, or that were stored.
+fn keeps<'m>(stored: &[u64], old: &'m Batch<'m>, new: &'m Batch<'m>) -> bool
+    ensures { IsTrue result ↔ terms.Keeps stored.now (batch_of old.now) (batch_of new.now) }
+{
+    for chunk in 0..old.committed.len() {
+        let was_in = is_in(old.committed, stored, old.pending, chunk);
+        if is_in(new.committed, &[], new.pending, chunk) != was_in {
+            return false;
+        }
+    }
+    true
+}
+
+// Whether few are pending, none is committed too early, and none too late.
+fn is_timely<'m>(
+    is_quiet: bool,
+    stored: &[u64],
+    now: u64,
+    old: &'m Batch<'m>,
+    new: &'m Batch<'m>,
+) -> bool
+    ensures { IsTrue result ↔ terms.IsTimely is_quiet stored.now now (batch_of old.now) (batch_of new.now) }
+{
+    new.pending.len() < MOST_PENDING
+        && waits(is_quiet, stored, now, old, new)
+        && settles(is_quiet, now, new)
+}
+
+// Whether nothing is lost, and nothing else comes in.
+fn loses_none<'m>(stored: &[u64], old: &'m Batch<'m>, new: &'m Batch<'m>) -> bool
+    ensures { IsTrue result ↔ terms.LosesNone stored.now (batch_of old.now) (batch_of new.now) }
+{
+    new.committed.len() == old.committed.len()
+        && stays_committed(old.committed, new.committed)
+        && keeps(stored, old, new)
+}
+
 /// Whether an event at a moment, by which these chunks were stored, left what it found as it should: fewer than 64 chunks are
 /// pending; none is committed where something came, some chunk is neither committed nor pending, none was pending for a tenth of
-/// a second, and they are fewer than 64; and in one of the first three cases none is left pending.
+/// a second, and they are fewer than 64; in one of the first three cases none is left pending; what was committed still is; and
+/// those chunks are committed or pending that were before, or that were stored, and no others.
 pub fn commits_in_time<'m>(
     is_quiet: bool,
     stored: &[u64],
@@ -147,7 +197,5 @@ pub fn commits_in_time<'m>(
 ) -> bool
     ensures { IsTrue result ↔ promises.CommitsInTime is_quiet stored.now now (batch_of old.now) (batch_of new.now) }
 {
-    new.pending.len() < MOST_PENDING
-        && waits(is_quiet, stored, now, old, new)
-        && settles(is_quiet, now, new)
+    is_timely(is_quiet, stored, now, old, new) && loses_none(stored, old, new)
 }

@@ -426,3 +426,28 @@ fn decides_batches(rt: HostRuntime) -> Result<(), Fail> {
     assert!(rt; commits_in_time(false, &[1], 550_000, &one, &whole));
     Ok(())
 }
+
+// What is stored is neither lost nor forgotten, and nothing else comes in.
+#[test]
+fn decides_what_is_kept(rt: HostRuntime) {
+    let none = Batch {
+        committed: &[false, false, true],
+        pending: &[],
+    };
+    let forgotten = Batch {
+        committed: &[false, false, false],
+        pending: &[],
+    };
+    let first = Pending {
+        chunk: 0,
+        put_at: 500_000,
+    };
+    let one = Batch {
+        committed: &[false, false, true],
+        pending: &[first],
+    };
+    assert!(rt; commits_in_time(false, &[], 500_000, &none, &none));
+    assert!(rt; !commits_in_time(false, &[0], 500_000, &none, &none));
+    assert!(rt; !commits_in_time(true, &[], 500_000, &none, &forgotten));
+    assert!(rt; !commits_in_time(false, &[1], 500_000, &none, &one));
+}

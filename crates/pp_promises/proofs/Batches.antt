@@ -1,7 +1,9 @@
 -- A peer that commits as it should commits in time.
-use Rattle.std.proofs.Common.{◌≡◌, ℕ, suc, ◌<◌, ◌≤◌, leb, Bool, true, false, cond, List, [], ◌∷◌, length, refl, sym, ap, subst, arith}
+use Rattle.std.proofs.Common.{◌≡◌, ℕ, suc, ◌<◌, ◌≤◌, leb, eqb, Bool, true, false, cond, ◌||◌, List, [], ◌∷◌, length, refl, sym, ◌∙◌, ap, subst, arith}
+use Rattle.std.specs.Prelude.{slice_index_or}
 use Rattle.std.proofs.lemmas.Bool.{leb-true, leb-false}
-use Rattle.pp_promises.specs.Batches.{Pending, Batch, is_full, after_commit, after_put, after_puts, is_due, after_read, after_event, with_puts, with_all_pending, CommitsInTime}
+use Rattle.std.proofs.lemmas.List.FromFn.{length-map-range_with_len, get_or-map-range_with_len}
+use Rattle.pp_promises.specs.Batches.{Pending, Batch, is_pending, is_in, is_full, committed_with, after_commit, after_put, after_puts, is_due, after_read, after_event, with_puts, with_all_pending, CommitsInTime}
 
 few_of : (n : ℕ) → leb 64 n ≡ false → n < 64
 few_of n e = let lt = leb-false 64 n e in omega (arith, lt)
@@ -72,7 +74,117 @@ settled_none quiet now b e = pick (is_due quiet now b) refl
     pick false y = let same : after_read quiet now b ≡ b = settle_waits quiet now b y in
         let e' : is_due quiet now b ≡ true = subst (λ (x : Batch). is_due quiet now x ≡ true) same e in absurd cc
 
+-- ---- nothing is lost, and nothing else comes in
+
+committed_at : (b : Batch) (i : ℕ) → i < length b.committed → slice_index_or (committed_with b) i false ≡ is_in b i
+committed_at b i lt = get_or-map-range_with_len (is_in b) 0 (length b.committed) i i false lt (omega arith)
+
+or_false : (x : Bool) → (x || false) ≡ x
+or_false true = refl
+or_false false = refl
+
+commit_keeps : (b : Batch) (i : ℕ) → i < length b.committed → is_in (after_commit b) i ≡ is_in b i
+commit_keeps b i lt = or_false (slice_index_or (committed_with b) i false) ∙ committed_at b i lt
+
+-- with one more that is pending
+with_put : ℕ → ℕ → Batch → Batch
+with_put k now b = record { committed = b.committed; pending = record { chunk = k; put_at = now } ∷ b.pending }
+
+put_keeps : (k now : ℕ) (b : Batch) (i : ℕ) → i < length b.committed → is_in (after_put k now b) i ≡ is_in (with_put k now b) i
+unfolding with_put
+put_keeps k now b i lt = pick (is_full (with_put k now b))
+  where
+    pick : (x : Bool) → is_in (cond x (after_commit (with_put k now b)) (with_put k now b)) i ≡ is_in (with_put k now b) i
+    pick true = commit_keeps (with_put k now b) i lt
+    pick false = refl
+
+-- the same chunks are in where the same were in before
+or_moved : (c x p : Bool) → (c || (x || p)) ≡ (x || (c || p))
+or_moved true true p = refl
+or_moved true false p = refl
+or_moved false x p = refl
+
+put_same : (k now : ℕ) (b b' : Batch) (i : ℕ) → is_in b i ≡ is_in b' i → is_in (with_put k now b) i ≡ is_in (with_put k now b') i
+unfolding with_put
+put_same k now b b' i same =
+    or_moved (slice_index_or b.committed i false) (eqb k i) (is_pending b i) ∙ ap (λ (x : Bool). eqb k i || x) same
+    ∙ sym (or_moved (slice_index_or b'.committed i false) (eqb k i) (is_pending b' i))
+
+all_same : (stored : List ℕ) (now : ℕ) (b b' : Batch) (i : ℕ) → is_in b i ≡ is_in b' i
+    → is_in (with_all_pending stored now b) i ≡ is_in (with_all_pending stored now b') i
+unfolding with_put
+all_same [] now b b' i same = same
+all_same (k ∷ more) now b b' i same = all_same more now (with_put k now b) (with_put k now b') i (put_same k now b b' i same)
+
+length-committed_with : (b : Batch) → length (committed_with b) ≡ length b.committed
+length-committed_with b = length-map-range_with_len (is_in b) 0 (length b.committed)
+
+length-after_put : (k now : ℕ) (b : Batch) → length (after_put k now b).committed ≡ length b.committed
+unfolding with_put
+length-after_put k now b = pick (is_full (with_put k now b))
+  where
+    pick : (x : Bool) → length (cond x (after_commit (with_put k now b)) (with_put k now b)).committed ≡ length b.committed
+    pick true = length-committed_with (with_put k now b)
+    pick false = refl
+
+length-after_puts : (stored : List ℕ) (now : ℕ) (b : Batch) → length (after_puts stored now b).committed ≡ length b.committed
+length-after_puts [] now b = refl
+length-after_puts (k ∷ more) now b = length-after_puts more now (after_put k now b) ∙ length-after_put k now b
+
+length-after_read : (quiet : Bool) (now : ℕ) (b : Batch) → length (after_read quiet now b).committed ≡ length b.committed
+length-after_read quiet now b = pick (is_due quiet now b)
+  where
+    pick : (x : Bool) → length (cond x (after_commit b) b).committed ≡ length b.committed
+    pick true = length-committed_with b
+    pick false = refl
+
+puts_keep : (stored : List ℕ) (now : ℕ) (b : Batch) (i : ℕ) → i < length b.committed
+    → is_in (after_puts stored now b) i ≡ is_in (with_all_pending stored now b) i
+unfolding with_put
+puts_keep [] now b i lt = refl
+puts_keep (k ∷ more) now b i lt =
+    puts_keep more now (after_put k now b) i (rw (length-after_put k now b) lt)
+    ∙ all_same more now (after_put k now b) (with_put k now b) i (put_keeps k now b i lt)
+
+read_keeps : (quiet : Bool) (now : ℕ) (b : Batch) (i : ℕ) → i < length b.committed → is_in (after_read quiet now b) i ≡ is_in b i
+read_keeps quiet now b i lt = pick (is_due quiet now b)
+  where
+    pick : (x : Bool) → is_in (cond x (after_commit b) b) i ≡ is_in b i
+    pick true = commit_keeps b i lt
+    pick false = refl
+
+-- ---- what was committed stays committed
+
+IsCommitted : ℕ → Batch → Type 0
+IsCommitted i b = slice_index_or b.committed i false ≡ true
+
+commit_stays : (b : Batch) (i : ℕ) → i < length b.committed → IsCommitted i b → IsCommitted i (after_commit b)
+unfolding IsCommitted
+commit_stays b i lt e = committed_at b i lt ∙ ap (λ (x : Bool). x || is_pending b i) e
+
+put_stays : (k now : ℕ) (b : Batch) (i : ℕ) → i < length b.committed → IsCommitted i b → IsCommitted i (after_put k now b)
+unfolding with_put IsCommitted
+put_stays k now b i lt e = pick (is_full (with_put k now b))
+  where
+    pick : (x : Bool) → slice_index_or (cond x (after_commit (with_put k now b)) (with_put k now b)).committed i false ≡ true
+    pick true = commit_stays (with_put k now b) i lt e
+    pick false = e
+
+puts_stay : (stored : List ℕ) (now : ℕ) (b : Batch) (i : ℕ) → i < length b.committed → IsCommitted i b → IsCommitted i (after_puts stored now b)
+puts_stay [] now b i lt e = e
+puts_stay (k ∷ more) now b i lt e =
+    puts_stay more now (after_put k now b) i (rw (length-after_put k now b) lt) (put_stays k now b i lt e)
+
+read_stays : (quiet : Bool) (now : ℕ) (b : Batch) (i : ℕ) → i < length b.committed → IsCommitted i b → IsCommitted i (after_read quiet now b)
+unfolding IsCommitted
+read_stays quiet now b i lt e = pick (is_due quiet now b)
+  where
+    pick : (x : Bool) → slice_index_or (cond x (after_commit b) b).committed i false ≡ true
+    pick true = commit_stays b i lt e
+    pick false = e
+
 pub batches_are_in_time : (quiet : Bool) (stored : List ℕ) (now : ℕ) (b : Batch) → is_full b ≡ false → CommitsInTime quiet stored now b (after_event quiet stored now b)
+unfolding IsCommitted
 batches_are_in_time quiet stored now b e = record {
   few = settle_few quiet now (after_puts stored now b) (puts_few stored now b (few_of (length b.pending) e));
   waits = λ none few.
@@ -80,4 +192,9 @@ batches_are_in_time quiet stored now b e = record {
       let calm : after_read quiet now (with_all_pending stored now b) ≡ with_all_pending stored now b = settle_waits quiet now (with_all_pending stored now b) none in
       subst (λ (x : Batch). (after_read quiet now x).committed ≡ b.committed) (sym same) (ap (λ (x : Batch). x.committed) calm);
   settled = settled_none quiet now (after_puts stored now b);
+  as_many = length-after_read quiet now (after_puts stored now b) ∙ length-after_puts stored now b;
+  stays = λ i lt was.
+      read_stays quiet now (after_puts stored now b) i (rw (length-after_puts stored now b) lt) (puts_stay stored now b i lt was);
+  keeps = λ i lt.
+      read_keeps quiet now (after_puts stored now b) i (rw (length-after_puts stored now b) lt) ∙ puts_keep stored now b i lt;
 }

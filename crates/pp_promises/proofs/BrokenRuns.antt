@@ -486,6 +486,12 @@ pub batches_early : CommitsInTime false (0 ∷ []) 0 empty (after_commit (stored
 batches_early s = let e : (after_commit (stored 1)).committed ≡ empty.committed = s.waits refl refl in
     let e' : 1 ≡ 0 = ap (λ (xs : List Bool). count_by (λ x. x) xs) e in absurd (omega (arith, e'))
 
+pub batches_lost : CommitsInTime false (0 ∷ []) 0 empty empty → ⊥
+batches_lost s = let e : false ≡ true = s.keeps 0 (omega arith) in absurd cc
+
+pub batches_forgotten : CommitsInTime false [] 0 (after_commit (stored 1)) (stored 1) → ⊥
+batches_forgotten s = let e : false ≡ true = s.stays 0 (omega arith) refl in absurd cc
+
 -- ---- what nobody has told
 
 -- a HAVE or an ACK

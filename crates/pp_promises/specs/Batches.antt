@@ -23,11 +23,15 @@ longest_wait = 100000
 abbrev pub is_pending : Batch → ℕ → Bool
 is_pending b i = list_any (λ p. p.chunk == i) b.pending
 
+-- the chunk is committed or pending
+abbrev pub is_in : Batch → ℕ → Bool
+is_in b i = slice_index_or b.committed i false || is_pending b i
+
 -- ---- the four cases: nothing came; no chunk is left that is neither committed nor pending; the oldest pending one was put
 -- long ago; so many are pending
 
 abbrev pub is_all_in : Batch → Bool
-is_all_in b = list_all (λ i. slice_index_or b.committed i false || is_pending b i) (range_with_len 0 (length b.committed))
+is_all_in b = list_all (is_in b) (range_with_len 0 (length b.committed))
 
 abbrev pub is_late : (now : ℕ) → Batch → Bool
 is_late now b = list_any (λ p. nat_le (p.put_at + longest_wait) now) b.pending
@@ -38,7 +42,7 @@ is_full b = nat_le most_pending (length b.pending)
 -- ---- what a peer does
 
 abbrev pub committed_with : Batch → List Bool
-committed_with b = map (λ i. slice_index_or b.committed i false || is_pending b i) (range_with_len 0 (length b.committed))
+committed_with b = map (is_in b) (range_with_len 0 (length b.committed))
 
 -- all that is pending is committed by one sync
 abbrev pub after_commit : Batch → Batch
@@ -83,3 +87,9 @@ pub record CommitsInTime (is_quiet : Bool) (stored : List ℕ) (now : ℕ) (old 
       → new.committed ≡ old.committed
   -- in one of the first three nothing is left pending
   pub settled : is_due is_quiet now new ≡ true → new.pending ≡ []
+  -- there are as many chunks
+  pub as_many : length new.committed ≡ length old.committed
+  -- what was committed stays committed
+  pub stays : (i : ℕ) → i < length old.committed → slice_index_or old.committed i false ≡ true → slice_index_or new.committed i false ≡ true
+  -- nothing is lost, and nothing comes in but what was stored
+  pub keeps : (i : ℕ) → i < length old.committed → is_in new i ≡ is_in (with_all_pending stored now old) i

@@ -70,3 +70,6 @@ pub record BrokenPromises : Type 0 where
   -- more than 64 chunks wait; nothing is committed though a wait was quiet
   pub batches : CommitsInTime true [] 1000000 (stored 65) (stored 65) → ⊥
   pub batches_early : CommitsInTime false (0 ∷ []) 0 empty (after_commit (stored 1)) → ⊥
+  -- a chunk that was stored is neither committed nor pending; one that was committed isn't any more, though it is pending
+  pub batches_lost : CommitsInTime false (0 ∷ []) 0 empty empty → ⊥
+  pub batches_forgotten : CommitsInTime false [] 0 (after_commit (stored 1)) (stored 1) → ⊥

@@ -30,4 +30,6 @@ returns c = record {
   tallied = broken.tallied;
   batches = broken.batches;
   batches_early = broken.batches_early;
+  batches_lost = broken.batches_lost;
+  batches_forgotten = broken.batches_forgotten;
 }

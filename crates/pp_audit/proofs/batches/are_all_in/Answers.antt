@@ -1,5 +1,4 @@
-use Rattle.std.proofs.Common.{◌||◌, false, map}
-use Rattle.std.specs.Prelude.{slice_index_or}
+use Rattle.std.proofs.Common.{map}
 use Rattle.pp_audit.specs.Batches as terms
 use Rattle.pp_audit.specs.Batches.{pending_of}
 use Rattle.pp_audit.proofs.Countings.{all_more}
@@ -7,5 +6,5 @@ use Rattle.pp_audit.proofs.batches.are_all_in.Goals as goal
 
 pub loop-chunk-preserved : goal.loop-chunk-preserved
 loop-chunk-preserved c =
-    all_more (λ i. slice_index_or c.args.committed.now i false || terms.is_put c.args.stored.now (map pending_of c.args.pending.now) i)
+    all_more (terms.is_in c.args.committed.now c.args.stored.now (map pending_of c.args.pending.now))
     c.loop-chunk.chunk c.is_in-all.result c.loop-chunk.all c.is_in-all.ensures c.loop-chunk.invariant
