@@ -73,4 +73,6 @@ pub use stored::stores_all;
 #[cfg(test)]
 mod life_tests;
 #[cfg(test)]
+mod store_tests;
+#[cfg(test)]
 mod tests;

@@ -451,3 +451,32 @@ fn decides_what_is_kept(rt: HostRuntime) {
     assert!(rt; !commits_in_time(true, &[], 500_000, &none, &forgotten));
     assert!(rt; !commits_in_time(false, &[1], 500_000, &none, &one));
 }
+
+// The life of the first fetcher, whose link refused its first datagram with requests; they are sent in the next turn.
+fn life_with_refusal<'m>(f: &'m Fetch) -> [Entry<'m>; 14] {
+    let mut list = life_of(f);
+    list[5] = came(400_000, SECOND, &f.wants);
+    list[6] = went(SECOND, &f.names);
+    list[7] = went(SEEDER, &f.asks);
+    list
+}
+
+#[test]
+fn decides_a_fetch_with_a_refusal(rt: HostRuntime) -> Result<(), Fail> {
+    let d = swarm(rt.alloc())?;
+    let datagrams = fetch_datagrams(rt.alloc(), &d.root())?;
+    let list = life_with_refusal(&datagrams);
+    assert!(rt; !asks_but(0, &d, &[true, true], &list));
+    assert!(rt; asks_but(1, &d, &[true, true], &list));
+    Ok(())
+}
+
+#[test]
+fn keeps_the_rest_with_a_refusal(rt: HostRuntime) -> Result<(), Fail> {
+    let d = swarm(rt.alloc())?;
+    let datagrams = fetch_datagrams(rt.alloc(), &d.root())?;
+    let list = life_with_refusal(&datagrams);
+    assert!(rt; !keeps_all(0, &d, &list));
+    assert!(rt; keeps_all(1, &d, &list));
+    Ok(())
+}

@@ -16,10 +16,10 @@ const OTHER: Address = Address::V4([10, 0, 0, 3], 7000);
 // This peer's number for the channel, and the other one's.
 const LOCAL: u32 = 0x0102_0304;
 
-const REMOTE: u32 = 0x0a0b_0c0d;
+pub(super) const REMOTE: u32 = 0x0a0b_0c0d;
 
 /// The 7,000 bytes of the generator with 5.
-fn content(alloc: Global) -> Result<Vec<u8>, AllocError>
+pub(super) fn content(alloc: Global) -> Result<Vec<u8>, AllocError>
     ensures { IfOk result (λ v. vec_len v ≡ 7000) }
 {
     let mut bytes = vec![in alloc; 0u8; 7000]?;
@@ -55,7 +55,7 @@ fn spanned(channel: u32, kind: u8, first: u32, last: u32) -> [u8; 13] {
 }
 
 /// An ACK of one chunk, and a REQUEST of another.
-fn acknowledges(channel: u32, came: u32, wanted: u32) -> [u8; 30] {
+pub(super) fn acknowledges(channel: u32, came: u32, wanted: u32) -> [u8; 30] {
     let mut bytes = [0; 30];
     bytes[..13].copy_from_slice(&spanned(channel, 2, came, came));
     bytes[21..].copy_from_slice(&spanned(0, 8, wanted, wanted)[4..]);
@@ -409,7 +409,11 @@ fn put_hash(bytes: &mut Vec<u8>, first: u32, last: u32, digest: Digest) -> Resul
 }
 
 /// DATA 0 behind its hashes.
-fn first_chunk(alloc: Global, l: &[Digest; 7], content: &[u8]) -> Result<Vec<u8>, AllocError> {
+pub(super) fn first_chunk(
+    alloc: Global,
+    l: &[Digest; 7],
+    content: &[u8],
+) -> Result<Vec<u8>, AllocError> {
     let mut bytes = Vec::from_slice(alloc, &REMOTE.to_be_bytes())?;
     let second = parent(&l[2], &l[3]);
     put_hash(&mut bytes, 0, 3, parent(&parent(&l[0], &l[1]), &second))?;
@@ -424,7 +428,7 @@ fn first_chunk(alloc: Global, l: &[Digest; 7], content: &[u8]) -> Result<Vec<u8>
 }
 
 /// The digests of the chunks.
-fn leaves(content: &[u8]) -> [Digest; 7] {
+pub(super) fn leaves(content: &[u8]) -> [Digest; 7] {
     [
         leaf(chunk_at(content, 0)),
         leaf(chunk_at(content, 1)),
@@ -437,7 +441,7 @@ fn leaves(content: &[u8]) -> [Digest; 7] {
 }
 
 /// The bytes with one changed.
-fn with_change(alloc: Global, bytes: &[u8], at: usize) -> Result<Vec<u8>, AllocError> {
+pub(super) fn with_change(alloc: Global, bytes: &[u8], at: usize) -> Result<Vec<u8>, AllocError> {
     let mut changed = Vec::from_slice(alloc, bytes)?;
     if let Some(byte) = changed.get_mut(at) {
         *byte ^= 1;
