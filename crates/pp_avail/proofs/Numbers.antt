@@ -5,6 +5,7 @@ use Rattle.std.specs.Int.{bit_at}
 use Rattle.std.proofs.lemmas.Nat.Bits.{bit_at-lt, bit_at-zero}
 use Rattle.std.proofs.lemmas.List.{get_or-set_same, get_or-set_other, get_or_past, get_or_default, get_or-replicate, length-set, length-replicate, same_lists}
 use Rattle.std.proofs.lemmas.List.FromFn.{length-map-range_with_len, get_or-map-range_with_len}
+use Rattle.std.proofs.lemmas.Bool.Decides.{nat_tests}
 use Rattle.std.proofs.lemmas.Bool.{cases_eq, cases_lt, eq-eqb, ne_eqb, eqb-true, and_parts, false_from_ne_true, both_ways}
 use Rattle.pp_terms.proofs.Facts.{member_below}
 use Rattle.pp_tree.specs.Bits.{bit_of}
@@ -193,6 +194,13 @@ still_most p chunks k most room = ⊎_elim
     (λ (none : bit_at chunks k < 1). omega (arith, none, most))
     (λ (set : 1 ≤ bit_at chunks k). let one : bit_at chunks k ≡ 1 = omega (arith, set, bit_at-lt chunks k) in omega (arith, one, room one))
     (cases_lt (bit_at chunks k) 1)
+
+-- one number before a step, of which a digit tells whether it was taken
+pub raised_step : (old new digit : ℕ) → digit < 2 → new ≡ old + digit → old ≡ cond (digit == 1) (new - 1) new
+raised_step old new digit low is = grind (arith, nat_tests)
+
+pub lowered_step : (old new digit : ℕ) → digit < 2 → new + digit ≡ old → old ≡ cond (digit == 1) (new + 1) new
+lowered_step old new digit low is = grind (arith, nat_tests)
 
 -- the counts once those of one word have changed
 pub counts_raised : (count n m w word i : ℕ) → (i / 64 ≡ w → n ≡ count) → m ≡ n + bit_at word (i % 64)

@@ -3,6 +3,7 @@ pub mod Ranks
 pub mod Rows
 pub mod Planes
 pub mod Levels
+pub mod Steps
 pub mod Counts
 pub mod Picks
 pub mod Choices

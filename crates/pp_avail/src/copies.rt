@@ -1,12 +1,13 @@
 // How many seats have each chunk.
-ghost use Rattle.std.specs.Prelude.{◌≡◌, ℕ, ◌+◌, ◌*◌, ◌/◌, ◌%◌, ◌^◌, ◌<◌, ◌≤◌, ◌==◌, true, false, cond, replicate, length, slice_index, slice_index_or, IfOk, MatchOption};
+ghost use Rattle.std.specs.Prelude.{◌≡◌, ℕ, ◌+◌, ◌*◌, ◌/◌, ◌%◌, ◌^◌, ◌<◌, ◌≤◌, ◌==◌, true, false, cond, if◌then◌else◌, replicate, length, slice_index, slice_index_or, IfOk, MatchOption};
 ghost use Rattle.std.specs.Int.{bit_at};
 ghost use Rattle.pp_tree.specs.Marks.{words_for};
 ghost use Rattle.pp_avail.specs.Rows.{is_among};
 ghost use Rattle.pp_avail.specs.Planes.{number_at};
 ghost use Rattle.pp_avail.specs.Levels.{is_found};
+ghost use Rattle.pp_avail.specs.Steps.{number_before, HasStepped};
 
-use crate::levels::refresh;
+use crate::levels::{Step, refresh};
 use crate::planes::Planes;
 use crate::row::Row;
 use pp_tree::ChunkSet;
@@ -77,7 +78,7 @@ impl Copies {
     {
         let mut planes = self.planes[w];
         planes.raise(chunks);
-        self.replace(w, planes, chunks);
+        self.replace(w, planes, chunks, Step::Up);
     }
 
     /// One seat fewer has some chunks of one word.
@@ -89,22 +90,21 @@ impl Copies {
     {
         let mut planes = self.planes[w];
         planes.lower(chunks);
-        self.replace(w, planes, chunks);
+        self.replace(w, planes, chunks, Step::Down);
     }
 
-    // Other numbers for one word, of which those at some places have changed, equal ones alike.
-    fn replace(&mut self, w: usize, planes: Planes, changed: u64)
+    // Other numbers for one word, of which those at some places have changed by one.
+    fn replace(&mut self, w: usize, planes: Planes, changed: u64, step: Step)
         requires here { 64 * w < length self.old }
         requires most { (k : ℕ) → k < 64 → number_at planes k ≤ 64 }
-        requires same { (k : ℕ) → k < 64 → bit_at changed k ≡ 0 → number_at planes k ≡ slice_index self.old (64 * w + k) }
-        requires alike { (j k : ℕ) → j < 64 → k < 64 → bit_at changed j ≡ 1 → bit_at changed k ≡ 1
-            → slice_index self.old (64 * w + j) ≡ slice_index self.old (64 * w + k) → number_at planes j ≡ number_at planes k }
+        requires steps { (k : ℕ) → bit_at changed k ≡ 1 → HasStepped step (number_at planes k) }
+        requires stepped { (k : ℕ) → k < 64
+            → slice_index self.old (64 * w + k) ≡ (if bit_at changed k == 1 then number_before step (number_at planes k) else number_at planes k) }
         ensures len { length self.new ≡ length self.old }
         ensures counts { (i : ℕ) → slice_index self.new i ≡ cond (i / 64 == w) (number_at planes (i % 64)) (slice_index self.old i) }
     {
-        let old = self.planes[w];
         self.planes[w] = planes;
-        refresh(&mut self.levels, w, &old, &planes, changed);
+        refresh(&mut self.levels, w, &planes, changed, step);
     }
 
     /// The least chunk of a set and of a row that so many seats have.

@@ -3,31 +3,77 @@ ghost use Rattle.std.specs.Prelude.{◌≡◌, ◌≢◌, ℕ, ◌+◌, ◌<◌,
 ghost use Rattle.std.specs.Int.{bit_at};
 ghost use Rattle.pp_avail.specs.Planes.{number_at};
 ghost use Rattle.pp_avail.specs.Levels.{is_in, IsLevelAt};
+ghost use Rattle.pp_avail.specs.Steps.{number_before, HasStepped, HaveStepped};
+ghost use Rattle.pp_avail.specs.declared.planes.Planes.{Planes};
 
 use crate::planes::Planes;
 use crate::row::Row;
 use pp_tree::words::lowest;
 
-/// Brings the levels to the numbers of one word, of which those at some places have changed, equal ones alike.
-pub(crate) fn refresh(levels: &mut [Row], w: usize, old: &Planes, new: &Planes, changed: u64)
+/// Which way numbers change by one.
+#[derive(Clone, Copy, Debug)]
+pub(crate) enum Step {
+    Up,
+    Down,
+}
+
+impl Step {
+    // What a number was before it.
+    fn before(self, number: u32) -> u32
+        requires stepped { HasStepped self number }
+        requires most { number ≤ 64 }
+        ensures value { result ≡ number_before self number }
+        ensures most { result ≤ 64 }
+    {
+        match self {
+            Step::Up => number - 1,
+            Step::Down => number + 1,
+        }
+    }
+}
+
+/// Brings the levels to the numbers of one word, of which those at some places have changed by one.
+pub(crate) fn refresh(levels: &mut [Row], w: usize, planes: &Planes, changed: u64, step: Step)
     requires width { length levels.old ≡ 64 }
     requires sizes { (k : ℕ) → k < 64 → w < length (slice_index_or levels.old k []) }
-    requires most { (k : ℕ) → k < 64 → (number_at old.now k ≤ 64) × (number_at new.now k ≤ 64) }
-    requires same { (k : ℕ) → k < 64 → bit_at changed k ≡ 0 → number_at new.now k ≡ number_at old.now k }
-    requires alike { (j k : ℕ) → bit_at changed j ≡ 1 → bit_at changed k ≡ 1 → number_at old.now j ≡ number_at old.now k → number_at new.now j ≡ number_at new.now k }
-    requires before { (fewer : ℕ) → fewer < 64 → IsLevelAt levels.old w old.now fewer }
+    requires most { (k : ℕ) → k < 64 → number_at planes.now k ≤ 64 }
+    requires steps { (k : ℕ) → bit_at changed k ≡ 1 → HasStepped step (number_at planes.now k) }
     ensures width { length levels.new ≡ 64 }
     ensures sizes { (k : ℕ) → length (slice_index_or levels.new k []) ≡ length (slice_index_or levels.old k []) }
     ensures others { (k v : ℕ) → v ≢ w → is_in levels.new k v ≡ is_in levels.old k v }
-    ensures here { (fewer : ℕ) → fewer < 64 → IsLevelAt levels.new w new.now fewer }
+    ensures here { (old : Planes) → HaveStepped step changed old planes.now
+        → ((fewer : ℕ) → fewer < 64 → IsLevelAt levels.old w old fewer) → (fewer : ℕ) → fewer < 64 → IsLevelAt levels.new w planes.now fewer }
+{
+    if changed == 0 {
+        return;
+    }
+    if let Some(number) = planes.same() {
+        mark(levels, w, number, true);
+        mark(levels, w, step.before(number), false);
+        return;
+    }
+    refresh_each(levels, w, planes, changed, step);
+}
+
+// The same, number by number.
+fn refresh_each(levels: &mut [Row], w: usize, planes: &Planes, changed: u64, step: Step)
+    requires width { length levels.old ≡ 64 }
+    requires sizes { (k : ℕ) → k < 64 → w < length (slice_index_or levels.old k []) }
+    requires most { (k : ℕ) → k < 64 → number_at planes.now k ≤ 64 }
+    requires steps { (k : ℕ) → bit_at changed k ≡ 1 → HasStepped step (number_at planes.now k) }
+    ensures width { length levels.new ≡ 64 }
+    ensures sizes { (k : ℕ) → length (slice_index_or levels.new k []) ≡ length (slice_index_or levels.old k []) }
+    ensures others { (k v : ℕ) → v ≢ w → is_in levels.new k v ≡ is_in levels.old k v }
+    ensures here { (old : Planes) → HaveStepped step changed old planes.now
+        → ((fewer : ℕ) → fewer < 64 → IsLevelAt levels.old w old fewer) → (fewer : ℕ) → fewer < 64 → IsLevelAt levels.new w planes.now fewer }
 {
     let mut rest = changed;
     while rest != 0 {
-        let k = lowest(rest);
-        let from = old.at(k);
-        mark(levels, w, from, new.places_of(from) != 0);
-        mark(levels, w, new.at(k), true);
-        rest &= !old.places_of(from);
+        let number = planes.at(lowest(rest));
+        let before = step.before(number);
+        mark(levels, w, number, true);
+        mark(levels, w, before, planes.places_of(before) != 0);
+        rest &= !planes.places_of(number);
     }
 }
 

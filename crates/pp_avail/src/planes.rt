@@ -1,5 +1,5 @@
 // Numbers in bit planes.
-ghost use Rattle.std.specs.Prelude.{◌≡◌, ℕ, ◌+◌, ◌*◌, ◌/◌, ◌%◌, ◌^◌, ◌<◌, ◌≤◌, ◌==◌};
+ghost use Rattle.std.specs.Prelude.{◌≡◌, ℕ, ◌+◌, ◌*◌, ◌/◌, ◌%◌, ◌^◌, ◌<◌, ◌≤◌, ◌==◌, IfSome};
 ghost use Rattle.std.specs.Int.{bit_at};
 ghost use Rattle.pp_avail.specs.Planes.{number_at};
 
@@ -53,6 +53,19 @@ fn alike(plane: u64, number: u32, place: u32) -> u64
     }
 }
 
+// The digit that all places have, where they have the same. No caller rests on it that `None` comes only where they differ.
+fn shared(plane: u64) -> Option<u32>
+    ensures { IfSome result (λ digit. (digit < 2) × ((k : ℕ) → k < 64 → bit_at plane k ≡ digit)) }
+{
+    if plane == 0 {
+        Some(0)
+    } else if plane == u64::MAX {
+        Some(1)
+    } else {
+        None
+    }
+}
+
 impl Planes {
     /// All numbers are 0.
     pub(crate) const ZERO: Planes = Planes {
@@ -78,6 +91,21 @@ impl Planes {
             + 16 * digit(self.sixteens, k)
             + 32 * digit(self.thirty_twos, k)
             + 64 * digit(self.sixty_fours, k)
+    }
+
+    /// The number that all places have, where they have the same. No caller rests on it that `None` comes only where they differ.
+    pub(crate) fn same(&self) -> Option<u32>
+        ensures { IfSome result (λ number. (number < 128) × ((k : ℕ) → k < 64 → number_at self.now k ≡ number)) }
+    {
+        Some(
+            shared(self.ones)?
+                + 2 * shared(self.twos)?
+                + 4 * shared(self.fours)?
+                + 8 * shared(self.eights)?
+                + 16 * shared(self.sixteens)?
+                + 32 * shared(self.thirty_twos)?
+                + 64 * shared(self.sixty_fours)?,
+        )
     }
 
     /// The places that have a number.

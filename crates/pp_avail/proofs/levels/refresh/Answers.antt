@@ -1,35 +1,20 @@
-use Rattle.std.proofs.Common.{refl, ◌∙◌, sym}
-use Rattle.std.specs.Int.{bit_at}
-use Rattle.std.proofs.lemmas.Bool.{eq-eqb, eqb-true}
-use Rattle.pp_avail.proofs.Levelling.{level_untouched, level_by_places, level_by_one, level_next, left_within, fewer_left}
+use Rattle.std.proofs.Common.{◌∙◌, sym}
+use Rattle.pp_avail.proofs.Levelling.{level_whole, level_unchanged, some_stepped}
 use Rattle.pp_avail.proofs.levels.refresh.Goals as goal
 
-pub loop-rest-init : goal.loop-rest-init
-loop-rest-init c = (
-  c.requires.width,
-  (λ k. refl),
-  (λ k v other. refl),
-  (λ k one. one),
-  (λ fewer lt free. level_untouched c.args.levels.now c.args.w c.args.changed c.args.old.now c.args.new.now fewer (c.requires.before fewer lt) c.requires.same free),
-)
+pub returns-then-changed-eq0-clause-here : goal.returns-then-changed-eq0-clause-here
+returns-then-changed-eq0-clause-here c = λ old have before fewer lt.
+    level_unchanged c.args.levels.now c.args.w c.args.changed c.args.step old c.args.planes.now fewer c.if-changed-eq0.true have (before fewer lt)
 
-pub loop-rest-smaller : goal.loop-rest-smaller
-loop-rest-smaller c = fewer_left c.loop-rest.rest c.places_of-in-loop-rest.result c.lowest-k.result c.places_of-in-loop-rest.type_inv c.lowest-k.ensures.range c.lowest-k.ensures.here
-    (eqb-true (bit_at c.places_of-in-loop-rest.result c.lowest-k.result) 1 (c.places_of-in-loop-rest.ensures c.lowest-k.result c.lowest-k.ensures.range ∙ eq-eqb _ _ (sym c.at-from.ensures.value)))
+pub before-requires-clause-stepped : goal.before-requires-clause-stepped
+before-requires-clause-stepped c =
+    some_stepped c.args.step c.args.changed c.args.planes.now c.in-Some.number c.ranges.changed.fits c.if-changed-eq0.false c.requires.steps c.in-Some.ensures.1
 
-pub loop-rest-preserved : goal.loop-rest-preserved
-loop-rest-preserved c = (
-  c.mark-in-loop-rest.ensures.width,
-  (λ k. c.mark-in-loop-rest.ensures.sizes k ∙ c.mark.ensures.sizes k ∙ c.loop-rest.invariant.1 k),
-  (λ k v other. c.mark-in-loop-rest.ensures.others k v other ∙ c.mark.ensures.others k v other ∙ c.loop-rest.invariant.2 k v other),
-  (λ k one. c.loop-rest.invariant.3 k (left_within c.loop-rest.rest _ k one)),
-  (λ fewer lt free. level_next c.loop-rest.levels c.mark.new.levels c.mark-in-loop-rest.new.levels c.args.w c.loop-rest.rest c.places_of-in-loop-rest.result c.args.changed
-      c.args.old.now c.args.new.now c.lowest-k.result c.at-from.result c.at.result fewer c.loop-rest.auto.rest-fits.fits c.places_of-in-loop-rest.type_inv c.places_of-in-loop-rest.ensures
-      (sym c.at-from.ensures.value) (sym c.at.ensures.value) c.lowest-k.ensures.here c.loop-rest.invariant.3 c.requires.alike
-      (c.loop-rest.invariant.4 fewer lt)
-      (c.mark.ensures.levels fewer)
-      (λ e. level_by_places c.mark.new.levels c.args.w c.at-from.result c.args.new.now c.places_of.result fewer e c.places_of.type_inv c.places_of.ensures (c.mark.ensures.here fewer e))
-      (c.mark-in-loop-rest.ensures.levels fewer)
-      (λ e. level_by_one c.mark-in-loop-rest.new.levels c.args.w c.at.result c.args.new.now c.lowest-k.result fewer e c.lowest-k.ensures.range (sym c.at.ensures.value)
-      (c.mark-in-loop-rest.ensures.here fewer e)) free),
-)
+pub returns-in-Some-clause-here : goal.returns-in-Some-clause-here
+returns-in-Some-clause-here c = λ old have before fewer lt.
+    level_whole c.args.levels.now c.mark.new.levels c.mark-in-Some.new.levels c.args.w c.args.changed c.args.step old c.args.planes.now c.in-Some.number fewer
+    c.ranges.changed.fits have
+    (some_stepped c.args.step c.args.changed c.args.planes.now c.in-Some.number c.ranges.changed.fits c.if-changed-eq0.false c.requires.steps c.in-Some.ensures.1)
+    c.in-Some.ensures.1 (before fewer lt) (c.mark.ensures.levels fewer) (c.mark.ensures.here fewer)
+    (λ other. c.mark-in-Some.ensures.levels fewer (λ e. other (e ∙ c.before-in-Some.ensures.value)))
+    (λ e. c.mark-in-Some.ensures.here fewer (e ∙ sym c.before-in-Some.ensures.value))

@@ -1,7 +1,10 @@
 use Rattle.std.proofs.Common.{◌≡◌, ◌<◌, ◌+◌, ◌*◌, ◌%◌, cond, length, ap, ◌∙◌, arith, slice_index}
+use Rattle.std.specs.Int.{bit_at}
+use Rattle.std.proofs.lemmas.Nat.Bits.{bit_at-lt}
+use Rattle.pp_tree.proofs.Marking.{place_in}
 use Rattle.pp_avail.specs.Planes.{number_at}
 use Rattle.pp_avail.specs.Rows.{is_among}
-use Rattle.pp_avail.proofs.Numbers.{numbers_size, number_read, place_read, number_by_word, among_place, one_to_take, counts_lowered}
+use Rattle.pp_avail.proofs.Numbers.{lowered_step, numbers_size, number_read, place_read, number_by_word, among_place, one_to_take, counts_lowered}
 use Rattle.pp_avail.proofs.copies.Copies.lower.Goals as goal
 
 pub index-requires : goal.index-requires
@@ -26,24 +29,21 @@ replace-requires-clause-most c = λ k lt.
     let number = number_read c.self.inside.planes.items c.args.self.now (64 * c.args.w + k) c.self.view_is in
     omega (arith, c.lower.ensures k, most, number, read)
 
-pub replace-requires-clause-same : goal.replace-requires-clause-same
-replace-requires-clause-same c = λ k lt unset.
+pub replace-requires-clause-steps : goal.replace-requires-clause-steps
+replace-requires-clause-steps c = λ k one.
     let inside : c.args.w < length c.self.inside.planes.items = omega (arith, c.requires.here, numbers_size c.self.inside.planes.items c.args.self.now c.self.view_is) in
-    omega (arith, c.lower.ensures k, unset, place_read c.self.inside.planes.items c.args.self.now c.index.result.now c.args.w k c.self.view_is inside c.index.ensures lt)
+    let lt : k < 64 = place_in c.args.chunks k c.ranges.chunks.fits one in
+    let read : slice_index c.args.self.now (64 * c.args.w + k) ≡ number_at c.index.result.now k =
+    place_read c.self.inside.planes.items c.args.self.now c.index.result.now c.args.w k c.self.view_is inside c.index.ensures lt in
+    let most = c.self.invariant.most (64 * c.args.w + k) in
+    let number = number_read c.self.inside.planes.items c.args.self.now (64 * c.args.w + k) c.self.view_is in
+    omega (arith, c.lower.ensures k, one, most, number, read)
 
-pub replace-requires-clause-alike : goal.replace-requires-clause-alike
-replace-requires-clause-alike c = λ j k low lt one two equal.
+pub replace-requires-clause-stepped : goal.replace-requires-clause-stepped
+replace-requires-clause-stepped c = λ k lt.
     let inside : c.args.w < length c.self.inside.planes.items = omega (arith, c.requires.here, numbers_size c.self.inside.planes.items c.args.self.now c.self.view_is) in
-    omega (
-      arith,
-      c.lower.ensures j,
-      c.lower.ensures k,
-      one,
-      two,
-      equal,
-      place_read c.self.inside.planes.items c.args.self.now c.index.result.now c.args.w j c.self.view_is inside c.index.ensures low,
-      place_read c.self.inside.planes.items c.args.self.now c.index.result.now c.args.w k c.self.view_is inside c.index.ensures lt,
-    )
+    place_read c.self.inside.planes.items c.args.self.now c.index.result.now c.args.w k c.self.view_is inside c.index.ensures lt
+    ∙ lowered_step (number_at c.index.result.now k) (number_at c.lower.new.self k) (bit_at c.args.chunks k) (bit_at-lt c.args.chunks k) (c.lower.ensures k)
 
 pub returns-clause-counts : goal.returns-clause-counts
 returns-clause-counts c = λ i.

@@ -1,6 +1,8 @@
 use Rattle.std.proofs.Common.{◌≡◌, ◌<◌, ◌+◌, ◌*◌, ◌%◌, length, ◌∙◌, arith, slice_index}
+use Rattle.std.specs.Int.{bit_at}
+use Rattle.std.proofs.lemmas.Nat.Bits.{bit_at-lt}
 use Rattle.pp_avail.specs.Planes.{number_at}
-use Rattle.pp_avail.proofs.Numbers.{numbers_size, number_read, place_read, number_by_word, among_place, room_for_more, still_most, counts_raised}
+use Rattle.pp_avail.proofs.Numbers.{raised_step, numbers_size, number_read, place_read, number_by_word, among_place, room_for_more, still_most, counts_raised}
 use Rattle.pp_avail.proofs.copies.Copies.raise.Goals as goal
 
 pub index-requires : goal.index-requires
@@ -30,24 +32,14 @@ replace-requires-clause-most c = λ k lt.
           (λ one. omega (arith, c.requires.room (64 * c.args.w + k) (among_place c.args.w c.args.chunks k lt one), read)),
     )
 
-pub replace-requires-clause-same : goal.replace-requires-clause-same
-replace-requires-clause-same c = λ k lt unset.
-    let inside : c.args.w < length c.self.inside.planes.items = omega (arith, c.requires.here, numbers_size c.self.inside.planes.items c.args.self.now c.self.view_is) in
-    omega (arith, c.raise.ensures k, unset, place_read c.self.inside.planes.items c.args.self.now c.index.result.now c.args.w k c.self.view_is inside c.index.ensures lt)
+pub replace-requires-clause-steps : goal.replace-requires-clause-steps
+replace-requires-clause-steps c = λ k one. omega (arith, c.raise.ensures k, one)
 
-pub replace-requires-clause-alike : goal.replace-requires-clause-alike
-replace-requires-clause-alike c = λ j k low lt one two equal.
+pub replace-requires-clause-stepped : goal.replace-requires-clause-stepped
+replace-requires-clause-stepped c = λ k lt.
     let inside : c.args.w < length c.self.inside.planes.items = omega (arith, c.requires.here, numbers_size c.self.inside.planes.items c.args.self.now c.self.view_is) in
-    omega (
-      arith,
-      c.raise.ensures j,
-      c.raise.ensures k,
-      one,
-      two,
-      equal,
-      place_read c.self.inside.planes.items c.args.self.now c.index.result.now c.args.w j c.self.view_is inside c.index.ensures low,
-      place_read c.self.inside.planes.items c.args.self.now c.index.result.now c.args.w k c.self.view_is inside c.index.ensures lt,
-    )
+    place_read c.self.inside.planes.items c.args.self.now c.index.result.now c.args.w k c.self.view_is inside c.index.ensures lt
+    ∙ raised_step (number_at c.index.result.now k) (number_at c.raise.new.self k) (bit_at c.args.chunks k) (bit_at-lt c.args.chunks k) (c.raise.ensures k)
 
 pub returns-clause-counts : goal.returns-clause-counts
 returns-clause-counts c = λ i.
