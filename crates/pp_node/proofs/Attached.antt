@@ -46,6 +46,7 @@ module _ {E : Type 0} {name : List ℕ} (chunk : ℕ) (source source' : SourceSt
   pub run_since : (status : Status) → IsImportRun status chunk source source' mid new → IsImportRun status chunk source source' old new
   run_since status r = record {
     whole = λ known. r.whole (known_mid known);
+    sound = λ known. r.sound (known_mid known);
     no_store = λ known. r.no_store (known_mid known);
     refused = λ known. r.refused (known_mid known);
     unwritten = λ known. r.unwritten (known_mid known);

@@ -17,6 +17,7 @@ use Rattle.pp_node.specs.Outside.{Outside, outside}
 use Rattle.pp_node.specs.Checking.{ChecksIn, CheckEnds}
 use Rattle.pp_node.specs.Exporting.{ExportsIn, ExportEnds}
 use Rattle.pp_node.specs.Promising.{SeedWords, SeedsIn, SeedEnds}
+use Rattle.pp_node.specs.Upgrading.{UpgradesIn, IsUpgradeRun, UpgradeEnds}
 use Rattle.pp_node.specs.Commanding.{HasEnded}
 use Rattle.pp_node.specs.Status.{number_of}
 use Rattle.pp_node.specs.declared.status.Status.{Status}
@@ -50,6 +51,13 @@ module _ (status : Status) (store : List ℕ) (link : LinkState) (disk disk' : D
   export_ended d source book book' ends named unwritten lasts rooted =
       record { status = status; number = refl; ends = ends link source; named = named; unwritten = unwritten; lasts = lasts; unread = refl; rooted = rooted }
 
+  pub upgrade_ended : (d : Descriptor) (source source' : SourceState) (book book' : BookState)
+      → ((l : LinkState) → UpgradesIn status d (outside disk l source sink book) (outside disk' l source' sink' book'))
+      → (IsKnown disk → GainsName disk.history.names store disk'.history.names) → IsUpgradeRun status d source source' disk disk' → (book' ≡ book) ⊎ IsBookOf d book'
+      → UpgradeEnds (number_of status) store d (outside disk link source sink book) (outside disk' link source' sink' book')
+  upgrade_ended d source source' book book' ends named run rooted =
+      record { status = status; number = refl; ends = ends link; named = named; run = run; rooted = rooted }
+
 -- ---- a run's end
 
 module _ (words : List (List ℕ)) (command : Command) (status : Status) (result : ℕ) (old new : Outside) (read : Spells words command)
@@ -71,6 +79,10 @@ module _ (words : List (List ℕ)) (command : Command) (status : Status) (result
   pub export_ends : (store : List ℕ) (descriptor : Descriptor) → IsOnStore (codes "export") words store descriptor
       → ExportEnds result store descriptor old new
   export_ends store descriptor spelled = ended_as (Export store descriptor) spelled
+
+  pub upgrade_ends : (store : List ℕ) (descriptor : Descriptor) → IsOnStore (codes "upgrade") words store descriptor
+      → UpgradeEnds result store descriptor old new
+  upgrade_ends store descriptor spelled = ended_as (Upgrade store descriptor) spelled
 
 usage_only : (s : Status) → number_of s ≡ 1 → s ≡ Usage
 usage_only Usage is = refl
@@ -97,7 +109,8 @@ never (Check store descriptor) number old new one end =
 never (Fetch store descriptor listen turns order peers) number old new one end = end
 never (Export store descriptor) number old new one end =
     subst (λ (s : Status). ExportsIn s descriptor old new) (usage_only end.status (sym end.number ∙ one)) end.ends
-never (Upgrade store descriptor) number old new one end = end
+never (Upgrade store descriptor) number old new one end =
+    subst (λ (s : Status). UpgradesIn s descriptor old new) (usage_only end.status (sym end.number ∙ one)) end.ends
 never Replay number old new one end = end
 never (Rehearse n) number old new one end = end
 

@@ -7,6 +7,7 @@ pub mod Looks
 pub mod Readies
 pub mod Spans
 pub mod Promises
+pub mod Upgrades
 pub mod Commands
 pub mod Seeds
 pub mod Exports

@@ -75,6 +75,15 @@ lasts_opened d old new fresh same on sound = record {
       (sound (moment_of old) (omega arith) (began_opened d old new fresh same began));
 }
 
+pub stays_sound : (d : Descriptor) (old new : History) → IsFreshlyAttached old → SameAttachment old new → StaysSound d old new → BeganSound d new
+    → Throughout new new.start (IsSound d)
+stays_sound d old new fresh same sound began =
+    subst (λ (m : ℕ). Throughout new m (IsSound d)) (sym (same.start ∙ fresh.started)) (sound (moment_of old) (omega arith) (began_opened d old new fresh same began))
+
+pub sound_attached : (d : Descriptor) (h : History) → IsFreshlyAttached h → BeganSound d h → Throughout h h.start (IsSound d)
+sound_attached d h fresh began =
+    stays_sound d h h fresh (record { start = refl; first = refl; found = refl; names = refl }) (λ moment le all. all) began
+
 -- what reads gave is sound then
 pub sound_opened : (d : Descriptor) (old new : History) → IsFreshlyAttached old → SameAttachment old new → IsImage old.epoch old.reads → BeganSound d new → IsSound d old.reads
 sound_opened d old new fresh same whole began = began_opened d old new fresh same began old.reads (inl whole)

@@ -1,6 +1,6 @@
 -- The commands that are built.
 use Rattle.std.specs.Prelude.{List, [], ◌∷◌}
-use Rattle.pp_terms.specs.command.CommandLine.{Shape, import_shape, seed_shape, check_shape, export_shape}
+use Rattle.pp_terms.specs.command.CommandLine.{Shape, import_shape, seed_shape, check_shape, export_shape, upgrade_shape}
 
 abbrev pub built : List Shape
 built =
@@ -8,4 +8,5 @@ built =
     seed_shape ∷
     check_shape ∷
     export_shape ∷
+    upgrade_shape ∷
     []

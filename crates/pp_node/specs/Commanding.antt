@@ -1,16 +1,18 @@
 -- The commands that words may ask for, and how each of them ends.
 use Rattle.std.specs.Prelude.{ℕ}
-use Rattle.pp_terms.specs.command.Commands.{Command, Import, Seed, Check, Export}
+use Rattle.pp_terms.specs.command.Commands.{Command, Import, Seed, Check, Export, Upgrade}
 use Rattle.pp_node.specs.Checking.{CheckEnds}
 use Rattle.pp_node.specs.Exporting.{ExportEnds}
 use Rattle.pp_node.specs.Outside.{Outside}
 use Rattle.pp_node.specs.Promising.{SeedEnds}
 use Rattle.pp_node.specs.Run.{ImportEnds}
+use Rattle.pp_node.specs.Upgrading.{UpgradeEnds}
 
 -- the commands that fill the book, and those that use the link
 abbrev pub FillsBook : Command → Type 0
 FillsBook (Check store descriptor) = Unit {0}
 FillsBook (Export store descriptor) = Unit {0}
+FillsBook (Upgrade store descriptor) = Unit {0}
 FillsBook (Seed store descriptor listen turns) = Unit {0}
 FillsBook _ = ⊥
 
@@ -25,4 +27,5 @@ HasEnded (Check store descriptor) number old new = CheckEnds number store descri
 HasEnded (Seed store descriptor listen turns) number old new =
     SeedEnds number (record { store = store; descriptor = descriptor; listen = listen; turns = turns }) old new
 HasEnded (Export store descriptor) number old new = ExportEnds number store descriptor old new
+HasEnded (Upgrade store descriptor) number old new = UpgradeEnds number store descriptor old new
 HasEnded _ number old new = ⊥

@@ -12,4 +12,5 @@ pub mod Checking
 pub mod Seeding
 pub mod Promising
 pub mod Exporting
+pub mod Upgrading
 pub mod Commanding

@@ -8,6 +8,8 @@ use Rattle.pp_terms.specs.disk.Disk.{DiskState, IsKnown, GainsName, Throughout, 
 use Rattle.pp_terms.specs.disk.Untouched.{IsFreshlyAttached}
 use Rattle.pp_terms.specs.command.Stream.{SourceState, SinkState, Gains}
 use Rattle.pp_terms.specs.command.Report.{descriptor_line, disk_fault_line, source_fault_line, not_empty_line, content_size_line}
+use Rattle.pp_terms.specs.disk.Sound.{IsSound, BeganSound}
+use Rattle.pp_store.specs.Growing.{IsContent}
 use Rattle.pp_store.specs.Imported.{imported}
 use Rattle.pp_store.specs.Import.{most_bytes, TakesAtMost}
 use Rattle.pp_store.specs.declared.importing.ImportFault.{ImportFault}
@@ -90,6 +92,9 @@ pub record IsImportRun (status : Status) (chunk : ℕ) (source source' : SourceS
       → (moment : ℕ) → disk'.history.start < moment → moment ≤ moment_of disk'.history
       → Throughout disk'.history moment (λ image. Has 0 (header (imported content chunk)) image
       → IsStoreOf (imported content chunk) content image)
+  -- Where every image was sound at the attachment, each is since.
+  pub sound : IsKnown disk → (content : List ℕ) → source.left ≡ Some content → IsContent chunk content
+      → BeganSound (imported content chunk) disk'.history → Throughout disk'.history disk'.history.start (IsSound (imported content chunk))
   -- While no sync succeeded, what reads give of a disk that was empty is no store.
   pub no_store : IsKnown disk → disk'.history.found ≡ [] → moment_of disk'.history ≡ disk'.history.start → IsNoStore disk'.history.reads
   -- A disk that wasn't empty is refused, unless its length couldn't be had. Nothing was done on it since the attachment, and

@@ -15,6 +15,7 @@ mod seeding;
 mod status;
 mod top;
 mod turning;
+mod upgrading;
 
 pub use seeding::seed;
 pub use status::Status;

@@ -347,3 +347,35 @@ fn names_the_place_of_a_descriptors_fault(rt: HostRuntime) -> Result<(), Fail> {
     }
     Ok(())
 }
+
+fn upgrade_of(alloc: Global, file: &[u8]) -> Result<Ran, AllocError> {
+    import_over(
+        alloc,
+        &["upgrade", "s", DESCRIPTOR_OF_ABC],
+        MemoryDisk::new(alloc, &[])?,
+        MemorySink::new(alloc),
+        &mut MemorySource::new(file),
+    )
+}
+
+// In version 1 the store of `abc` has no gate, and ends with the content.
+#[test]
+fn upgrades_one_chunk(rt: HostRuntime) -> Result<(), Fail> {
+    let mut file = FRONT;
+    file[7] = b'1';
+    let ran = upgrade_of(rt.alloc(), &file)?;
+    assert_eq!(rt; ran.status, 0);
+    assert_eq!(rt; ran.sink.bytes(), b"held 1 of 1 0-0\n".as_slice());
+    assert_eq!(rt; ran.disk.bytes(), store_of_abc().as_slice());
+    Ok(())
+}
+
+#[test]
+fn upgrades_no_new_store(rt: HostRuntime) -> Result<(), Fail> {
+    let ran = upgrade_of(rt.alloc(), &FRONT)?;
+    assert_eq!(rt; ran.status, 2);
+    let line = b"not a store: byte 7 is 50, wanted 49\n";
+    assert_eq!(rt; ran.sink.bytes(), line.as_slice());
+    assert_eq!(rt; ran.disk.bytes().len(), 0);
+    Ok(())
+}

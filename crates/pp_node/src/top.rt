@@ -12,6 +12,7 @@ ghost use Rattle.pp_node.specs.Text.{Says};
 ghost use Rattle.pp_node.specs.Run.{ImportEnds};
 ghost use Rattle.pp_node.specs.Checking.{CheckEnds};
 ghost use Rattle.pp_node.specs.Exporting.{ExportEnds};
+ghost use Rattle.pp_node.specs.Upgrading.{UpgradeEnds};
 ghost use Rattle.pp_node.specs.Promising.{SeedWords, SeedEnds};
 ghost use Rattle.pp_node.specs.Outside.{outside};
 ghost use Rattle.pp_node.specs.Status.{number_of};
@@ -24,6 +25,7 @@ use crate::importing::import;
 use crate::refusing::refuse;
 use crate::seeding::seed;
 use crate::status::Status;
+use crate::upgrading::upgrade;
 use pp_outside::{Disk, Link, Sink, Source};
 use pp_tree::Book;
 use pp_words::Command;
@@ -72,7 +74,11 @@ pub fn run<D: Disk, L: Link, S: Source, K: Sink>(
         → ExportEnds result store descriptor (outside (D.state disk.old) (L.seen link.old) (S.state source.old) (K.state sink.old) book.old)
         (outside (D.state disk.new) (L.seen link.new) (S.state source.new) (K.state sink.new) book.new) }
 
-    // Only `seed` uses the link, and only it, `check` and `export` fill the book.
+    ensures upgrade { (store : List ℕ) (descriptor : Descriptor) → IsOnStore (codes "upgrade") (texts words.now) store descriptor
+        → UpgradeEnds result store descriptor (outside (D.state disk.old) (L.seen link.old) (S.state source.old) (K.state sink.old) book.old)
+        (outside (D.state disk.new) (L.seen link.new) (S.state source.new) (K.state sink.new) book.new) }
+
+    // Only `seed` uses the link, and only it, `check`, `export` and `upgrade` fill the book.
     ensures link { ((c : terms.Command) → Spells (texts words.now) c → UsesLink c → ⊥) → L.seen link.new ≡ L.seen link.old }
     ensures book { ((c : terms.Command) → Spells (texts words.now) c → FillsBook c → ⊥) → book.new ≡ book.old }
 {
@@ -116,9 +122,11 @@ fn obey<D: Disk, L: Link, S: Source, K: Sink>(
         Command::Export { store, descriptor } => {
             export(alloc, store, descriptor, disk, sink, book)
         }
+        Command::Upgrade { store, descriptor } => {
+            upgrade(alloc, store, descriptor, disk, source, sink, book)
+        }
         // These are not built, so they are never asked for.
         Command::Fetch { .. } => unreachable!(),
-        Command::Upgrade { .. } => unreachable!(),
         Command::Replay => unreachable!(),
         Command::Rehearse { .. } => unreachable!(),
     }
