@@ -1,5 +1,5 @@
 -- How what is read of a channel stands to its whole story.
-use Rattle.std.proofs.Common.{◌≡◌, ⊎_elim, ℕ, ◌<◌, leb, ltb, eqb, Bool, true, false, cond, not, ◌&&◌, ◌||◌, List, [], ◌∷◌, length, drop, refl, sym, ◌∙◌, ap, subst, MatchBool, arith}
+use Rattle.std.proofs.Common.{◌≡◌, ⊎_elim, ℕ, ◌<◌, ◌≤◌, leb, ltb, eqb, Bool, true, false, cond, not, ◌&&◌, ◌||◌, List, [], ◌∷◌, length, drop, refl, sym, ◌∙◌, ap, subst, MatchBool, arith}
 use Rattle.std.proofs.lemmas.Bool.{and_parts, and_from, and_right, or_parts, or_cases, or_left, or_right, leb-false, le-leb, lt-ltb, lt-leb}
 use Rattle.pp_terms.specs.format.Traffic.{Record, Received, Quiet, Sent}
 use Rattle.pp_terms.specs.tree.Tree.{Node}

@@ -21,7 +21,7 @@ use Rattle.pp_promises.specs.OwnSide.{has_in}
 use Rattle.pp_promises.specs.ReadStory.{with_unread, is_read, read_story, proven_story}
 use Rattle.pp_promises.specs.Served.{is_announced, asked_after_heard, asked_after_said, owed_after, is_owed, IsOwed}
 use Rattle.pp_promises.specs.Announced.{was_told_of, IsKnownOf, is_told_of}
-use Rattle.pp_promises.proofs.ReadStories.{by_asks, after_asks, answers_are_read, or_false, plains_are_read}
+use Rattle.pp_promises.proofs.ReadStories.{by_asks, after_asks, answers_are_read, plains_are_read}
 use Rattle.pp_promises.proofs.Growth.{reads_grow}
 use Rattle.pp_seat.specs.Lines.{asked_since, Tale, with_line, with_said}
 use Rattle.pp_seat.specs.Laws.{IsLater}
@@ -277,8 +277,8 @@ owed_since d life is_found i (r ∷ b) place is e =
         → (since_of d life is_found i b ≡ Some place → is_owed d life i b ≡ true → asked_since place i (story d life b) ≡ true)
         → asked_since place i (cond w (told d life o (now (r ∷ b)) r (story d life b)) []) ≡ true
     by false f x y found is at e before = absurd (false≢true e)
-    by true true x y found is at e before = on at (before at) (or_false (choked (story d life b)) (not (is_announced d i b))) e
-    by true false true y found is at e before = on at (before at) (or_false (choked (story d life b)) (not (is_announced d i b))) e
+    by true true x y found is at e before = on at (before at) (λ f. (or_parts (choked (story d life b)) (not (is_announced d i b)) f).0) e
+    by true false true y found is at e before = on at (before at) (λ f. (or_parts (choked (story d life b)) (not (is_announced d i b)) f).0) e
     by true false false y found is at e before = absurd (both_ways _ (never (choked (story d life b)) is) e)
       where
         never : (c : Bool) → is_announced d i b ≡ false → owed_after d life i o (c || not (is_announced d i b)) r (is_owed d life i b) ≡ false
