@@ -1,7 +1,10 @@
 -- A content that is written chunk by chunk.
-use Rattle.std.proofs.Common.{◌≡◌, inl, inr, ⊎_elim, ℕ, ◌+◌, ◌*◌, ◌<◌, ◌≤◌, Bool, true, false, List, [], ◌++◌, length, get_or, take, drop, Result, Ok, Err, refl, sym, ◌∙◌, ap, subst, arith, below_more, length-append, length-drop}
-use Rattle.std.proofs.Math.Seq.{drop-append_seam, take-append-add}
-use Rattle.std.proofs.lemmas.List.{take_all, length-take, get_or_default, take-append-le, drop-append-le}
+use Rattle.std.proofs.Common.{◌≡◌, inl, inr, ⊎_elim, ℕ, ◌+◌, ◌-◌, ◌*◌, ◌/◌, ◌<◌, ◌≤◌, Bool, true, false, Option, Some, None, List, [], ◌++◌, length, get_or, take, drop, Result, Ok, Err, refl, sym, ◌∙◌, ap, subst, arith, below_more, length-append, length-drop}
+use Rattle.std.specs.Prelude.{min}
+use Rattle.std.proofs.Math.Nat.{mul-le-mul_right, lt_of_mul-lt-mul_right}
+use Rattle.std.proofs.Math.Seq.{drop-append-add, take-append-add}
+use Rattle.std.proofs.lemmas.Bool.{cases_lt}
+use Rattle.std.proofs.lemmas.List.{take_all, length-take, get_or_default, take-append-le, drop-append-le, take-take, drop-take}
 use Rattle.pp_terms.specs.tree.Book.{LookUp, IsRooted}
 use Rattle.pp_terms.specs.Count.{HasRisen}
 use Rattle.pp_terms.specs.tree.Content.{chunk_of, chunk_length}
@@ -16,9 +19,12 @@ use Rattle.pp_tree.proofs.Sizes.{chunk_size_range, chunk_count_holds, chunk_begi
 use Rattle.pp_scan.specs.Look.{KeepsAll}
 use Rattle.pp_scan.specs.Holding.{is_there}
 use Rattle.pp_scan.proofs.Reading.{known_after}
+use Rattle.pp_store.specs.ReadChunk.{IsRightChunk, IsDamaged}
 use Rattle.pp_store.specs.declared.reading.ReadFault.{ReadFault}
-use Rattle.pp_store.specs.declared.reading.ReadFault.TheVariants as read
-use Rattle.pp_store.specs.ReadChunk.{HasRead, IsRightChunk, IsDamaged}
+use Rattle.pp_store.specs.declared.reading.ReadFault.TheVariants as reads
+use Rattle.pp_store.specs.declared.runs.Run.{Run}
+use Rattle.pp_store.specs.Runs.{run_length, HasEnded, HasRun}
+use Rattle.pp_store.proofs.RunSteps.{chunks_within, run_room, run_fits, run_some, run_within}
 use Rattle.pp_terms.specs.command.Stream.{SourceState}
 use Rattle.pp_terms.specs.format.Traffic.{LinkState}
 use Rattle.pp_tree.specs.Book.{BookState, entry}
@@ -28,7 +34,7 @@ use Rattle.pp_node.specs.Outside.{outside}
 use Rattle.pp_node.specs.Looking.{IsOf, IsFound, HasLooked}
 use Rattle.pp_node.specs.declared.status.Status.{Status}
 use Rattle.pp_node.specs.declared.status.Status.TheVariants as ends
-use Rattle.pp_node.specs.Exporting.{IsChunk, AreChunks, HasPut, IsWhole, IsExported, IsIncomplete, IsReadable, IsDamagedChunk, PutsChunk, ExportsIn, status_of_fault, status_of_scan}
+use Rattle.pp_node.specs.Exporting.{IsChunk, AreChunks, HasPut, IsWhole, IsExported, IsIncomplete, IsSinkFault, IsReadable, IsDamagedChunk, AreNext, PutsNext, StopsNext, PutsRun, answer_of, ExportsIn, status_of_fault, status_of_scan}
 use Rattle.pp_node.specs.declared.exporting.PutFault.{PutFault}
 use Rattle.pp_node.specs.declared.exporting.PutFault.TheVariants.{Disk, Sink, Damaged}
 use Rattle.pp_node.proofs.Looks.{other_since}
@@ -42,10 +48,21 @@ chunk_kept bytes piece chunk n i size lt =
     let room : chunk ≤ length (drop (i * chunk) bytes) = omega (arith, size, length-drop (i * chunk) bytes) in
     ap (λ (b : List ℕ). take chunk b) (drop-append-le (i * chunk) bytes piece inside) ∙ take-append-le chunk (drop (i * chunk) bytes) piece room
 
--- and are the next chunk
-chunk_next : (bytes piece : List ℕ) (chunk n : ℕ) → length bytes ≡ n * chunk → length piece ≤ chunk → chunk_of (bytes ++ piece) chunk n ≡ piece
-chunk_next bytes piece chunk n size short =
-    ap (λ (k : ℕ). take chunk (drop k (bytes ++ piece))) (sym size) ∙ ap (λ (b : List ℕ). take chunk b) (drop-append_seam bytes piece) ∙ take_all chunk piece short
+-- and are the next chunks
+chunk_next : (bytes piece : List ℕ) (chunk n k : ℕ) → length bytes ≡ n * chunk → chunk_of (bytes ++ piece) chunk (n + k) ≡ chunk_of piece chunk k
+chunk_next bytes piece chunk n k size =
+    let place : length bytes + k * chunk ≡ (n + k) * chunk = omega (arith, size) in
+    ap (λ (p : ℕ). take chunk (drop p (bytes ++ piece))) (sym place) ∙ ap (λ (b : List ℕ). take chunk b) (drop-append-add bytes piece (k * chunk))
+
+-- the chunks in front of a cut
+chunk_before : (bytes : List ℕ) (chunk more k : ℕ) → k < more → chunk_of (take (more * chunk) bytes) chunk k ≡ chunk_of bytes chunk k
+chunk_before bytes chunk more k lt =
+    let room = chunks_within k more chunk lt in
+    let left : ℕ = more * chunk - k * chunk in
+    let split : k * chunk + left ≡ more * chunk = omega (arith, room) in
+    let fits : chunk ≤ left = omega (arith, room) in
+    ap (λ (n : ℕ). take chunk (drop (k * chunk) (take n bytes))) (sym split) ∙ ap (λ (b : List ℕ). take chunk b) (drop-take (k * chunk) left bytes)
+    ∙ take-take chunk left (drop (k * chunk) bytes) fits
 
 some_chunk : (d : Descriptor) → IsDescriptor d → 0 < d.chunk
 some_chunk d valid = let range = chunk_size_range d.chunk valid.chunk_size in omega (arith, range.0)
@@ -108,24 +125,39 @@ module _ (d : Descriptor) (disk disk' : DiskState) (book : LookUp) (n : ℕ) (va
       let begins : n * d.chunk < d.size = chunk_begins d.size d.chunk n (some_chunk d valid) within in
       omega (arith, are.size, begins)
 
-  pub chunks_more : (bytes piece : List ℕ) → AreChunks d disk disk' book n bytes → IsChunk d disk disk' book n piece → AreChunks d disk disk' book (n + 1) (bytes ++ piece)
-  chunks_more bytes piece are is =
+  pub chunks_more : (count : ℕ) (bytes piece : List ℕ) → AreChunks d disk disk' book n bytes → AreNext d disk disk' book n count piece → AreChunks d disk disk' book (n + count) (bytes ++ piece)
+  chunks_more count bytes piece are next =
       let size = length_whole bytes are in
-      let next : length piece ≡ chunk_length d.size d.chunk n = is.backed.whole in
-      let short : length piece ≤ d.chunk = omega (arith, next) in
+      let begins : n * d.chunk < d.size = chunk_begins d.size d.chunk n (some_chunk d valid) within in
       record {
-        within = omega (arith, within);
-        size = length-append bytes piece ∙ omega (arith, size, next);
-        each = below_more _ _ (λ i lt. subst (IsChunk d disk disk' book i) (sym (chunk_kept bytes piece d.chunk n i size lt)) (are.each i lt))
-            (subst (IsChunk d disk disk' book n) (sym (chunk_next bytes piece d.chunk n size short)) is);
+        within = next.within;
+        size = length-append bytes piece ∙ omega (arith, size, next.size, begins);
+        each = λ i lt. ⊎_elim
+            (λ low. subst (IsChunk d disk disk' book i) (sym (chunk_kept bytes piece d.chunk n i size low)) (are.each i low))
+            (λ high.
+            let at : n + (i - n) ≡ i = omega arith in
+            subst (λ (k : ℕ). IsChunk d disk disk' book k (chunk_of (bytes ++ piece) d.chunk k)) at
+            (subst (IsChunk d disk disk' book (n + (i - n))) (sym (chunk_next bytes piece d.chunk n (i - n) size)) (next.each (i - n) (omega arith))))
+            (cases_lt i n);
       }
 
-  pub put_more : (old mid new : SinkState) → Puts d old mid disk disk' book n → (piece : List ℕ) → IsChunk d disk disk' book n piece → Gains mid.taken piece new.taken → Puts d old new disk disk' book (n + 1)
-  put_more old mid new put piece is gained = record {
-    bytes = put.bytes ++ piece;
-    chunks = chunks_more put.bytes piece put.chunks is;
-    gained = gains_more old.taken mid.taken new.taken put.bytes piece put.gained gained;
+  pub put_more : (old mid new : SinkState) (count : ℕ) → Puts d old mid disk disk' book n → PutsNext d disk disk' book n count mid new → Puts d old new disk disk' book (n + count)
+  put_more old mid new count put next = record {
+    bytes = put.bytes ++ next.bytes;
+    chunks = chunks_more count put.bytes next.bytes put.chunks next.chunks;
+    gained = gains_more old.taken mid.taken new.taken put.bytes next.bytes put.gained next.gained;
   }
+
+-- the first of some chunks
+next_front : (d : Descriptor) (disk disk' : DiskState) (book : LookUp) (first count more : ℕ) (bytes : List ℕ) → more ≤ count → AreNext d disk disk' book first count bytes
+    → AreNext d disk disk' book first more (take (more * d.chunk) bytes)
+next_front d disk disk' book first count more bytes le next =
+    let room : more * d.chunk ≤ count * d.chunk = mul-le-mul_right d.chunk le in
+    record {
+      within = omega (arith, next.within);
+      size = length-take (more * d.chunk) bytes ∙ omega (arith, next.size, room);
+      each = λ k lt. subst (IsChunk d disk disk' book (first + k)) (sym (chunk_before bytes d.chunk more k lt)) (next.each k (omega arith));
+    }
 
 -- all chunks are the whole content
 pub exported_all : (d : Descriptor) (sink sink' : SinkState) (disk disk' : DiskState) (link : LinkState) (source : SourceState) (before book : BookState) → IsDescriptor d → IsWhole d disk disk'
@@ -151,10 +183,6 @@ readable_after d old new book keeps is =
       same = λ k. reads ∙ is.same (known k) ∙ sym found;
     }
 
--- a chunk never has more bytes than the buffer
-pub room_for : (d : Descriptor) (i room : ℕ) → IsDescriptor d → room ≡ 8192 → chunk_length d.size d.chunk i ≤ room
-room_for d i room valid is = let range = chunk_size_range d.chunk valid.chunk_size in omega (arith, range.1)
-
 module _ (d : Descriptor) (disk disk' : DiskState) (book : LookUp) (i : ℕ) (out : List ℕ) (readable : IsReadable d disk book) (within : i < chunks_of d) (room : chunk_length d.size d.chunk i ≤ length out) where
   pub chunk_read : (count : ℕ) → KeepsAll disk disk' → IsRightChunk d i book disk out count → IsChunk d disk disk' book i (take count out)
   chunk_read count keeps is = record {
@@ -167,28 +195,79 @@ module _ (d : Descriptor) (disk disk' : DiskState) (book : LookUp) (i : ℕ) (ou
     read = λ k. subst (λ (r : List ℕ). IsRead r (chunk_place d.chunk i) (take count out)) (readable.same k ∙ sym (ap (λ (h : History). h.found) keeps.same)) (is.read k);
   }
 
-  pub chunk_damaged : (result : Result ℕ ReadFault) (found kept : List ℕ) → result ≡ Err (read.Damaged found kept) → HasRead ⊥ d i book disk disk' out result
-      → (IsKnown disk → is_there d disk.history.reads book i ≡ true → (found kept : List ℕ) → result ≡ Err (read.Damaged found kept) → ⊥) → KeepsAll disk disk' → IsDamagedChunk d disk disk' book i
-  chunk_damaged result found kept is does sound keeps =
-      let damaged : IsDamaged d i book disk out found kept = subst (HasRead ⊥ d i book disk disk' out) is does in
+  pub chunk_damaged : (found kept : List ℕ) → IsDamaged d i book disk out found kept → (IsKnown disk → is_there d disk.history.reads book i ≡ true → ⊥) → KeepsAll disk disk' → IsDamagedChunk d disk disk' book i
+  chunk_damaged found kept damaged sound keeps = record {
+    bytes = take (chunk_length d.size d.chunk i) out;
+    found = found;
+    kept = kept;
+    size = length-take (chunk_length d.size d.chunk i) out ∙ omega (arith, room);
+    found_is = damaged.found_is;
+    kept_is = damaged.kept_is;
+    differ = damaged.differ;
+    read = λ k. subst (λ (r : List ℕ). IsRead r (chunk_place d.chunk i) (take (chunk_length d.size d.chunk i) out))
+        (readable.same k ∙ sym (ap (λ (h : History). h.found) keeps.same)) (damaged.read k);
+    never = λ k began. sound k (readable.there k (subst (BeganSound d) keeps.same began) i within);
+  }
+
+-- the chunks that were read into a buffer
+module _ (d : Descriptor) (disk disk' : DiskState) (book : LookUp) (first : ℕ) (out : List ℕ) (valid : IsDescriptor d) (readable : IsReadable d disk book) where
+  -- the bytes of one of them
+  run_chunk : (count len k : ℕ) → k < count → (first + k) * d.chunk < d.size → len ≡ min (count * d.chunk) (d.size - first * d.chunk)
+      → chunk_of (take len out) d.chunk k ≡ take (chunk_length d.size d.chunk (first + k)) (drop (k * d.chunk) out)
+  run_chunk count len k lt begins is =
+      let room = chunks_within k count d.chunk lt in
+      let place : first * d.chunk + k * d.chunk ≡ (first + k) * d.chunk = omega arith in
+      let left : ℕ = len - k * d.chunk in
+      let far : List ℕ = drop (k * d.chunk) out in
+      let split : k * d.chunk + left ≡ len = omega (arith, room, place, begins, is) in
+      ap (λ (n : ℕ). take d.chunk (drop (k * d.chunk) (take n out))) (sym split) ∙ ap (λ (b : List ℕ). take d.chunk b) (drop-take (k * d.chunk) left out)
+      ∙ ⊎_elim
+      (λ short.
+      let size : left ≡ chunk_length d.size d.chunk (first + k) = omega (arith, room, place, begins, is, short) in
+      take_all d.chunk (take left far) (omega (arith, length-take left far, short)) ∙ ap (λ (n : ℕ). take n far) size)
+      (λ fits.
+      let size : d.chunk ≡ chunk_length d.size d.chunk (first + k) = omega (arith, room, place, begins, is, fits) in
+      take-take d.chunk left far fits ∙ ap (λ (n : ℕ). take n far) size)
+      (cases_lt left d.chunk)
+
+  pub run_read : (run : Run) (len : ℕ) → first < chunks_of d → HasRun d first book disk disk' out run → len ≡ min (run.count * d.chunk) (d.size - first * d.chunk) → KeepsAll disk disk'
+      → AreNext d disk disk' book first run.count (take len out)
+  run_read run len within has is keeps =
+      let few : run.count ≤ run_length d first (length out) = run_within d first book disk disk' out run.count run.fault has.ends in
+      let room : len ≤ length out = omega (arith, is, run_fits d first (length out) run.count few) in
       record {
-        bytes = take (chunk_length d.size d.chunk i) out;
-        found = found;
-        kept = kept;
-        size = length-take (chunk_length d.size d.chunk i) out ∙ omega (arith, room);
-        found_is = damaged.found_is;
-        kept_is = damaged.kept_is;
-        differ = damaged.differ;
-        read = λ k. subst (λ (r : List ℕ). IsRead r (chunk_place d.chunk i) (take (chunk_length d.size d.chunk i) out))
-            (readable.same k ∙ sym (ap (λ (h : History). h.found) keeps.same)) (damaged.read k);
-        never = λ k began. sound k (readable.there k (subst (BeganSound d) keeps.same began) i within) found kept is;
+        within = omega (arith, few, within);
+        size = length-take len out ∙ omega (arith, is, room);
+        each = λ k lt.
+            let inside : first + k < chunks_of d = omega (arith, few, lt, within) in
+            let begins : (first + k) * d.chunk < d.size = chunk_begins d.size d.chunk (first + k) (some_chunk d valid) inside in
+            let place : first * d.chunk + k * d.chunk ≡ (first + k) * d.chunk = omega arith in
+            let whole = chunks_within k run.count d.chunk lt in
+            let fits : chunk_length d.size d.chunk (first + k) ≤ length (drop (k * d.chunk) out) = omega (arith, is, room, begins, place, whole, length-drop (k * d.chunk) out) in
+            subst (IsChunk d disk disk' book (first + k)) (sym (run_chunk run.count len k lt begins is))
+            (chunk_read d disk disk' book (first + k) (drop (k * d.chunk) out) readable inside fits (chunk_length d.size d.chunk (first + k)) keeps (has.right k lt));
       }
 
-pub disk_refused : (d : Descriptor) (i : ℕ) (book : LookUp) (disk disk' : DiskState) (out : List ℕ) (result : Result ℕ ReadFault) → result ≡ Err read.Disk → HasRead ⊥ d i book disk disk' out result
-    → HasRisen disk.faults disk'.faults
-disk_refused d i book disk disk' out result is does = subst (HasRead ⊥ d i book disk disk' out) is does
+-- what came of a run whose right chunks were written
+module _ (d : Descriptor) (disk disk' : DiskState) (book : LookUp) (first : ℕ) (out : List ℕ) (sink sink' : SinkState) (valid : IsDescriptor d) (readable : IsReadable d disk book) (within : first < chunks_of d)
+    (room : d.chunk ≤ length out) (keeps : KeepsAll disk disk') (count : ℕ) (put : PutsNext d disk disk' book first count sink sink') where
+  pub run_answered : (fault : Option ReadFault) → HasEnded d first book disk disk' out count fault
+      → (IsKnown disk → is_there d disk.history.reads book (first + count) ≡ true → (found kept : List ℕ) → fault ≡ Some (reads.Damaged found kept) → ⊥)
+      → PutsRun d first sink sink' disk disk' book (answer_of count fault)
+  run_answered None is sound = (let some = run_some d first (length out) (some_chunk d valid) room within in omega (arith, is, some), put)
+  run_answered (Some reads.Disk) is sound = (is.1, (count, omega (arith, is.0), put))
+  run_answered (Some reads.Absent) is sound = absurd is.1
+  run_answered (Some (reads.Damaged found kept)) is sound =
+      let among : first + count < chunks_of d = omega (arith, is.0) in
+      let fits = run_room d first (length out) count (some_chunk d valid) is.0 in (
+        count,
+        among,
+        put,
+        chunk_damaged d disk disk' book (first + count) (drop (count * d.chunk) out) readable among (omega (arith, fits, length-drop (count * d.chunk) out)) found kept is.1
+            (λ known there. sound known there found kept refl) keeps,
+      )
 
--- chunk n stops the writing of the chunks, and those before it were written
+-- some chunks from chunk n on are written, or stop the writing; those before them were written
 module _ (d : Descriptor) (first disk disk' : DiskState) (old mid new : SinkState) (state : BookState) (n : ℕ) (valid : IsDescriptor d) (within : n < chunks_of d)
     (readable : IsReadable d first (entry state)) (before : KeepsAll first disk) (keeps : KeepsAll disk disk') (later : old.faults ≤ mid.faults) (put : Puts d old mid first disk (entry state) n) where
   abbrev nodes : LookUp
@@ -206,50 +285,75 @@ module _ (d : Descriptor) (first disk disk' : DiskState) (old mid new : SinkStat
   whole_then : IsWhole d first disk'
   whole_then = whole_seen d first first first disk' nodes (λ k. k) (found_then ∙ ap (λ (h : History). h.found) before.same) readable.whole
 
-  chunk_then : (bytes : List ℕ) → IsChunk d disk disk' nodes n bytes → IsChunk d first disk' nodes n bytes
-  chunk_then = chunk_seen d first disk disk' disk' nodes known_then refl n
+  next_then : (count : ℕ) (bytes : List ℕ) → AreNext d disk disk' nodes n count bytes → AreNext d first disk' nodes n count bytes
+  next_then count bytes next = record {
+    within = next.within;
+    size = next.size;
+    each = λ k lt. chunk_seen d first disk disk' disk' nodes known_then refl (n + k) (chunk_of bytes d.chunk k) (next.each k lt);
+  }
 
-  pub put_on : (result : Result (Unit {0}) PutFault) → result ≡ Ok tt → PutsChunk d n mid new disk disk' nodes result → Puts d old new first disk' nodes (n + 1)
-  put_on result is does = let (piece, chunk, gained) = subst (PutsChunk d n mid new disk disk' nodes) is does in
-      put_more d first disk' nodes n valid within old mid new put_then piece (chunk_then piece chunk) gained
+  put_next : (count : ℕ) → PutsNext d disk disk' nodes n count mid new → Puts d old new first disk' nodes (n + count)
+  put_next count next = put_more d first disk' nodes n valid within old mid new count put_then
+      (record { bytes = next.bytes; chunks = next_then count next.bytes next.chunks; gained = next.gained })
 
-  stopped : (link : LinkState) (source : SourceState) (earlier : BookState) (fault : PutFault) → PutsChunk d n mid new disk disk' nodes (Err fault)
+  pub put_on : (result : Result ℕ PutFault) (count : ℕ) → result ≡ Ok count → PutsRun d n mid new disk disk' nodes result → Puts d old new first disk' nodes (n + count)
+  put_on result count is does = let (some, next) = subst (PutsRun d n mid new disk disk' nodes) is does in put_next count next
+
+  pub put_some : (result : Result ℕ PutFault) (count : ℕ) → result ≡ Ok count → PutsRun d n mid new disk disk' nodes result → (0 < count) × (n + count ≤ chunks_of d)
+  put_some result count is does = let (some, next) = subst (PutsRun d n mid new disk disk' nodes) is does in (some, next.chunks.within)
+
+  -- the sink stopped in a chunk, which the bytes that it took tell
+  stopped_inside : (link : LinkState) (source : SourceState) (earlier : BookState) → StopsNext d disk disk' nodes n mid new
+      → IsSinkFault d (outside first link source old earlier) (outside disk' link source new state)
+  stopped_inside link source earlier stops =
+      let some : 0 < d.chunk = some_chunk d valid in
+      let size = length_whole d first disk' nodes n valid within put_then.bytes put_then.chunks in
+      let whole : ℕ = stops.part.count / d.chunk in
+      let low : whole * d.chunk ≤ stops.part.count = omega arith in
+      let high : stops.part.count < (whole + 1) * d.chunk = omega arith in
+      let among : whole < stops.count = lt_of_mul-lt-mul_right d.chunk {m = whole} {n = stops.count} (omega (arith, low, stops.part.short, stops.chunks.size)) in
+      let piece : List ℕ = take ((whole + 1) * d.chunk) stops.bytes in
+      let number : n + (whole + 1) ≡ n + whole + 1 = omega arith in
+      let cut : take stops.part.count piece ≡ take stops.part.count stops.bytes = take-take stops.part.count ((whole + 1) * d.chunk) stops.bytes (omega (arith, high)) in
+      record {
+        risen = λ below. let r : mid.faults < new.faults = stops.risen below in omega (arith, r, later);
+        whole = whole_then;
+        n = n + whole;
+        count = length put_then.bytes + stops.part.count;
+        bytes = put_then.bytes ++ piece;
+        chunks = subst (λ (m : ℕ). AreChunks d first disk' nodes m (put_then.bytes ++ piece)) number
+            (chunks_more d first disk' nodes n valid within (whole + 1) put_then.bytes piece put_then.chunks
+            (next_front d first disk' nodes n stops.count (whole + 1) stops.bytes (omega (arith, among)) (next_then stops.count stops.bytes stops.chunks)));
+        least = omega (arith, size, low);
+        short = omega (arith, stops.part.short, high, length-append put_then.bytes piece, length-take ((whole + 1) * d.chunk) stops.bytes);
+        gained = subst (λ (b : List ℕ). Gains old.taken b new.taken) (sym (take-append-add put_then.bytes piece stops.part.count ∙ ap (λ (b : List ℕ). put_then.bytes ++ b) cut))
+            (gains_more old.taken mid.taken new.taken put_then.bytes (take stops.part.count stops.bytes) put_then.gained stops.part.gained);
+      }
+
+  stopped : (link : LinkState) (source : SourceState) (earlier : BookState) (fault : PutFault) → PutsRun d n mid new disk disk' nodes (Err fault)
       → ExportsIn (status_of_fault fault) d (outside first link source old earlier) (outside disk' link source new state)
-  stopped link source earlier Disk (risen, same) =
-      let p = subst (λ (s : SinkState). Puts d old s first disk' nodes n) (sym same) put_then in
+  stopped link source earlier Disk (risen, (count, among, next)) =
+      let p = put_next count next in
       record {
         refused = record {
           risen = λ below. let r : disk.faults < disk'.faults = risen below in omega (arith, r, before.faults);
           compared = λ known. inl (whole_then.begins known);
         };
-        stopped = inr (n, within, record { bytes = p.bytes; chunks = p.chunks; gained = p.gained }, whole_then);
+        stopped = inr (n + count, among, record { bytes = p.bytes; chunks = p.chunks; gained = p.gained }, whole_then);
       }
-  stopped link source earlier Sink (risen, piece, chunk, part) =
-      let size = length_whole d first disk' nodes n valid within put_then.bytes put_then.chunks in
+  stopped link source earlier Sink stops = stopped_inside link source earlier stops
+  stopped link source earlier Damaged (count, among, next, damaged) =
+      let p = put_next count next in
       record {
-        risen = λ below. let r : mid.faults < new.faults = risen below in omega (arith, r, later);
-        whole = whole_then;
-        n = n;
-        count = length put_then.bytes + part.count;
-        bytes = put_then.bytes ++ piece;
-        chunks = chunks_more d first disk' nodes n valid within put_then.bytes piece put_then.chunks (chunk_then piece chunk);
-        least = omega (arith, size);
-        short = omega (arith, part.short, length-append put_then.bytes piece);
-        gained = subst (λ (b : List ℕ). Gains old.taken b new.taken) (sym (take-append-add put_then.bytes piece part.count))
-            (gains_more old.taken mid.taken new.taken put_then.bytes (take part.count piece) put_then.gained part.gained);
-      }
-  stopped link source earlier Damaged (damaged, same) =
-      let p = subst (λ (s : SinkState). Puts d old s first disk' nodes n) (sym same) put_then in
-      record {
-        n = n;
-        within = within;
+        n = n + count;
+        within = among;
         put = record { bytes = p.bytes; chunks = p.chunks; gained = p.gained };
-        damaged = damaged_seen d first disk disk' nodes known_then n damaged;
+        damaged = damaged_seen d first disk disk' nodes known_then (n + count) damaged;
       }
 
-  pub stopped_at : (link : LinkState) (source : SourceState) (earlier : BookState) (result : Result (Unit {0}) PutFault) (fault : PutFault) → result ≡ Err fault → PutsChunk d n mid new disk disk' nodes result
+  pub stopped_at : (link : LinkState) (source : SourceState) (earlier : BookState) (result : Result ℕ PutFault) (fault : PutFault) → result ≡ Err fault → PutsRun d n mid new disk disk' nodes result
       → ExportsIn (status_of_fault fault) d (outside first link source old earlier) (outside disk' link source new state)
-  stopped_at link source earlier result fault is does = stopped link source earlier fault (subst (PutsChunk d n mid new disk disk' nodes) is does)
+  stopped_at link source earlier result fault is does = stopped link source earlier fault (subst (PutsRun d n mid new disk disk' nodes) is does)
 
 -- no chunk is left
 pub exported_written : (d : Descriptor) (old new : SinkState) (first disk : DiskState) (link : LinkState) (source : SourceState) (before book : BookState) → IsDescriptor d → IsReadable d first (entry book)

@@ -1,5 +1,5 @@
 -- What a run of `export STORE DESCRIPTOR` does. `found` of the disk's history is what reads gave when the store was attached.
-use Rattle.std.specs.Prelude.{◌≡◌, ◌⊎◌, ℕ, ◌+◌, ◌*◌, ◌<◌, ◌≤◌, min, true, false, List, length, take, is_some, Result, Some, Ok, Err}
+use Rattle.std.specs.Prelude.{◌≡◌, ◌⊎◌, ℕ, ◌+◌, ◌-◌, ◌*◌, ◌<◌, ◌≤◌, min, true, false, List, length, take, is_some, Option, Result, Some, None, Ok, Err}
 use Rattle.pp_terms.specs.Count.{HasRisen}
 use Rattle.pp_terms.specs.tree.Content.{chunk_of, chunk_length}
 use Rattle.pp_terms.specs.tree.Book.{LookUp, IsRooted, IsBacked}
@@ -14,6 +14,8 @@ use Rattle.pp_tree.specs.Book.{entry, IsBookOf}
 use Rattle.pp_scan.specs.declared.scanning.ScanFault.{ScanFault}
 use Rattle.pp_scan.specs.declared.scanning.ScanFault.TheVariants as scans
 use Rattle.pp_scan.specs.Holding.{is_there}
+use Rattle.pp_store.specs.declared.reading.ReadFault.{ReadFault}
+use Rattle.pp_store.specs.declared.reading.ReadFault.TheVariants as reads
 use Rattle.pp_node.specs.Looking.{IsOf, Lasts, IsRefused, IsUnwritten}
 use Rattle.pp_node.specs.Outside.{Outside}
 use Rattle.pp_node.specs.Faults.{Faults}
@@ -124,6 +126,13 @@ abbrev pub status_of_put : Result (Unit {0}) PutFault → Status
 status_of_put (Ok _) = Done
 status_of_put (Err fault) = status_of_fault fault
 
+-- what is answered once the right chunks of a run are written; no chunk is absent
+abbrev pub answer_of : ℕ → Option ReadFault → Result ℕ PutFault
+answer_of count None = Ok count
+answer_of count (Some reads.Disk) = Err puts.Disk
+answer_of count (Some reads.Absent) = Err puts.Disk
+answer_of count (Some (reads.Damaged found kept)) = Err puts.Damaged
+
 -- Every chunk was found at the scan, and reads give what they gave at the attachment.
 pub record IsReadable (d : Descriptor) (disk : DiskState) (book : LookUp) : Type 0 where
   pub rooted : IsRooted d book
@@ -132,13 +141,34 @@ pub record IsReadable (d : Descriptor) (disk : DiskState) (book : LookUp) : Type
   pub there : IsKnown disk → BeganSound d disk.history → (i : ℕ) → i < chunks_of d → is_there d disk.history.reads book i ≡ true
   pub same : IsKnown disk → disk.history.reads ≡ disk.history.found
 
--- What comes of reading and writing chunk i.
-abbrev pub PutsChunk : Descriptor → ℕ → SinkState → SinkState → DiskState → DiskState → LookUp → Result (Unit {0}) PutFault → Type 0
-PutsChunk d i sink sink' disk disk' book (Ok _) = (bytes : List ℕ) × IsChunk d disk disk' book i bytes × Gains sink.taken bytes sink'.taken
-PutsChunk d i sink sink' disk disk' book (Err puts.Disk) = HasRisen disk.faults disk'.faults × (sink' ≡ sink)
-PutsChunk d i sink sink' disk disk' book (Err puts.Sink) =
-    HasRisen sink.faults sink'.faults × (bytes : List ℕ) × IsChunk d disk disk' book i bytes × GainsPart bytes sink sink'
-PutsChunk d i sink sink' disk disk' book (Err puts.Damaged) = IsDamagedChunk d disk disk' book i × (sink' ≡ sink)
+-- So many chunks of a content from chunk `first` on, in order.
+pub record AreNext (d : Descriptor) (disk disk' : DiskState) (book : LookUp) (first count : ℕ) (bytes : List ℕ) : Type 0 where
+  pub within : first + count ≤ chunks_of d
+  pub size : length bytes ≡ min (count * d.chunk) (d.size - first * d.chunk)
+  pub each : (k : ℕ) → k < count → IsChunk d disk disk' book (first + k) (chunk_of bytes d.chunk k)
+
+-- The sink gained them and no more.
+pub record PutsNext (d : Descriptor) (disk disk' : DiskState) (book : LookUp) (first count : ℕ) (sink sink' : SinkState) : Type 0 where
+  pub bytes : List ℕ
+  pub chunks : AreNext d disk disk' book first count bytes
+  pub gained : Gains sink.taken bytes sink'.taken
+
+-- The sink refused a piece of them, and took what is before it.
+pub record StopsNext (d : Descriptor) (disk disk' : DiskState) (book : LookUp) (first : ℕ) (sink sink' : SinkState) : Type 0 where
+  pub risen : HasRisen sink.faults sink'.faults
+  pub count : ℕ
+  pub bytes : List ℕ
+  pub chunks : AreNext d disk disk' book first count bytes
+  pub part : GainsPart bytes sink sink'
+
+-- What comes of reading chunks from chunk `first` on, and of writing those that are right.
+abbrev pub PutsRun : Descriptor → ℕ → SinkState → SinkState → DiskState → DiskState → LookUp → Result ℕ PutFault → Type 0
+PutsRun d first sink sink' disk disk' book (Ok count) = (0 < count) × PutsNext d disk disk' book first count sink sink'
+PutsRun d first sink sink' disk disk' book (Err puts.Disk) =
+    HasRisen disk.faults disk'.faults × ((count : ℕ) × (first + count < chunks_of d) × PutsNext d disk disk' book first count sink sink')
+PutsRun d first sink sink' disk disk' book (Err puts.Sink) = StopsNext d disk disk' book first sink sink'
+PutsRun d first sink sink' disk disk' book (Err puts.Damaged) = (count : ℕ) × (first + count < chunks_of d)
+    × PutsNext d disk disk' book first count sink sink' × IsDamagedChunk d disk disk' book (first + count)
 
 -- A run of `export`, by the number that it answers. The store was attached by its name. Since then nothing was written to it,
 -- with one sync at the most: what stood in every image goes on standing, and sound images stay sound. No line is printed, and

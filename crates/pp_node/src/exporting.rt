@@ -1,5 +1,5 @@
 // The command `export STORE DESCRIPTOR`.
-ghost use Rattle.std.specs.Prelude.{◌≡◌, ◌⊎◌, ◌<◌, ◌≤◌, length};
+ghost use Rattle.std.specs.Prelude.{◌≡◌, ◌⊎◌, ◌<◌, ◌≤◌, Some, length};
 ghost use Rattle.pp_terms.specs.tree.Book.{IsRooted};
 ghost use Rattle.pp_terms.specs.format.Descriptor.{IsDescriptor, chunks_of};
 ghost use Rattle.pp_terms.specs.disk.Disk.{IsKnown, GainsName};
@@ -9,19 +9,19 @@ ghost use Rattle.pp_tree.specs.Book.{BookState, entry, empty_book, IsBookOf};
 ghost use Rattle.pp_node.specs.Outside.{outside};
 ghost use Rattle.pp_scan.specs.Look.{KeepsAll};
 ghost use Rattle.pp_node.specs.Looking.{IsFound, IsUnwritten, Lasts};
-ghost use Rattle.pp_node.specs.Exporting.{ExportsIn, IsReadable, PutsChunk, status_of_scan, status_of_fault, status_of_put};
+ghost use Rattle.pp_node.specs.Exporting.{ExportsIn, IsReadable, PutsRun, answer_of, status_of_scan, status_of_fault, status_of_put};
 
 use crate::looking::look;
 use crate::printing::put_all;
 use crate::status::Status;
 use pp_outside::{Disk, Sink};
 use pp_scan::ScanFault;
-use pp_store::{ReadFault, read_chunk};
+use pp_store::{ReadFault, Run, read_run};
 use pp_tree::{Book, ChunkSet, Descriptor};
 use std::alloc::Global;
 
-// The greatest chunk, in bytes.
-const ROOM: usize = 8192;
+// How many bytes are read and written at once. It is a multiple of each chunk size.
+const PIECE: usize = 65_536;
 
 // Why a chunk wasn't written.
 #[derive(Clone, Copy)]
@@ -43,9 +43,9 @@ impl PutFault {
     }
 }
 
-/// Attaches the named store, scans it and, where it holds every chunk, writes the content to the sink. Each chunk is read
-/// again, and its digest compared with the book's, before it is written. Nothing is said of a fault, and nothing is written to
-/// the disk. The book is empty at entry.
+/// Attaches the named store, scans it and, where it holds every chunk, writes the content to the sink, in pieces of up to
+/// 64 KiB. Each chunk is read again, and its digest compared with the book's, before it is written. Nothing is said of a fault,
+/// and nothing is written to the disk. The book is empty at entry.
 pub(crate) fn export<D: Disk, K: Sink>(
     alloc: Global,
     store: &str,
@@ -118,41 +118,54 @@ fn put_chunks<D: Disk, K: Sink>(
         (outside (D.state disk.new) link source (K.state sink.new) book.now) }
     ensures looks { KeepsAll (D.state disk.old) (D.state disk.new) }
 {
-    let mut buffer = [0u8; ROOM];
-    for i in 0..descriptor.chunks() {
-        match put_chunk(descriptor, i, disk, sink, book, &mut buffer) {
-            Ok(()) => {}
+    let mut buffer = [0u8; PIECE];
+    let mut next = 0;
+    while next < descriptor.chunks() {
+        match put_run(descriptor, next, disk, sink, book, &mut buffer) {
+            Ok(count) => next += count,
             Err(fault) => return Err(fault),
         }
     }
     Ok(())
 }
 
-// Reads one chunk, and writes it.
-fn put_chunk<D: Disk, K: Sink>(
+// Reads as many chunks as the buffer has room for, writes those that are right in one piece, and answers how many that is.
+fn put_run<D: Disk, K: Sink>(
     descriptor: &Descriptor,
-    i: u32,
+    first: u32,
     disk: &mut D,
     sink: &mut K,
     book: &Book,
-    buffer: &mut [u8; ROOM],
-) -> Result<(), PutFault>
-    requires valid { IsDescriptor descriptor.now }
-    requires within { i < chunks_of descriptor.now }
+    buffer: &mut [u8; PIECE],
+) -> Result<u32, PutFault>
+    requires within { first < chunks_of descriptor.now }
     requires readable { IsReadable descriptor.now (D.state disk.old) (entry book.now) }
-    ensures puts { PutsChunk descriptor.now i (K.state sink.old) (K.state sink.new) (D.state disk.old) (D.state disk.new) (entry book.now) result }
+    ensures puts { PutsRun descriptor.now first (K.state sink.old) (K.state sink.new) (D.state disk.old) (D.state disk.new) (entry book.now) result }
     ensures looks { KeepsAll (D.state disk.old) (D.state disk.new) }
     ensures later { (K.state sink.old).faults ≤ (K.state sink.new).faults }
+    ensures valid { IsDescriptor descriptor.now }
 {
-    match read_chunk(descriptor, i, buffer, book, disk) {
-        Ok(len) => match put_all(sink, &buffer[..len]) {
-            Ok(()) => Ok(()),
-            Err(_) => Err(PutFault::Sink),
-        },
-        Err(ReadFault::Disk) => Err(PutFault::Disk),
-        Err(ReadFault::Damaged { .. }) => Err(PutFault::Damaged),
+    let chunk = u64::from(descriptor.chunk());
+    let left = descriptor.size() - u64::from(first) * chunk;
+    let run = read_run(descriptor, first, buffer, book, disk);
+    let len = left.min(u64::from(run.count) * chunk) as usize;
+    match put_all(sink, &buffer[..len]) {
+        Ok(()) => answer_of(&run),
+        Err(_) => Err(PutFault::Sink),
+    }
+}
+
+// What is answered once the right chunks are written.
+fn answer_of(run: &Run) -> Result<u32, PutFault>
+    requires { run.now.fault ≡ Some ReadFault.Absent → ⊥ }
+    ensures { result ≡ answer_of run.now.count run.now.fault }
+{
+    match run.fault {
+        None => Ok(run.count),
+        Some(ReadFault::Disk) => Err(PutFault::Disk),
+        Some(ReadFault::Damaged { .. }) => Err(PutFault::Damaged),
         // The book has each chunk's leaf, so none is absent.
-        Err(ReadFault::Absent) => unreachable!(),
+        Some(ReadFault::Absent) => unreachable!(),
     }
 }
 

@@ -114,17 +114,17 @@ impl Sink for NarrowSink {
     }
 }
 
-// Each whole chunk takes two writes.
+// All chunks are right, and are written in one piece, which takes seven writes.
 #[test]
 fn a_sink_that_refuses_has_what_it_took(rt: HostRuntime) -> Result<(), Fail> {
     let alloc = rt.alloc();
     for (left, status, len) in [
         (0, Status::SinkFault, 0),
         (1, Status::SinkFault, 1000),
-        (2, Status::SinkFault, 1024),
-        (5, Status::SinkFault, 3048),
-        (12, Status::SinkFault, 6144),
-        (13, Status::Done, 7000),
+        (2, Status::SinkFault, 2000),
+        (5, Status::SinkFault, 5000),
+        (6, Status::SinkFault, 6000),
+        (7, Status::Done, 7000),
     ] {
         let mut disk = MemoryDisk::new(alloc, &[])?;
         let descriptor = store_on(&mut disk)?;
