@@ -9,6 +9,7 @@ use Rattle.pp_terms.specs.format.Messages as plain
 use Rattle.pp_terms.specs.format.Messages.{Message}
 use Rattle.pp_terms.specs.tree.Range.{Span}
 use Rattle.pp_terms.specs.format.Traffic.{Address, Record, Sent, LinkState, GainsRecords}
+use Rattle.pp_terms.proofs.Risings.{risen_more, risen_less, gains_nothing, gains_twice}
 use Rattle.pp_traffic.specs.Life.{begins_as}
 use Rattle.pp_draft.specs.declared.note.Note.{Note}
 use Rattle.pp_draft.specs.declared.note.Note.TheVariants.{KeepAlive, Handshake, Close, Choke, Unchoke, Ack, Have, Request, Cancel, PexReq, Pex4, Pex6}
