@@ -10,3 +10,6 @@ pub mod Openings
 pub mod Answering
 pub mod Asking
 pub mod Framing
+pub mod News
+pub mod Awaited
+pub mod Outstanding

@@ -12,10 +12,13 @@ use Rattle.pp_traffic.specs.Life.{Life, comes_on}
 use Rattle.pp_traffic.specs.Story.{Heard, Taken, heard_in, said_in, story}
 use Rattle.pp_traffic.specs.Asking.{asked, is_heard, asks_in, most_asks}
 use Rattle.pp_traffic.specs.Fates.{clock}
-use Rattle.pp_promises.specs.LastTurn.{earlier}
+use Rattle.pp_promises.specs.LastTurn.{sent_since, earlier}
 use Rattle.pp_promises.specs.ReadStory.{is_read, read_story, proven_story}
 use Rattle.pp_promises.specs.Served.{is_announced, is_owed, IsOwed}
-use Rattle.pp_promises.specs.Announced.{was_told_of, IsKnownOf, is_told_of}
+use Rattle.pp_promises.specs.Announced.{tells_of, was_told_of, new_count, IsKnownOf, is_told_of}
+use Rattle.std.specs.List.{list_any}
+use Rattle.pp_terms.specs.tree.Range.{Span, has, IsRunsFrom}
+use Rattle.pp_ranges.specs.Edits.{number_count}
 use Rattle.pp_seat.specs.Lines.{asked_since, Tale, with_line, with_said}
 use Rattle.pp_seat.specs.Seats.{SeatState}
 use Rattle.pp_seat.specs.Follows.{Frame, Lost, Begins, Follows, HasNone}
@@ -121,3 +124,15 @@ abbrev pub HeldIsTold : Type 0
 HeldIsTold = (d : Descriptor) (h : History) (life : Life) (is_found : ℕ → Bool) (past : List Record) (lost : Lost) (s : SeatState) (i : ℕ)
     → Follows (frame_of d life is_found past) lost s (tale_of d life past) → (StoodThroughout d h i → is_found i ≡ true) → IsKnownOf d h past i
     → i < s.cursor → is_told_of i (read_story d life past) ≡ true
+
+-- ---- what a turn tells that is new
+
+-- What was told of before a turn's first datagram is what was told of in the earlier turns; and where no HAVE was refused, ranges from
+-- the cursor on whose chunks the turn told of since then are so many new ones.
+pub record NewsAreCounted : Type 0 where
+  pub begun : (d : Descriptor) (life : Life) (i : ℕ) (past : List Record) → sent_since past ≡ []
+      → was_told_of d life i past ≡ was_told_of d life i (earlier past)
+  pub counted : (d : Descriptor) (life : Life) (past : List Record) (f : Frame) (lost : Lost) (s : SeatState) (t : Tale) (spans : List Span)
+      → Follows f lost s t → lost.haves ≡ 0 → ((i : ℕ) → t.told i ≡ was_told_of d life i (earlier past)) → IsRunsFrom s.cursor spans
+      → ((i : ℕ) → has spans i ≡ true → (i < chunks_of d) × (list_any (tells_of d life i) (sent_since past) ≡ true))
+      → number_count spans ≤ new_count d life past

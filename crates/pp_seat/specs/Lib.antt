@@ -5,3 +5,4 @@ pub mod Aspects
 pub mod Follows
 pub mod Laws
 pub mod Frames
+pub mod Awaited

@@ -2,7 +2,8 @@
 //! what it asks for itself (RFC 7574, sections 3, 5 and 8). Moments are in microseconds. Only a new seat takes memory.
 #![tactic(auto)]
 
-ghost use Rattle.pp_seat.specs.Frames.{SameTales, TalesGrow, NoneBegins, OwedIsKept, OwedIsGiven, HeldIsTold, FramesGrow, ReadsComeToNow};
+ghost use Rattle.pp_seat.specs.Frames.{SameTales, TalesGrow, NoneBegins, OwedIsKept, OwedIsGiven, HeldIsTold, FramesGrow, ReadsComeToNow, NewsAreCounted};
+ghost use Rattle.pp_seat.specs.Awaited.{LinesKeepAwaited, NoneAwaited, AskingIsAwaited, AskingIsChoked, OwnIsAsking};
 ghost use Rattle.pp_seat.specs.Laws.{IdleStays, IdleSays, CutsNameAlike, OffersGrow, AnnouncedStays, MarkStays, NoneLeft, ChokesAreDue};
 
 mod cursor;
@@ -40,4 +41,14 @@ pub fn laws_of_frames()
     ensures tales { TalesGrow }
     ensures begins { NoneBegins }
     ensures clocks { ReadsComeToNow }
+    ensures news { NewsAreCounted }
+{}
+
+/// How the own requests of a seat go with its story, and which requests are outstanding. It does nothing.
+pub fn laws_of_own()
+    ensures lines { LinesKeepAwaited }
+    ensures begins { NoneAwaited }
+    ensures asking { AskingIsAwaited }
+    ensures choked { AskingIsChoked }
+    ensures own { OwnIsAsking }
 {}

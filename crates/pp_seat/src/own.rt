@@ -1,15 +1,16 @@
 //! What this peer asks for.
 
-ghost use Rattle.std.specs.Prelude.{◌≡◌, ◌↔◌, ◌⊎◌, IsTrue, ◌<◌, ◌≤◌, ◌+◌, ◌-◌, ℕ, List, [], true, false, None, Some, is_some, MatchOption, length, map};
+ghost use Rattle.std.specs.Prelude.{◌≡◌, ◌↔◌, ◌⊎◌, IsTrue, ◌<◌, ◌≤◌, ◌==◌, ◌+◌, ◌-◌, ℕ, List, [], ◌∷◌, true, false, None, Some, is_some, MatchOption, length, map};
 ghost use Rattle.pp_terms.specs.tree.Range.{Span, within};
 ghost use Rattle.pp_terms.specs.format.Messages.{Data, Request, Cancel, Choke, Unchoke};
-ghost use Rattle.pp_traffic.specs.Story.{Heard, Said};
+ghost use Rattle.pp_traffic.specs.Story.{Line, Heard, Said};
 ghost use Rattle.pp_requests.specs.Moments.{asked_at, Changes, IsLeastAsked, IsLeastExpired, NoneExpired};
 ghost use Rattle.pp_traffic.specs.Fates.{clock};
 ghost use Rattle.pp_promises.specs.OwnSide.{most_outstanding, is_choked_by_peer, has_old_request};
 ghost use Rattle.pp_promises.specs.Asked.{named_count};
 ghost use Rattle.pp_seat.specs.Lines.{Tale};
 ghost use Rattle.pp_seat.specs.Own.{IsSplit, HasAsked, CanAsk, AsksAll};
+ghost use Rattle.pp_seat.specs.Awaited.{AreAwaited, KeepsAwaited, AllKeepAwaited};
 ghost use Rattle.pp_seat.specs.Follows.{Frame, Lost, Follows, Goes, Stays, Says, Always, HasCome};
 
 use crate::seat::Seat;
@@ -21,6 +22,7 @@ impl Seat {
     pub fn heard_choke(&mut self)
         ensures exact { self.new ≡ record self.old { chokes = true; own = [] } }
         ensures goes { (now : ℕ) → Goes Always (Heard now Choke) self.old self.new }
+        ensures awaits { (chunks now : ℕ) (story : List Line) → AreAwaited chunks self.new.own (Heard now Choke ∷ story) }
     {
         self.chokes = true;
         self.own.clear();
@@ -30,6 +32,7 @@ impl Seat {
     pub fn heard_unchoke(&mut self)
         ensures exact { self.new ≡ record self.old { chokes = false } }
         ensures goes { (now : ℕ) → Goes Always (Heard now Unchoke) self.old self.new }
+        ensures awaits { (now : ℕ) → KeepsAwaited (Heard now Unchoke) self.old.own self.new.own }
     {
         self.chokes = false;
     }
@@ -40,6 +43,7 @@ impl Seat {
         ensures rest { self.new ≡ record self.old { own = self.new.own } }
         ensures taken { Changes i None self.old.own self.new.own }
         ensures goes { (now sent_at : ℕ) (bytes : List ℕ) → Goes Always (Heard now (Data i sent_at bytes)) self.old self.new }
+        ensures awaits { (now sent_at : ℕ) (bytes : List ℕ) → KeepsAwaited (Heard now (Data i sent_at bytes)) self.old.own self.new.own }
     {
         self.own.answered(i)
     }
@@ -50,6 +54,7 @@ impl Seat {
         ensures rest { self.new ≡ record self.old { own = self.new.own } }
         ensures exact { CanAsk range self.old.own → AsksAll range now self.old.own self.new.own }
         ensures says { (spans : List Span) → IsSplit range spans → Says Always now (map Request spans) self.old self.new }
+        ensures awaits { (spans : List Span) → IsSplit range spans → CanAsk range self.old.own → AllKeepAwaited now (map Request spans) self.old.own self.new.own }
     {
         ask(&mut self.own, range, now);
     }
@@ -59,6 +64,7 @@ impl Seat {
         ensures rest { self.new ≡ record self.old { own = self.new.own } }
         ensures taken { Changes i None self.old.own self.new.own }
         ensures goes { (now : ℕ) (span : Span) → Goes Always (Said now (Cancel span)) self.old self.new }
+        ensures awaits { (now : ℕ) (span : Span) → ((j : ℕ) → within span j ≡ (i == j)) → KeepsAwaited (Said now (Cancel span)) self.old.own self.new.own }
     {
         self.own.answered(i);
     }
@@ -94,13 +100,15 @@ impl Seat {
         ensures taken { MatchOption result (self.new ≡ self.old)
             (λ i. (self.new ≡ record self.old { own = self.new.own; stopped = true }) × Changes i None self.old.own self.new.own) }
         ensures stays { Stays (HasCome now) self.old self.new }
+        ensures awaits { (chunks : ℕ) (story : List Line) → now ≤ clock story → AreAwaited chunks self.old.own story → AreAwaited chunks self.new.own story }
     {
         let i = self.own.expired(now)?;
         self.stopped = true;
         Some(i)
     }
 
-    /// Takes out the least chunk that this peer waits for: it will be asked of another peer.
+    /// Takes out the least chunk that this peer waits for: it will be asked of another peer. The own requests are no longer those of the
+    /// channel's story, until a CHOKE comes or the seat begins anew.
     pub fn give_back(&mut self) -> Option<u32>
         ensures least { MatchOption result (self.old.own ≡ []) (IsLeastAsked self.old.own) }
         ensures taken { MatchOption result (self.new ≡ self.old)
