@@ -1,5 +1,5 @@
 -- Which chunks this peer waits for on a channel.
-use Rattle.std.proofs.Common.{◌≡◌, ℕ, ◌+◌, ◌<◌, ◌≤◌, eqb, nat_lt, Bool, true, false, cond, ◌||◌, Option, Some, None, List, [], ◌∷◌, map, refl, sym, ◌∙◌, ap, arith}
+use Rattle.std.proofs.Common.{◌≡◌, ℕ, ◌+◌, ◌<◌, ◌≤◌, eqb, nat_lt, Bool, true, false, cond, ◌||◌, Option, Some, None, List, [], ◌∷◌, ◌++◌, map, refl, sym, ◌∙◌, ap, subst, arith}
 use Rattle.std.proofs.lemmas.Bool.{and_parts, eqb-true, false≢true}
 use Rattle.pp_terms.specs.format.Messages.{Message, Data, Request, Cancel, Choke, Unchoke, only}
 use Rattle.pp_terms.specs.tree.Range.{Span, within, has}
@@ -12,7 +12,7 @@ use Rattle.pp_requests.specs.Moments.{asked_at, Changes, IsLeastExpired}
 use Rattle.pp_seat.specs.Lines.{names_at, is_named_at}
 use Rattle.pp_seat.specs.Own.{IsSplit, AsksAll}
 use Rattle.pp_seat.specs.Follows.{IsUnsaid, IsIdleSaid}
-use Rattle.pp_seat.specs.Awaited.{since_heard, since_said, awaited_since, AreAwaited, KeepsAwaited, AllKeepAwaited, PassesHeard, PassesSaid, PassesOwn, LinesKeepAwaited, NoneAwaited}
+use Rattle.pp_seat.specs.Awaited.{since_heard, since_said, awaited_since, AreAwaited, KeepsAwaited, AllKeepAwaited, PassesHeard, PassesSaid, PassesOwn, AllPassSaid, LinesKeepAwaited, NoneAwaited}
 
 -- ---- a line that begins and ends no wait
 
@@ -90,6 +90,39 @@ requests_keep_awaited now range spans old new split all = record {
       (λ i. requests_since now i spans story ∙ ap (λ (b : Bool). cond b (Some now) (awaited_since i story)) (split i)) is;
 }
 
+cancels_since : (now i : ℕ) (spans : List Span) (story : List Line) → awaited_since i (say now (map Cancel spans) story) ≡ cond (has spans i) None (awaited_since i story)
+cancels_since now i [] story = refl
+cancels_since now i (x ∷ xs) story = cancels_since now i xs (Said now (Cancel x) ∷ story) ∙ either (within x i) (has xs i) (awaited_since i story)
+  where
+    either : (a b : Bool) (o : Option ℕ) → cond b None (cond a None o) ≡ cond (a || b) None o
+    either true true o = refl
+    either true false o = refl
+    either false b o = refl
+
+cancels_keep_awaited : (now : ℕ) (range : Span) (spans : List Span) (old new : List Asking) → IsSplit range spans
+    → ((i : ℕ) → asked_at new i ≡ cond (within range i) None (asked_at old i)) → AllKeepAwaited now (map Cancel spans) old new
+cancels_keep_awaited now range spans old new split gone = record {
+  stays = λ chunks story is. awaited_later chunks old new story (say now (map Cancel spans) story) (within range) None (say_later now (map Cancel spans) story) gone
+      (λ i. cancels_since now i spans story ∙ ap (λ (b : Bool). cond b None (awaited_since i story)) (split i)) is;
+}
+
+passed_keep_awaited : (now : ℕ) (ms : List Message) (own : List Asking) → AllPassSaid ms → AllKeepAwaited now ms own own
+passed_keep_awaited now [] own h = record { stays = λ chunks story is. is }
+passed_keep_awaited now (m ∷ ms) own h = record {
+  stays = λ chunks story is.
+      (passed_keep_awaited now ms own h.1).stays chunks (Said now m ∷ story) ((others_keep_awaited (Said now m) own h.0).stays chunks story is);
+}
+
+twice_keep_awaited : (now : ℕ) (ms more : List Message) (old mid new : List Asking) → AllKeepAwaited now ms old mid → AllKeepAwaited now more mid new
+    → AllKeepAwaited now (ms ++ more) old new
+twice_keep_awaited now ms more old mid new first second = record {
+  stays = λ chunks story is. subst (λ (s : List Line). AreAwaited chunks new s) (sym (said_twice ms story)) (second.stays chunks (say now ms story) (first.stays chunks story is));
+}
+  where
+    said_twice : (xs : List Message) (story : List Line) → say now (xs ++ more) story ≡ say now more (say now xs story)
+    said_twice [] story = refl
+    said_twice (x ∷ xs) story = said_twice xs (Said now x ∷ story)
+
 pub expired_keeps_awaited : (chunks now i : ℕ) (story : List Line) (old new : List Asking) → IsLeastExpired old now i → Changes i None old new → now ≤ clock story
     → AreAwaited chunks old story → AreAwaited chunks new story
 expired_keeps_awaited chunks now i story old new least gone come h = record {
@@ -115,7 +148,10 @@ lines_keep_awaited = record {
   answer = data_keeps_awaited;
   choke = choke_keeps_awaited;
   cancel = cancel_keeps_awaited;
+  cancels = cancels_keep_awaited;
   requests = requests_keep_awaited;
+  passed = passed_keep_awaited;
+  twice = twice_keep_awaited;
   expired = expired_keeps_awaited;
 }
 

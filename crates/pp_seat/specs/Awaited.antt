@@ -1,5 +1,5 @@
 -- Which chunks this peer waits for on a channel, by what was said and heard there.
-use Rattle.std.specs.Prelude.{◌≡◌, ℕ, ◌+◌, ◌<◌, ◌≤◌, ◌==◌, nat_lt, Bool, false, if◌then◌else◌, Option, Some, None, is_some, List, [], ◌∷◌, map}
+use Rattle.std.specs.Prelude.{◌≡◌, ℕ, ◌+◌, ◌<◌, ◌≤◌, ◌==◌, nat_lt, Bool, false, if◌then◌else◌, Option, Some, None, is_some, List, [], ◌∷◌, ◌++◌, map}
 use Rattle.std.specs.List.{list_any}
 use Rattle.pp_terms.specs.format.Traffic.{Record}
 use Rattle.pp_terms.specs.format.Descriptor.{Descriptor, chunks_of}
@@ -72,7 +72,11 @@ PassesOwn (Heard now m) = PassesHeard m
 PassesOwn (Said now m) = PassesSaid m
 PassesOwn (Taken now) = Unit {0}
 
--- What becomes of the own requests with each line: they stay, or the chunk's or all leave; those of a CANCEL leave, and those of
+abbrev pub AllPassSaid : List Message → Type 0
+AllPassSaid [] = Unit {0}
+AllPassSaid (m ∷ ms) = PassesSaid m × AllPassSaid ms
+
+-- What becomes of the own requests with each line: they stay, or the chunk's or all leave; those of CANCELs leave, and those of
 -- REQUESTs come in. One that has expired leaves at any time.
 pub record LinesKeepAwaited : Type 0 where
   pub others : (line : Line) (own : List Asking) → PassesOwn line → KeepsAwaited line own own
@@ -80,8 +84,13 @@ pub record LinesKeepAwaited : Type 0 where
   pub choke : (chunks now : ℕ) (story : List Line) → AreAwaited chunks [] (Heard now Choke ∷ story)
   pub cancel : (now : ℕ) (span : Span) (old new : List Asking) → ((i : ℕ) → asked_at new i ≡ (if within span i then None else asked_at old i))
       → KeepsAwaited (Said now (Cancel span)) old new
+  pub cancels : (now : ℕ) (range : Span) (spans : List Span) (old new : List Asking) → IsSplit range spans
+      → ((i : ℕ) → asked_at new i ≡ (if within range i then None else asked_at old i)) → AllKeepAwaited now (map Cancel spans) old new
   pub requests : (now : ℕ) (range : Span) (spans : List Span) (old new : List Asking) → IsSplit range spans → AsksAll range now old new
       → AllKeepAwaited now (map Request spans) old new
+  pub passed : (now : ℕ) (ms : List Message) (own : List Asking) → AllPassSaid ms → AllKeepAwaited now ms own own
+  pub twice : (now : ℕ) (ms more : List Message) (old mid new : List Asking) → AllKeepAwaited now ms old mid → AllKeepAwaited now more mid new
+      → AllKeepAwaited now (ms ++ more) old new
   pub expired : (chunks now i : ℕ) (story : List Line) (old new : List Asking) → IsLeastExpired old now i → Changes i None old new → now ≤ clock story
       → AreAwaited chunks old story → AreAwaited chunks new story
 
