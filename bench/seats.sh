@@ -1,7 +1,8 @@
 #!/usr/bin/env bash
 # How long a message takes at one of 64 seats: a million of each kind, at contents of 2^10 and of 2^20 chunks. A message is to take
 # about 100 nanoseconds. At 2^10 chunks each seat is asked for 16 of them, at 2^20 for so many that its list is full, and most are
-# refused. A HAVE marks a node of each layer of the tree.
+# refused. A HAVE marks the nodes above its chunk, up to the first that is marked already; so does an ACK. The ACKs come to seats of new
+# channels: in each round a seat is asked for two chunks and sends what its window has room for, and only the ACKs are timed.
 # The program is proved and built in a repository of its own, from copies of the crates that it stands on, by `rt run`; the
 # first time that takes some minutes.
 # Usage: bench/seats.sh [FOLDER]; the folder, a new one unless given, is kept where it is given, so that a later run of the
@@ -132,6 +133,65 @@ fn waits(seats: &mut Vec<Seat>) {
     }
 }
 
+// All seats are those of new channels.
+fn afresh(seats: &mut Vec<Seat>) {
+    for seat in seats.iter_mut() {
+        seat.begin(1024, true);
+        seat.prove();
+    }
+}
+
+// A seat is asked for a chunk and sends one, if its window has room. Which one.
+fn send(seat: Option<&mut Seat>, at: u32, now: u64) -> Option<u32> {
+    let seat = seat?;
+    let range = ChunkRange::new(at, at)?;
+    seat.heard_request(range);
+    let next = seat.next()?;
+    seat.said_data(next, now);
+    Some(next)
+}
+
+// So it is with two chunks of each seat, from one on.
+fn sends(seats: &mut Vec<Seat>, sent: &mut Vec<Option<u32>>, chunks: u32, from: u32, now: u64) -> Result<(), AllocError> {
+    sent.clear();
+    for i in 0..128 {
+        let at = chunk(from.wrapping_add(i), chunks);
+        sent.push(send(seats.get_mut((i % 64) as usize), at, now))?;
+    }
+    Ok(())
+}
+
+// ACKs of what was sent, with a delay of a millisecond. How many.
+fn acks(seats: &mut Vec<Seat>, sent: &Vec<Option<u32>>, now: u64) -> u64 {
+    let mut heard = 0u64;
+    for (i, chunk) in sent.iter().enumerate() {
+        if let (Some(at), Some(seat)) = (*chunk, seats.get_mut(i % 64)) {
+            if at < seat.chunks() {
+                if let Some(range) = ChunkRange::new(at, at) {
+                    seat.heard_ack(range, 1_000, now);
+                    heard = heard.saturating_add(1);
+                }
+            }
+        }
+    }
+    heard
+}
+
+// Rounds of chunks sent and acknowledged. How many ACKs came, and how long those took, in nanoseconds.
+fn rounds(rt: &HostRuntime, seats: &mut Vec<Seat>, chunks: u32) -> Result<(u64, u128), anyhow::Error> {
+    let mut sent = Vec::new(rt.alloc());
+    let mut heard = 0u64;
+    let mut took = 0u128;
+    for round in 0..TIMES / 128 {
+        let now = 1_000_000 + 2_000 * u64::from(round);
+        sends(seats, &mut sent, chunks, round.wrapping_mul(128), now)?;
+        let begun = Instant::now(rt)?;
+        heard = heard.saturating_add(acks(seats, &sent, now + 1_000));
+        took = took.saturating_add(begun.elapsed(rt)?.as_nanos());
+    }
+    Ok((heard, took))
+}
+
 fn main(rt: HostRuntime) -> Result<(), anyhow::Error> {
     for chunks in [1_024, 1_048_576] {
         let mut seats = seats(rt.alloc(), chunks)?;
@@ -155,6 +215,11 @@ fn main(rt: HostRuntime) -> Result<(), anyhow::Error> {
         waits(&mut seats);
         let took = begun.elapsed(&rt)?.as_millis();
         println!(rt; "{chunks} chunks: 1,000,000 ends of waits: {took} ms")?;
+        afresh(&mut seats);
+        let (heard, took) = rounds(&rt, &mut seats, chunks)?;
+        let each = took / u128::from(heard.max(1));
+        let all = took / 1_000_000;
+        println!(rt; "{chunks} chunks: {heard} ACKs: {all} ms, {each} ns each")?;
     }
     Ok(())
 }
