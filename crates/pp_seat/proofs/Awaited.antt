@@ -12,6 +12,7 @@ use Rattle.pp_requests.specs.Moments.{asked_at, Changes, IsLeastExpired}
 use Rattle.pp_seat.specs.Lines.{names_at, is_named_at}
 use Rattle.pp_seat.specs.Own.{IsSplit, AsksAll}
 use Rattle.pp_seat.specs.Follows.{IsUnsaid, IsIdleSaid}
+use Rattle.pp_seat.proofs.Moments.{say_clock}
 use Rattle.pp_seat.specs.Awaited.{since_heard, since_said, awaited_since, AreAwaited, KeepsAwaited, AllKeepAwaited, PassesHeard, PassesSaid, PassesOwn, AllPassSaid, LinesKeepAwaited, NoneAwaited}
 
 -- ---- a line that begins and ends no wait
@@ -71,10 +72,6 @@ one_cancel_keeps_awaited i now span old new only gone =
 pub unchoke_keeps_awaited : (now : ℕ) (own : List Asking) → KeepsAwaited (Heard now Unchoke) own own
 unchoke_keeps_awaited now own = others_keep_awaited (Heard now Unchoke) own tt
 
-say_later : (now : ℕ) (ms : List Message) (story : List Line) → clock story ≤ clock (say now ms story)
-say_later now [] story = omega arith
-say_later now (m ∷ ms) story = let rest = say_later now ms (Said now m ∷ story) in omega arith
-
 requests_since : (now i : ℕ) (spans : List Span) (story : List Line) → awaited_since i (say now (map Request spans) story) ≡ cond (has spans i) (Some now) (awaited_since i story)
 requests_since now i [] story = refl
 requests_since now i (x ∷ xs) story = requests_since now i xs (Said now (Request x) ∷ story) ∙ either (within x i) (has xs i) (awaited_since i story)
@@ -86,7 +83,7 @@ requests_since now i (x ∷ xs) story = requests_since now i xs (Said now (Reque
 
 pub requests_keep_awaited : (now : ℕ) (range : Span) (spans : List Span) (old new : List Asking) → IsSplit range spans → AsksAll range now old new → AllKeepAwaited now (map Request spans) old new
 requests_keep_awaited now range spans old new split all = record {
-  stays = λ chunks story is. awaited_later chunks old new story (say now (map Request spans) story) (within range) (Some now) (say_later now (map Request spans) story) all.asked
+  stays = λ chunks story is. awaited_later chunks old new story (say now (map Request spans) story) (within range) (Some now) (say_clock now (map Request spans) story) all.asked
       (λ i. requests_since now i spans story ∙ ap (λ (b : Bool). cond b (Some now) (awaited_since i story)) (split i)) is;
 }
 
@@ -102,7 +99,7 @@ cancels_since now i (x ∷ xs) story = cancels_since now i xs (Said now (Cancel 
 cancels_keep_awaited : (now : ℕ) (range : Span) (spans : List Span) (old new : List Asking) → IsSplit range spans
     → ((i : ℕ) → asked_at new i ≡ cond (within range i) None (asked_at old i)) → AllKeepAwaited now (map Cancel spans) old new
 cancels_keep_awaited now range spans old new split gone = record {
-  stays = λ chunks story is. awaited_later chunks old new story (say now (map Cancel spans) story) (within range) None (say_later now (map Cancel spans) story) gone
+  stays = λ chunks story is. awaited_later chunks old new story (say now (map Cancel spans) story) (within range) None (say_clock now (map Cancel spans) story) gone
       (λ i. cancels_since now i spans story ∙ ap (λ (b : Bool). cond b None (awaited_since i story)) (split i)) is;
 }
 

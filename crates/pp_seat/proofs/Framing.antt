@@ -23,6 +23,7 @@ use Rattle.pp_promises.specs.Served.{is_announced, asked_after_heard, asked_afte
 use Rattle.pp_promises.specs.Announced.{was_told_of, IsKnownOf, is_told_of}
 use Rattle.pp_promises.proofs.ReadStories.{by_asks, after_asks, answers_are_read, plains_are_read}
 use Rattle.pp_promises.proofs.Growth.{reads_grow}
+use Rattle.pp_seat.proofs.Moments.{say_clock}
 use Rattle.pp_seat.specs.Lines.{asked_since, Tale, with_line, with_said}
 use Rattle.pp_seat.specs.Laws.{IsLater}
 use Rattle.pp_seat.specs.Frames.{since_of, tale_of, IsSameTale, SameTales, with_heard, TalesGrow, OwedIsKept, FramesGrow, ReadsComeToNow, no_tale, NoneBegins, OwedIsGiven, frame_of, HeldIsTold}
@@ -458,10 +459,6 @@ since_within test place (r ∷ b) e = by (nat_le place (length b)) (test r) refl
         → ((x && y) || some_since test place b) ≡ true → place < length (r ∷ b)
     by true y is rest here = let le : place ≤ length b = leb-true place (length b) is in omega arith
     by false y is rest there = let less = rest there in omega arith
-
-say_clock : (at : ℕ) (ms : List Message) (s : List Line) → clock s ≤ clock (say at ms s)
-say_clock at [] s = omega arith
-say_clock at (m ∷ ms) s = let more = say_clock at ms (Said at m ∷ s) in omega arith
 
 in_past : (d : Descriptor) (life : Life) (r : Record) (b : List Record) → some_since is_event life.opening (r ∷ b) ≡ true → nat_le life.opening (length b) ≡ true
 in_past d life r b e = let lt = since_within is_event life.opening (r ∷ b) e in le-leb life.opening (length b) (omega arith)

@@ -3,7 +3,7 @@ use Rattle.std.proofs.Common.{◌≡◌, ⊎_elim, ℕ, ◌≤◌, max, Bool, tr
 use Rattle.std.proofs.lemmas.Bool.{or_cases, or_left, or_right, false≢true}
 use Rattle.std.proofs.lemmas.Bool.Decides.{nat_tests}
 use Rattle.pp_terms.specs.format.Messages.{Message, Request}
-use Rattle.pp_traffic.specs.Story.{Line, Heard, Said, Taken}
+use Rattle.pp_traffic.specs.Story.{Line, Heard, Said, Taken, say}
 use Rattle.pp_traffic.specs.Fates.{clock}
 use Rattle.pp_promises.specs.OwnSide.{is_old, has_old_request}
 use Rattle.pp_requests.specs.declared.asking.Asking.{Asking}
@@ -34,3 +34,8 @@ pub later : (line : Line) (story : List Line) (own : List Asking) (stopped choke
     → Asks own stopped chokes were (has_old_request (clock (line ∷ story)) (line ∷ story)) is_choked
 later line story own stopped chokes were is_choked a =
     record { named = a.named; expired = λ e. old_stays line story (a.expired e); choked = a.choked }
+
+-- messages that were sent
+pub say_clock : (at : ℕ) (ms : List Message) (story : List Line) → clock story ≤ clock (say at ms story)
+say_clock at [] story = omega arith
+say_clock at (m ∷ ms) story = let more = say_clock at ms (Said at m ∷ story) in omega arith

@@ -1,24 +1,26 @@
 -- What a turn tells that is new.
-use Rattle.std.proofs.Common.{◌≡◌, ⊎_elim, ℕ, zero, suc, ◌+◌, ◌<◌, ◌≤◌, nat_le, Bool, true, cond, not, ◌&&◌, ◌||◌, List, [], ◌∷◌, ap, sym, refl, ◌∙◌, arith}
+use Rattle.std.proofs.Common.{◌≡◌, ◌⊎◌, inl, inr, ⊎_elim, subst, ℕ, zero, suc, ◌+◌, ◌<◌, ◌≤◌, nat_le, Bool, true, cond, not, ◌&&◌, ◌||◌, List, [], ◌∷◌, ap, sym, refl, ◌∙◌, arith}
 use Rattle.std.specs.List.{list_any, count_by, range_with_len}
-use Rattle.std.proofs.lemmas.Bool.{and_from, and_parts, le-leb, leb-true, or_left, or_right, or_cases, cases_lt}
+use Rattle.std.proofs.lemmas.Bool.{and_from, and_parts, le-leb, leb-true, or_left, or_right, or_cases, cases_lt, both_ways}
 use Rattle.std.proofs.lemmas.List.Sums.{sum_by-cons}
 use Rattle.pp_terms.specs.format.Traffic.{Record, Received, Quiet, Sent}
 use Rattle.pp_terms.specs.format.Descriptor.{Descriptor, chunks_of}
 use Rattle.pp_terms.specs.tree.Range.{Span, within, has, IsRunsFrom}
 use Rattle.pp_traffic.specs.Life.{Life}
 use Rattle.pp_ranges.specs.Edits.{number_count}
+use Rattle.pp_ranges.proofs.Runs.{runs_weaken, none_below}
+use Rattle.pp_traffic.specs.Plain.{IsPlainNow}
+use Rattle.pp_traffic.specs.Story.{Line, story}
+use Rattle.pp_traffic.specs.Keeping.{StoodThroughout}
+use Rattle.pp_terms.specs.disk.Disk.{History}
+use Rattle.pp_promises.proofs.ReadStories.{plains_are_read}
 use Rattle.pp_promises.specs.LastTurn.{sent_since, earlier}
-use Rattle.pp_promises.specs.Announced.{tells_of, was_told_of, is_new, new_count}
+use Rattle.pp_promises.specs.Announced.{tells_of, was_told_of, is_new, fewest_new, new_count, IsKnownOf, is_told_of}
 use Rattle.pp_seat.specs.Lines.{Tale}
 use Rattle.pp_seat.specs.Seats.{SeatState}
 use Rattle.pp_seat.specs.Follows.{Frame, Lost, Follows}
-use Rattle.pp_seat.specs.Frames.{NewsAreCounted}
-
--- runs that rise from a number on rise from a lesser one on
-lower_runs : (high low : ℕ) (spans : List Span) → low ≤ high → IsRunsFrom high spans → IsRunsFrom low spans
-lower_runs high low [] le runs = runs
-lower_runs high low (x ∷ xs) le runs = ((let first = runs.0 in omega arith), runs.1, runs.2)
+use Rattle.pp_seat.specs.Frames.{frame_of, tale_of, TellsFrom, NewsAreCounted}
+use Rattle.pp_seat.proofs.Framing.{held_is_told}
 
 -- what lies in a range or elsewhere lies in one that begins lower
 wider : (low high last i : ℕ) (rest : Bool) → low ≤ high → ((nat_le high i && nat_le i last) || rest) ≡ true → ((nat_le low i && nat_le i last) || rest) ≡ true
@@ -54,7 +56,7 @@ runs_pass p (x ∷ xs) low (suc n) runs passes =
     (λ i e. let q = passes i (wider x.first (low + 1) x.last i (has xs i) (omega arith) e) in (let high = q.0 in omega arith, q.1)) in omega arith)
     (λ (last : x.last ≤ low).
     let order = runs.1 in
-    let rest = runs_pass p xs (low + 1) n (lower_runs (x.last + 2) (low + 1) xs (omega arith) runs.2)
+    let rest = runs_pass p xs (low + 1) n (runs_weaken (low + 1) (x.last + 2) xs (omega arith) runs.2)
     (λ i e. let q = passes i (or_right (within x i) (has xs i) e) in (let high = q.0 in omega arith, q.1)) in omega arith)
     (cases_lt low x.last))
     (cases_lt low x.first)
@@ -64,22 +66,20 @@ runs_pass p (x ∷ xs) low (suc n) runs passes =
 
 news_counted : (d : Descriptor) (life : Life) (past : List Record) (f : Frame) (lost : Lost) (s : SeatState) (t : Tale) (spans : List Span)
     → Follows f lost s t → lost.haves ≡ 0 → ((i : ℕ) → t.told i ≡ was_told_of d life i (earlier past))
-    → IsRunsFrom s.cursor spans → ((i : ℕ) → has spans i ≡ true → (i < chunks_of d) × (list_any (tells_of d life i) (sent_since past) ≡ true))
-    → number_count spans ≤ new_count d life past
-news_counted d life past f lost s t spans follows none told runs each =
-    runs_pass (is_new d life past) spans 0 (chunks_of d) (lower_runs s.cursor 0 spans (omega arith) runs)
-    (λ i e. let q = each i e in (
+    → TellsFrom d life past s.cursor spans → number_count spans ≤ new_count d life past
+news_counted d life past f lost s t spans follows none told tells =
+    runs_pass (is_new d life past) spans 0 (chunks_of d) (runs_weaken 0 s.cursor spans (omega arith) tells.runs)
+    (λ i e. let q = tells.each i e in (
       (let lt = q.0 in omega arith),
       and_from (list_any (tells_of d life i) (sent_since past)) (not (was_told_of d life i (earlier past))) q.1
-          (ap not (sym (told i) ∙ follows.fresh.above none i (from s.cursor spans i runs e))),
+          (ap not (sym (told i) ∙ follows.fresh.above none i (from i e))),
     ))
   where
-    from : (low : ℕ) (xs : List Span) (i : ℕ) → IsRunsFrom low xs → has xs i ≡ true → low ≤ i
-    from low [] i runs e = absurd (cc)
-    from low (x ∷ xs) i runs e = ⊎_elim
-        (λ in_first. let first = leb-true x.first i (and_parts (nat_le x.first i) (nat_le i x.last) in_first).0 in let at = runs.0 in omega arith)
-        (λ in_rest. let rest = from (x.last + 2) xs i runs.2 in_rest in let at = runs.0 in let order = runs.1 in omega arith)
-        (or_cases (within x i) (has xs i) e)
+    from : (i : ℕ) → has spans i ≡ true → s.cursor ≤ i
+    from i e = ⊎_elim
+        (λ less. absurd (both_ways (has spans i) (none_below spans s.cursor i tells.runs less) e))
+        (λ more. more)
+        (cases_lt i s.cursor)
 
 begun : (d : Descriptor) (life : Life) (i : ℕ) (past : List Record) → sent_since past ≡ [] → was_told_of d life i past ≡ was_told_of d life i (earlier past)
 begun d life i [] none = refl
@@ -87,5 +87,15 @@ begun d life i (Received at sender bytes ∷ before) none = refl
 begun d life i (Quiet at ∷ before) none = refl
 begun d life i (Sent moment receiver bytes ∷ before) none = absurd (cc)
 
+enough_told : (d : Descriptor) (h : History) (life : Life) (is_found : ℕ → Bool) (past : List Record) (lost : Lost) (s : SeatState)
+    → IsPlainNow d life past → Follows (frame_of d life is_found past) lost s (tale_of d life past)
+    → ((i : ℕ) → StoodThroughout d h i → is_found i ≡ true)
+    → (fewest_new ≤ new_count d life past) ⊎ ((i : ℕ) → IsKnownOf d h past i → i < s.cursor)
+    → (i : ℕ) → IsKnownOf d h past i → (is_told_of i (story d life past) ≡ true) ⊎ (fewest_new ≤ new_count d life past)
+enough_told d h life is_found past lost s plain follows found (inl many) i known = inr many
+enough_told d h life is_found past lost s plain follows found (inr all) i known =
+    inl (subst (λ (x : List Line). is_told_of i x ≡ true) (plains_are_read d life past plain)
+    (held_is_told d h life is_found past lost s i follows (found i) known (all i known)))
+
 pub news_are_counted : NewsAreCounted
-news_are_counted = record { begun = begun; counted = news_counted }
+news_are_counted = record { begun = begun; counted = news_counted; enough = enough_told }

@@ -2,7 +2,7 @@
 use Rattle.std.proofs.Common.{◌≡◌, ⊎_elim, ℕ, zero, suc, ◌+◌, ◌-◌, ◌<◌, ◌≤◌, max, eqb, nat_le, nat_lt, Bool, true, false, cond, not, ◌&&◌, ◌||◌, Option, Some, None, is_some, List, [], ◌∷◌, ◌++◌, map, length, refl, sym, ◌∙◌, ap, arith}
 use Rattle.std.specs.List.{list_any, filter, range_with_len}
 use Rattle.std.specs.Cmp.{both_ways}
-use Rattle.std.proofs.lemmas.Bool.{and_from, and_parts, lt-ltb, ltb-true, or_left, or_right, or_cases, eq-eqb, eqb-true, false≢true}
+use Rattle.std.proofs.lemmas.Bool.{and_right, and_from, and_parts, lt-ltb, ltb-true, or_left, or_right, or_cases, eq-eqb, eqb-true, false≢true}
 use Rattle.std.proofs.lemmas.Bool.Decides.{nat_tests}
 use Rattle.pp_terms.specs.format.Traffic.{Record, Received, Quiet, Sent}
 use Rattle.pp_terms.specs.format.Descriptor.{Descriptor}
@@ -27,11 +27,7 @@ is_asked i at requests = list_any (λ q. eqb q.chunk i && eqb q.asked_at at) req
 
 filtered : (p : OwnRequest → Bool) (i at : ℕ) (requests : List OwnRequest)
     → is_asked i at (filter p requests) ≡ (p (record { chunk = i; asked_at = at }) && is_asked i at requests)
-filtered p i at [] = none (p (record { chunk = i; asked_at = at }))
-  where
-    none : (b : Bool) → false ≡ (b && false)
-    none true = refl
-    none false = refl
+filtered p i at [] = sym (and_right (p (record { chunk = i; asked_at = at })) false refl)
 filtered p i at (q ∷ qs) = kept (p q) (filter p qs) (filtered p i at qs)
     ∙ same (p q) (eqb q.chunk i && eqb q.asked_at at) (p (record { chunk = i; asked_at = at })) (is_asked i at qs) (λ e.
     let e' = and_parts (eqb q.chunk i) (eqb q.asked_at at) e in
@@ -303,38 +299,38 @@ asking_is_choked d life (r ∷ b) = by r (nat_le life.opening (length b)) (is_re
 
 -- ---- own requests are outstanding
 
-hear_clock : (at : ℕ) (ms : List Message) (story : List Line) → clock (hear at ms story) ≤ max at (clock story)
-hear_clock at [] story = omega arith
-hear_clock at (m ∷ ms) story = let rest = hear_clock at ms (Heard at m ∷ story) in omega arith
+heard_by : (at : ℕ) (ms : List Message) (story : List Line) → clock (hear at ms story) ≤ max at (clock story)
+heard_by at [] story = omega arith
+heard_by at (m ∷ ms) story = let rest = heard_by at ms (Heard at m ∷ story) in omega arith
 
-say_clock : (at : ℕ) (ms : List Message) (story : List Line) → clock (say at ms story) ≤ max at (clock story)
-say_clock at [] story = omega arith
-say_clock at (m ∷ ms) story = let rest = say_clock at ms (Said at m ∷ story) in omega arith
+said_by : (at : ℕ) (ms : List Message) (story : List Line) → clock (say at ms story) ≤ max at (clock story)
+said_by at [] story = omega arith
+said_by at (m ∷ ms) story = let rest = said_by at ms (Said at m ∷ story) in omega arith
 
-told_clock : (d : Descriptor) (life : Life) (o : Bool) (at : ℕ) (r : Record) (story : List Line) → clock (told d life o at r story) ≤ max at (clock story)
-told_clock d life o at (Received moment sender bytes) story = let most = hear_clock at (heard_in d life o (Received moment sender bytes)) story in omega arith
-told_clock d life o at (Quiet moment) story = omega arith
-told_clock d life o at (Sent moment receiver bytes) story = say_clock at (said_in d life (Sent moment receiver bytes)) story
+told_by : (d : Descriptor) (life : Life) (o : Bool) (at : ℕ) (r : Record) (story : List Line) → clock (told d life o at r story) ≤ max at (clock story)
+told_by d life o at (Received moment sender bytes) story = let most = heard_by at (heard_in d life o (Received moment sender bytes)) story in omega arith
+told_by d life o at (Quiet moment) story = omega arith
+told_by d life o at (Sent moment receiver bytes) story = said_by at (said_in d life (Sent moment receiver bytes)) story
 
-unread_clock : (d : Descriptor) (life : Life) (o : Bool) (at : ℕ) (r : Record) (story : List Line) → clock (with_unread d life o at r story) ≤ max at (clock story)
-unread_clock d life o at (Received moment sender bytes) story = omega arith
-unread_clock d life o at (Quiet moment) story = omega arith
-unread_clock d life o at (Sent moment receiver bytes) story = say_clock at (said_in d life (Sent moment receiver bytes)) story
+unread_by : (d : Descriptor) (life : Life) (o : Bool) (at : ℕ) (r : Record) (story : List Line) → clock (with_unread d life o at r story) ≤ max at (clock story)
+unread_by d life o at (Received moment sender bytes) story = omega arith
+unread_by d life o at (Quiet moment) story = omega arith
+unread_by d life o at (Sent moment receiver bytes) story = said_by at (said_in d life (Sent moment receiver bytes)) story
 
-no_later : (r : Record) (b : List Record) → now b ≤ now (r ∷ b)
-no_later (Received at sender bytes) b = omega arith
-no_later (Quiet at) b = omega arith
-no_later (Sent moment receiver bytes) b = omega arith
+now_grows : (r : Record) (b : List Record) → now b ≤ now (r ∷ b)
+now_grows (Received at sender bytes) b = omega arith
+now_grows (Quiet at) b = omega arith
+now_grows (Sent moment receiver bytes) b = omega arith
 
 clock_now : (d : Descriptor) (life : Life) (past : List Record) → clock (read_story d life past) ≤ now past
 clock_now d life [] = omega arith
-clock_now d life (r ∷ b) = by (nat_le life.opening (length b)) (is_read d life (r ∷ b)) (clock_now d life b) (no_later r b)
+clock_now d life (r ∷ b) = by (nat_le life.opening (length b)) (is_read d life (r ∷ b)) (clock_now d life b) (now_grows r b)
   where
     by : (x y : Bool) → clock (read_story d life b) ≤ now b → now b ≤ now (r ∷ b)
         → clock (cond x (cond y (told d life (eqb life.opening (length b)) (now (r ∷ b)) r (read_story d life b))
         (with_unread d life (eqb life.opening (length b)) (now (r ∷ b)) r (read_story d life b))) []) ≤ now (r ∷ b)
-    by true true low less = let most = told_clock d life (eqb life.opening (length b)) (now (r ∷ b)) r (read_story d life b) in omega arith
-    by true false low less = let most = unread_clock d life (eqb life.opening (length b)) (now (r ∷ b)) r (read_story d life b) in omega arith
+    by true true low less = let most = told_by d life (eqb life.opening (length b)) (now (r ∷ b)) r (read_story d life b) in omega arith
+    by true false low less = let most = unread_by d life (eqb life.opening (length b)) (now (r ∷ b)) r (read_story d life b) in omega arith
     by false y low less = omega arith
 
 pub own_is_asking : OwnIsAsking

@@ -15,7 +15,7 @@ use Rattle.pp_traffic.specs.Fates.{clock}
 use Rattle.pp_promises.specs.LastTurn.{sent_since, earlier}
 use Rattle.pp_promises.specs.ReadStory.{is_read, read_story, proven_story}
 use Rattle.pp_promises.specs.Served.{is_announced, is_owed, IsOwed}
-use Rattle.pp_promises.specs.Announced.{tells_of, was_told_of, new_count, IsKnownOf, is_told_of}
+use Rattle.pp_promises.specs.Announced.{tells_of, was_told_of, fewest_new, new_count, IsKnownOf, is_told_of}
 use Rattle.std.specs.List.{list_any}
 use Rattle.pp_terms.specs.tree.Range.{Span, has, IsRunsFrom}
 use Rattle.pp_ranges.specs.Edits.{number_count}
@@ -127,12 +127,22 @@ HeldIsTold = (d : Descriptor) (h : History) (life : Life) (is_found : ℕ → Bo
 
 -- ---- what a turn tells that is new
 
--- What was told of before a turn's first datagram is what was told of in the earlier turns; and where no HAVE was refused, ranges from
--- the cursor on whose chunks the turn told of since then are so many new ones.
+-- The last turn told of all chunks of these ranges, which lie in the content and rise from a cursor on.
+pub record TellsFrom (d : Descriptor) (life : Life) (past : List Record) (cursor : ℕ) (spans : List Span) : Type 0 where
+  pub runs : IsRunsFrom cursor spans
+  pub each : (i : ℕ) → has spans i ≡ true → (i < chunks_of d) × (list_any (tells_of d life i) (sent_since past) ≡ true)
+
+-- What was told of before a turn's first datagram is what was told of in the earlier turns. Where no HAVE was refused, ranges from the
+-- cursor on of which the turn told are so many new chunks. And where a turn told a plain channel of enough new ones, or its seat's
+-- cursor is behind each chunk that is to be known of, it did what is promised of that channel.
 pub record NewsAreCounted : Type 0 where
   pub begun : (d : Descriptor) (life : Life) (i : ℕ) (past : List Record) → sent_since past ≡ []
       → was_told_of d life i past ≡ was_told_of d life i (earlier past)
   pub counted : (d : Descriptor) (life : Life) (past : List Record) (f : Frame) (lost : Lost) (s : SeatState) (t : Tale) (spans : List Span)
-      → Follows f lost s t → lost.haves ≡ 0 → ((i : ℕ) → t.told i ≡ was_told_of d life i (earlier past)) → IsRunsFrom s.cursor spans
-      → ((i : ℕ) → has spans i ≡ true → (i < chunks_of d) × (list_any (tells_of d life i) (sent_since past) ≡ true))
+      → Follows f lost s t → lost.haves ≡ 0 → ((i : ℕ) → t.told i ≡ was_told_of d life i (earlier past)) → TellsFrom d life past s.cursor spans
       → number_count spans ≤ new_count d life past
+  pub enough : (d : Descriptor) (h : History) (life : Life) (is_found : ℕ → Bool) (past : List Record) (lost : Lost) (s : SeatState)
+      → IsPlainNow d life past → Follows (frame_of d life is_found past) lost s (tale_of d life past)
+      → ((i : ℕ) → StoodThroughout d h i → is_found i ≡ true)
+      → (fewest_new ≤ new_count d life past) ⊎ ((i : ℕ) → IsKnownOf d h past i → i < s.cursor)
+      → (i : ℕ) → IsKnownOf d h past i → (is_told_of i (story d life past) ≡ true) ⊎ (fewest_new ≤ new_count d life past)
