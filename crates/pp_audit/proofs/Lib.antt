@@ -41,3 +41,7 @@ pub mod Storings
 pub mod LongHashes
 pub mod StoredTests
 pub mod AckedTests
+pub mod TallyCounts
+pub mod ReportTexts
+pub mod ReportRanges
+pub mod ReportSays

@@ -42,7 +42,8 @@ pub record IsTimely (is_quiet : Bool) (stored : List ℕ) (now : ℕ) (old new :
 
 -- what was committed still is
 abbrev pub StaysCommitted : (old new : List Bool) → Type 0
-StaysCommitted old new = (i : ℕ) → i < length old → slice_index_or old i false ≡ true → slice_index_or new i false ≡ true
+StaysCommitted old new =
+    (i : ℕ) → i < length old → slice_index_or old i false ≡ true → slice_index_or new i false ≡ true
 
 -- the chunks that were in, and those that were stored, are in, and no others
 abbrev pub Keeps : List ℕ → (old new : terms.Batch) → Type 0

@@ -31,3 +31,5 @@ pub mod Storings
 pub mod Digests
 pub mod Stored
 pub mod Acknowledgements
+pub mod Tallies
+pub mod Reports

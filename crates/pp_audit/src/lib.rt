@@ -36,6 +36,7 @@ mod plans;
 mod proving;
 mod reading;
 mod records;
+mod reports;
 mod runs;
 mod said;
 mod searching;
@@ -46,6 +47,7 @@ mod sorts;
 mod standing;
 mod stored;
 mod storing;
+mod tallies;
 mod telling;
 mod timing;
 mod turns;
@@ -65,13 +67,17 @@ pub use lives::is_life;
 pub use path::completes;
 pub use plain::is_plain;
 pub use plans::plans_all;
+pub use reports::{is_held_line, is_report};
 pub use searching::answers_peer;
 pub use served::serves_but;
 pub use serving::serves;
 pub use stored::stores_all;
+pub use tallies::is_tallied;
 
 #[cfg(test)]
 mod life_tests;
+#[cfg(test)]
+mod report_tests;
 #[cfg(test)]
 mod store_tests;
 #[cfg(test)]

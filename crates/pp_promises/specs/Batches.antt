@@ -90,6 +90,7 @@ pub record CommitsInTime (is_quiet : Bool) (stored : List ℕ) (now : ℕ) (old 
   -- there are as many chunks
   pub as_many : length new.committed ≡ length old.committed
   -- what was committed stays committed
-  pub stays : (i : ℕ) → i < length old.committed → slice_index_or old.committed i false ≡ true → slice_index_or new.committed i false ≡ true
+  pub stays : (i : ℕ) → i < length old.committed → slice_index_or old.committed i false ≡ true
+      → slice_index_or new.committed i false ≡ true
   -- nothing is lost, and nothing comes in but what was stored
   pub keeps : (i : ℕ) → i < length old.committed → is_in new i ≡ is_in (with_all_pending stored now old) i
