@@ -1,10 +1,11 @@
 -- What a record counts as, and the two halves of what a traffic decides of a run's counts (RFC 7574, section 8).
-use Rattle.std.specs.Prelude.{◌≡◌, ℕ, ◌-◌, nat_lt, Bool, true, false, List, length}
-use Rattle.pp_terms.specs.Count.{capped}
+use Rattle.std.specs.Prelude.{◌≡◌, ◌⊎◌, ℕ, ◌+◌, ◌-◌, ◌<◌, nat_lt, Bool, true, false, None, List, length}
+use Rattle.pp_terms.specs.Count.{HasRisen, capped}
 use Rattle.pp_terms.specs.command.Tally.{Tally}
-use Rattle.pp_terms.specs.format.Traffic.{Record, Received, Quiet, Sent}
+use Rattle.pp_terms.specs.format.Traffic.{LinkState, Record, Received, Quiet, Sent}
 use Rattle.pp_traffic.specs.Turns.{events}
 use Rattle.pp_traffic.specs.Tallied.{came, came_short, went}
+use Rattle.pp_audit.specs.declared.tallies.LinkCounts.{LinkCounts}
 use Rattle.pp_audit.specs.declared.tallies.Kind.{Kind}
 use Rattle.pp_audit.specs.declared.tallies.Kind.TheVariants.{Event, Came, Short, Went}
 
@@ -29,6 +30,21 @@ count_of Event past = events past
 count_of Came past = came past
 count_of Short past = came_short past
 count_of Went past = went past
+
+-- a link with these counts; what else a link has is not counted
+abbrev pub link_of : LinkCounts → LinkState
+link_of k = record { traffic = None; faults = k.faults; nexts = k.nexts; bound = None }
+
+-- Waits were refused where so many turns began with fewer events, and the link's count shows that.
+pub record RefusedSome (taken : ℕ) (before after : ℕ) (past : List Record) : Type 0 where
+  pub refused : ℕ
+  pub each : events past + refused ≡ taken
+  pub why : (refused ≡ 0) ⊎ HasRisen before after
+
+-- A link ended so many waits more.
+pub record Waited (taken : ℕ) (before after : ℕ) : Type 0 where
+  pub nexts : 0 < taken → after ≡ capped (before + taken)
+  pub still : taken ≡ 0 → after ≡ before
 
 -- So many turns and refused waits are counted as there were.
 pub record CountsTurns (t : Tally) (taken : ℕ) (past : List Record) : Type 0 where

@@ -26,6 +26,7 @@ mod hashes;
 mod laws;
 mod lives;
 mod marks;
+mod missing;
 mod newcomers;
 mod nodes;
 mod offers;
@@ -64,15 +65,16 @@ pub use entry::{Entry, Life};
 pub use flying::fewer_than_two;
 pub use laws::kept_turns;
 pub use lives::is_life;
+pub use missing::{is_complete, is_first_missing};
 pub use path::completes;
 pub use plain::is_plain;
 pub use plans::plans_all;
-pub use reports::{is_held_line, is_report};
+pub use reports::{is_held_line, is_incomplete_report, is_report};
 pub use searching::answers_peer;
 pub use served::serves_but;
 pub use serving::serves;
 pub use stored::stores_all;
-pub use tallies::is_tallied;
+pub use tallies::{LinkCounts, is_tallied, took_turns};
 
 #[cfg(test)]
 mod life_tests;

@@ -1,6 +1,8 @@
+use super::tests::swarm;
 use super::*;
 use pp_counts::Counts;
 use pp_outside::Address;
+use std::test::Fail;
 
 const PEER: Address = Address::V4([10, 0, 0, 2], 7000);
 
@@ -63,6 +65,45 @@ fn decides_no_other_tally(rt: HostRuntime) {
     assert!(rt; !is_tallied(4, &LIST, &none_short));
 }
 
+#[test]
+fn decides_turns(rt: HostRuntime) {
+    let before = LinkCounts {
+        faults: 2,
+        nexts: 10,
+    };
+    // one of four waits was refused, and the count of faults rose or didn't
+    let refused = LinkCounts {
+        faults: 3,
+        nexts: 14,
+    };
+    let hidden = LinkCounts {
+        faults: 2,
+        nexts: 14,
+    };
+    assert!(rt; took_turns(4, before, refused, &LIST));
+    assert!(rt; !took_turns(4, before, hidden, &LIST));
+    assert!(rt; !took_turns(3, before, refused, &LIST));
+    // none was
+    let last = LinkCounts {
+        faults: 2,
+        nexts: 13,
+    };
+    assert!(rt; took_turns(3, before, last, &LIST));
+    assert!(rt; !took_turns(2, before, last, &LIST));
+}
+
+#[test]
+fn decides_what_is_missing(rt: HostRuntime) -> Result<(), Fail> {
+    let d = swarm(rt.alloc())?;
+    assert!(rt; is_complete(&d, &[true; 7]));
+    assert!(rt; !is_complete(&d, &[true; 6]));
+    assert!(rt; is_first_missing(&d, &[true; 6], 6));
+    assert!(rt; !is_first_missing(&d, &[true; 7], 7));
+    assert!(rt; is_first_missing(&d, &SET, 2));
+    assert!(rt; !is_first_missing(&d, &[false, true, false], 2));
+    Ok(())
+}
+
 const SET: [bool; 4] = [true, true, false, true];
 
 #[test]
@@ -105,4 +146,15 @@ fn decides_reports(rt: HostRuntime) {
     assert!(rt; !is_report(&[true, true, true, true], &counted(), REPORT));
     assert!(rt; !is_report(&SET, &Counts::new(), REPORT));
     assert!(rt; !is_report(&SET, &counted(), b"held 3 of 4 0-1,3-3\n"));
+}
+
+#[test]
+fn decides_reports_of_less(rt: HostRuntime) -> Result<(), Fail> {
+    let mut text = Vec::from_slice(rt.alloc(), REPORT)?;
+    text.extend_from_slice(b"incomplete: first missing chunk 2\n")?;
+    assert!(rt; is_incomplete_report(&SET, &counted(), 2, &text));
+    assert!(rt; !is_incomplete_report(&SET, &counted(), 3, &text));
+    assert!(rt; !is_incomplete_report(&SET, &counted(), 2, REPORT));
+    assert!(rt; !is_report(&SET, &counted(), &text));
+    Ok(())
 }

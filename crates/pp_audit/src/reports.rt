@@ -2,8 +2,9 @@
 
 ghost use Rattle.std.specs.Prelude.{◌≡◌, ◌↔◌, ◌++◌, IsTrue, Some, List, [], length, count_by, codes, decimal};
 ghost use Rattle.pp_terms.specs.command.Report.{SaysHeld, SaysReport, held_line, ranges_text, span_text};
-ghost use Rattle.pp_terms.specs.command.Tally.{counter, first_lines, other_lines};
+ghost use Rattle.pp_terms.specs.command.Tally.{counter, first_lines, other_lines, tally_text};
 ghost use Rattle.pp_terms.specs.tree.Range.{Span};
+ghost use Rattle.pp_promises.specs.Missing.{SaysIncomplete, incomplete_line};
 ghost use Rattle.pp_counts.specs.Counts.{tally_of};
 ghost use Rattle.pp_audit.specs.Reports.{took, left_of, Reads, ended, begun_after, ranges_of, comma, left_behind};
 
@@ -172,6 +173,23 @@ fn read_others<'m>(left: Option<&'m [u8]>, counts: &Counts) -> Option<&'m [u8]>
     read_line(left, b"receive_faults ", counts.receive_faults)
 }
 
+// Behind a report.
+fn read_report<'m>(left: Option<&'m [u8]>, set: &[bool], counts: &Counts) -> Option<&'m [u8]>
+    ensures { Reads (held_line (count_by (λ b. b) set.now) (length set.now) (ranges_of set.now) ++ tally_text (tally_of counts.now))
+        (left_of left.entry) (left_of result) }
+{
+    let left = read_held(left, set);
+    let left = read_first(left, counts);
+    read_others(left, counts)
+}
+
+// Behind the line of the first chunk that is missing.
+fn read_incomplete<'m>(left: Option<&'m [u8]>, chunk: u64) -> Option<&'m [u8]>
+    ensures { Reads (incomplete_line chunk) (left_of left.entry) (left_of result) }
+{
+    read_line(left, b"incomplete: first missing chunk ", chunk)
+}
+
 // Whether the text went on up to here, and ends here.
 fn ends_here(left: Option<&[u8]>) -> bool
     ensures { IsTrue result ↔ (left_of left.entry ≡ Some []) }
@@ -194,7 +212,14 @@ pub fn is_held_line(set: &[bool], text: &[u8]) -> bool
 pub fn is_report(set: &[bool], counts: &Counts, text: &[u8]) -> bool
     ensures { IsTrue result ↔ SaysReport set.now (tally_of counts.now) (took []) (took text.now) }
 {
-    let left = read_held(Some(text), set);
-    let left = read_first(left, counts);
-    ends_here(read_others(left, counts))
+    ends_here(read_report(Some(text), set, counts))
+}
+
+/// Whether a text is the report of a fetch that ended without the whole content: a report, and the line of a chunk that is
+/// missing.
+pub fn is_incomplete_report(set: &[bool], counts: &Counts, chunk: u64, text: &[u8]) -> bool
+    ensures { IsTrue result ↔ SaysIncomplete set.now (tally_of counts.now) chunk (took []) (took text.now) }
+{
+    let left = read_report(Some(text), set, counts);
+    ends_here(read_incomplete(left, chunk))
 }

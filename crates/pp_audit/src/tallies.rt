@@ -1,11 +1,11 @@
 //! What the traffic of a run decides of what the run counts (RFC 7574, section 8).
 
 ghost use Rattle.std.specs.Prelude.{◌≡◌, ◌↔◌, ◌≤◌, IsTrue, length, count_by};
-ghost use Rattle.pp_terms.specs.Count.{capped};
-ghost use Rattle.pp_traffic.specs.Tallied.{IsTallied};
+ghost use Rattle.pp_terms.specs.Count.{HasRisen, capped};
+ghost use Rattle.pp_traffic.specs.Tallied.{IsTallied, TookTurns};
 ghost use Rattle.pp_counts.specs.Counts.{tally_of};
 ghost use Rattle.pp_audit.specs.Entries.{past, record_of};
-ghost use Rattle.pp_audit.specs.Tallies.{is_kind, count_of, CountsTurns, CountsDatagrams};
+ghost use Rattle.pp_audit.specs.Tallies.{is_kind, count_of, link_of, RefusedSome, Waited, CountsTurns, CountsDatagrams};
 
 use crate::entry::Entry;
 use pp_counts::Counts;
@@ -66,6 +66,55 @@ fn count_of<'m>(kind: Kind, entries: &'m [Entry<'m>]) -> u64
     ensures { result ≡ capped (count_of kind (past entries.now)) }
 {
     number_of(kind, entries)
+}
+
+/// Of a link, how often a call of it was refused, and how many waits have ended. Both counts stand still at the greatest number.
+#[derive(Clone, Copy, Debug, PartialEq, Eq)]
+pub struct LinkCounts {
+    pub faults: u64,
+    pub nexts: u64,
+}
+
+// Whether a count rose, or stands at the greatest number.
+fn has_risen(before: u64, after: u64) -> bool
+    ensures { IsTrue result ↔ HasRisen before after }
+{
+    after == u64::MAX || before < after
+}
+
+// Whether so many turns began with an event each, or some with a refused wait that the link's count of faults shows.
+fn refused_some<'m>(taken: u64, before: u64, after: u64, entries: &'m [Entry<'m>]) -> bool
+    ensures { IsTrue result ↔ RefusedSome taken before after (past entries.now) }
+{
+    let events = number_of(Kind::Event, entries);
+    if events == taken {
+        return true;
+    }
+    events < taken && has_risen(before, after)
+}
+
+// Whether the link ended so many waits more.
+fn waited(taken: u64, before: u64, after: u64) -> bool
+    ensures { IsTrue result ↔ Waited taken before after }
+{
+    if taken == 0 {
+        return after == before;
+    }
+    after == before.saturating_add(taken)
+}
+
+/// Whether so many turns were taken, by a link's counts before and after them: each turn waited once, and the wait gave an
+/// entry or was refused (RFC 7574, section 8).
+pub fn took_turns<'m>(
+    taken: u64,
+    before: LinkCounts,
+    after: LinkCounts,
+    entries: &'m [Entry<'m>],
+) -> bool
+    ensures { IsTrue result ↔ TookTurns taken (link_of before) (link_of after) (past entries.now) }
+{
+    waited(taken, before.nexts, after.nexts)
+        && refused_some(taken, before.faults, after.faults, entries)
 }
 
 // Whether so many turns and refused waits are counted as there were.
