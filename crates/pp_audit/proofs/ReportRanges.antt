@@ -1,37 +1,20 @@
 -- The ranges of a set: what they are, and that no others are.
 use Rattle.std.proofs.Common.{◌≡◌, ⊎_elim, ℕ, zero, suc, ◌+◌, ◌-◌, ◌<◌, ◌≤◌, leb, Bool, true, false, ◌&&◌, ◌||◌, Option, Some, None, List, [], ◌∷◌, ◌++◌, length, refl, sym, ◌∙◌, ap, subst, arith}
 use Rattle.std.specs.Prelude.{slice_index_or}
-use Rattle.std.proofs.lemmas.Bool.{le-leb, lt-leb, cases_lt, cases_eq, and_left, and_right, and_from}
+use Rattle.std.proofs.lemmas.Bool.{le-leb, lt-leb, cases_lt, cases_eq, and_left}
+use Rattle.std.proofs.Math.Bool.{or-false}
 use Rattle.std.proofs.lemmas.List.{get_or_past}
 use Rattle.pp_terms.specs.tree.Range.{Span, within, has, IsRunsFrom}
 use Rattle.pp_terms.specs.command.Report.{AreRanges}
-use Rattle.pp_ranges.proofs.Runs.{runs_weaken, none_below}
+use Rattle.pp_terms.proofs.Within.{within_from, within_past}
+use Rattle.pp_terms.proofs.BinSpans.{span_same}
+use Rattle.pp_ranges.proofs.Runs.{runs_weaken, none_below, append_has}
 use Rattle.pp_audit.specs.Reports.{ended, begun_after, ranges_from, ranges_behind, ranges_of}
 
--- ---- numbers in a range
-
-inside : (span : Span) (i : ℕ) → span.first ≤ i → i ≤ span.last → within span i ≡ true
-inside span i low high = and_from _ _ (le-leb span.first i low) (le-leb i span.last high)
-
-below : (span : Span) (i : ℕ) → i < span.first → within span i ≡ false
-below span i lt = and_left _ _ (lt-leb span.first i lt)
-
-above : (span : Span) (i : ℕ) → span.last < i → within span i ≡ false
-above span i lt = and_right _ _ (lt-leb i span.last lt)
-
-or_false : (x : Bool) → (x || false) ≡ x
-or_false true = refl
-or_false false = refl
-
-has_both : (xs ys : List Span) (i : ℕ) → has (xs ++ ys) i ≡ (has xs i || has ys i)
-has_both [] ys i = refl
-has_both (x ∷ xs) ys i = pick (within x i) (has_both xs ys i)
-  where
-    pick : (b : Bool) → has (xs ++ ys) i ≡ (has xs i || has ys i) → (b || has (xs ++ ys) i) ≡ ((b || has xs i) || has ys i)
-    pick true same = refl
-    pick false same = same
-
 -- ---- what the ranges have
+
+pub within_low : (span : Span) (i : ℕ) → i < span.first → within span i ≡ false
+within_low span i lt = and_left _ _ (lt-leb span.first i lt)
 
 -- the range that is begun began before
 IsBegunBefore : ℕ → Option ℕ → Type 0
@@ -51,7 +34,7 @@ unfolding IsBegunBefore
 ended_before None i is_in j lt le = refl
 ended_before (Some first) i true j lt le = refl
 ended_before (Some first) i false j lt le =
-    or_false (within (record { first = first; last = i - 1 }) j) ∙ above (record { first = first; last = i - 1 }) j (omega (arith, lt, le))
+    or-false (within (record { first = first; last = i - 1 }) j) ∙ within_past (record { first = first; last = i - 1 }) j (omega (arith, lt, le))
 
 -- earlier numbers are those of the range that is begun
 earlier : (test : ℕ → Bool) (begun : Option ℕ) (i n j : ℕ) → IsBegunBefore i begun → j < i → has (ranges_from test begun i n) j ≡ has (ended begun i false) j
@@ -64,17 +47,17 @@ earlier test begun i (suc n) j lt less = pick begun (test i) lt (λ o before. ea
         → has (ended o i b ++ ranges_from test (begun_after o i b) (suc i) n) j ≡ has (ended o i false) j
     pick None true lt' next =
         next (Some i) (omega arith)
-        ∙ or_false (within (record { first = i; last = suc i - 1 }) j)
-        ∙ below (record { first = i; last = suc i - 1 }) j less
+        ∙ or-false (within (record { first = i; last = suc i - 1 }) j)
+        ∙ within_low (record { first = i; last = suc i - 1 }) j less
     pick None false lt' next = next None tt
     pick (Some first) true lt' next =
         next (Some first) (omega (arith, lt'))
         ∙ ap (λ (b : Bool). (leb first j && b) || false)
         (le-leb j (suc i - 1) (omega (arith, less)) ∙ sym (le-leb j (i - 1) (omega (arith, less))))
     pick (Some first) false lt' next =
-        has_both (ended (Some first) i false) (ranges_from test None (suc i) n) j
+        append_has (ended (Some first) i false) (ranges_from test None (suc i) n) j
         ∙ ap (λ (b : Bool). has (ended (Some first) i false) j || b) (next None tt)
-        ∙ or_false (has (ended (Some first) i false) j)
+        ∙ or-false (has (ended (Some first) i false) j)
 
 here : (test : ℕ → Bool) (begun : Option ℕ) (i n : ℕ) → IsBegunBefore i begun → has (ranges_from test begun i (suc n)) i ≡ test i
 unfolding ranges_from IsBegunBefore
@@ -83,15 +66,15 @@ here test begun i n lt = pick begun (test i) lt
     pick : (o : Option ℕ) (b : Bool) → IsBegunBefore i o → has (ended o i b ++ ranges_from test (begun_after o i b) (suc i) n) i ≡ b
     pick None true lt' =
         earlier test (Some i) (suc i) n i (omega arith) (omega arith)
-        ∙ or_false (within (record { first = i; last = suc i - 1 }) i)
-        ∙ inside (record { first = i; last = suc i - 1 }) i (omega arith) (omega arith)
+        ∙ or-false (within (record { first = i; last = suc i - 1 }) i)
+        ∙ within_from (record { first = i; last = suc i - 1 }) i (omega arith) (omega arith)
     pick None false lt' = earlier test None (suc i) n i tt (omega arith)
     pick (Some first) true lt' =
         earlier test (Some first) (suc i) n i (omega (arith, lt')) (omega arith)
-        ∙ or_false (within (record { first = first; last = suc i - 1 }) i)
-        ∙ inside (record { first = first; last = suc i - 1 }) i (omega (arith, lt')) (omega arith)
+        ∙ or-false (within (record { first = first; last = suc i - 1 }) i)
+        ∙ within_from (record { first = first; last = suc i - 1 }) i (omega (arith, lt')) (omega arith)
     pick (Some first) false lt' =
-        has_both (ended (Some first) i false) (ranges_from test None (suc i) n) i
+        append_has (ended (Some first) i false) (ranges_from test None (suc i) n) i
         ∙ ap (λ (b : Bool). b || has (ranges_from test None (suc i) n) i) (ended_before (Some first) i false i lt' (omega arith))
         ∙ earlier test None (suc i) n i tt (omega arith)
 
@@ -101,7 +84,7 @@ later test begun i zero j lt le less = absurd (omega (arith, le, less))
 later test begun i (suc n) j lt le less = ⊎_elim
     (λ (e : i ≡ j). subst (λ (k : ℕ). has (ranges_from test begun i (suc n)) k ≡ test k) e (here test begun i n lt))
     (λ (ne : i ≡ j → ⊥).
-    has_both (ended begun i (test i)) (ranges_from test (begun_after begun i (test i)) (suc i) n) j
+    append_has (ended begun i (test i)) (ranges_from test (begun_after begun i (test i)) (suc i) n) j
     ∙ ap (λ (b : Bool). b || has (ranges_from test (begun_after begun i (test i)) (suc i) n) j) (ended_before begun i (test i) j lt le)
     ∙ later test (begun_after begun i (test i)) (suc i) n j (stays_begun begun i (test i) lt) (omega (arith, le, ne)) (omega (arith, less)))
     (cases_eq i j)
@@ -110,7 +93,7 @@ past_all : (test : ℕ → Bool) (begun : Option ℕ) (i n j : ℕ) → IsBegunB
 unfolding ranges_from
 past_all test begun i zero j lt le = ended_before begun i false j lt (omega (arith, le))
 past_all test begun i (suc n) j lt le =
-    has_both (ended begun i (test i)) (ranges_from test (begun_after begun i (test i)) (suc i) n) j
+    append_has (ended begun i (test i)) (ranges_from test (begun_after begun i (test i)) (suc i) n) j
     ∙ ap (λ (b : Bool). b || has (ranges_from test (begun_after begun i (test i)) (suc i) n) j) (ended_before begun i (test i) j lt (omega (arith, le)))
     ∙ past_all test (begun_after begun i (test i)) (suc i) n j (stays_begun begun i (test i) lt) (omega (arith, le))
 
@@ -166,9 +149,9 @@ no_false e = absurd cc
 not_before : (x y : Span) (xs ys : List Span) → x.first ≤ x.last → x.first < y.first → y.first ≤ y.last → IsRunsFrom (y.last + 2) ys
     → ((i : ℕ) → has (x ∷ xs) i ≡ has (y ∷ ys) i) → ⊥
 not_before x y xs ys x_some lt y_some runs same =
-    let yes : has (x ∷ xs) x.first ≡ true = ap (λ (b : Bool). b || has xs x.first) (inside x x.first (omega arith) x_some) in
+    let yes : has (x ∷ xs) x.first ≡ true = ap (λ (b : Bool). b || has xs x.first) (within_from x x.first (omega arith) x_some) in
     let no : has (y ∷ ys) x.first ≡ false =
-    ap (λ (b : Bool). b || has ys x.first) (below y x.first lt) ∙ none_below ys (y.last + 2) x.first runs (omega (arith, lt, y_some)) in
+    ap (λ (b : Bool). b || has ys x.first) (within_low y x.first lt) ∙ none_below ys (y.last + 2) x.first runs (omega (arith, lt, y_some)) in
     no_false (sym no ∙ sym (same x.first) ∙ yes)
 
 -- nor ends first
@@ -176,9 +159,9 @@ not_shorter : (x y : Span) (xs ys : List Span) → x.first ≡ y.first → x.fir
     → ((i : ℕ) → has (x ∷ xs) i ≡ has (y ∷ ys) i) → ⊥
 not_shorter x y xs ys e x_some lt runs same =
     let yes : has (y ∷ ys) (x.last + 1) ≡ true =
-    ap (λ (b : Bool). b || has ys (x.last + 1)) (inside y (x.last + 1) (omega (arith, e, x_some)) (omega (arith, lt))) in
+    ap (λ (b : Bool). b || has ys (x.last + 1)) (within_from y (x.last + 1) (omega (arith, e, x_some)) (omega (arith, lt))) in
     let no : has (x ∷ xs) (x.last + 1) ≡ false =
-    ap (λ (b : Bool). b || has xs (x.last + 1)) (above x (x.last + 1) (omega arith)) ∙ none_below xs (x.last + 2) (x.last + 1) runs (omega arith) in
+    ap (λ (b : Bool). b || has xs (x.last + 1)) (within_past x (x.last + 1) (omega arith)) ∙ none_below xs (x.last + 2) (x.last + 1) runs (omega arith) in
     no_false (sym no ∙ same (x.last + 1) ∙ yes)
 
 same_first : (x y : Span) (xs ys : List Span) → x.first ≤ x.last → y.first ≤ y.last → IsRunsFrom (x.last + 2) xs → IsRunsFrom (y.last + 2) ys
@@ -206,28 +189,25 @@ same_rest : (x y : Span) (xs ys : List Span) → x.last ≡ y.last → IsRunsFro
 same_rest x y xs ys e x_runs y_runs same i = ⊎_elim
     (λ (lt : i < x.last + 2). none_below xs (x.last + 2) i x_runs lt ∙ sym (none_below ys (y.last + 2) i y_runs (omega (arith, e, lt))))
     (λ (le : x.last + 2 ≤ i).
-    sym (ap (λ (b : Bool). b || has xs i) (above x i (omega (arith, le))))
+    sym (ap (λ (b : Bool). b || has xs i) (within_past x i (omega (arith, le))))
     ∙ same i
-    ∙ ap (λ (b : Bool). b || has ys i) (above y i (omega (arith, e, le))))
+    ∙ ap (λ (b : Bool). b || has ys i) (within_past y i (omega (arith, e, le))))
     (cases_lt i (x.last + 2))
-
-same_spans : (x y : Span) → x.first ≡ y.first → x.last ≡ y.last → x ≡ y
-same_spans x y e e' = ap (λ (n : ℕ). record { first = n; last = x.last }) e ∙ ap (λ (n : ℕ). record { first = y.first; last = n }) e'
 
 runs_are_same : (xs ys : List Span) (from : ℕ) → IsRunsFrom from xs → IsRunsFrom from ys → ((i : ℕ) → has xs i ≡ has ys i) → xs ≡ ys
 runs_are_same [] [] from x_runs y_runs same = refl
 runs_are_same [] (y ∷ ys) from x_runs y_runs same =
-    let yes : has (y ∷ ys) y.first ≡ true = ap (λ (b : Bool). b || has ys y.first) (inside y y.first (omega arith) y_runs.1) in
+    let yes : has (y ∷ ys) y.first ≡ true = ap (λ (b : Bool). b || has ys y.first) (within_from y y.first (omega arith) y_runs.1) in
     absurd (no_false (same y.first ∙ yes))
 runs_are_same (x ∷ xs) [] from x_runs y_runs same =
-    let yes : has (x ∷ xs) x.first ≡ true = ap (λ (b : Bool). b || has xs x.first) (inside x x.first (omega arith) x_runs.1) in
+    let yes : has (x ∷ xs) x.first ≡ true = ap (λ (b : Bool). b || has xs x.first) (within_from x x.first (omega arith) x_runs.1) in
     absurd (no_false (sym (same x.first) ∙ yes))
 runs_are_same (x ∷ xs) (y ∷ ys) from x_runs y_runs same =
     let first : x.first ≡ y.first = same_first x y xs ys x_runs.1 y_runs.1 x_runs.2 y_runs.2 same in
     let last : x.last ≡ y.last = same_last x y xs ys first x_runs.1 y_runs.1 x_runs.2 y_runs.2 same in
     let rest : xs ≡ ys = runs_are_same xs ys (x.last + 2) x_runs.2 (subst (λ (n : ℕ). IsRunsFrom (n + 2) ys) (sym last) y_runs.2)
     (same_rest x y xs ys last x_runs.2 y_runs.2 same) in
-    ap (λ (s : Span). s ∷ xs) (same_spans x y first last) ∙ ap (λ (zs : List Span). y ∷ zs) rest
+    ap (λ (s : Span). s ∷ xs) (span_same x y first last) ∙ ap (λ (zs : List Span). y ∷ zs) rest
 
 pub only_ranges : (set : List Bool) (ranges : List Span) → AreRanges set ranges → ranges ≡ ranges_of set
 only_ranges set ranges are =

@@ -1,5 +1,6 @@
 -- A text that is read piece by piece.
 use Rattle.std.proofs.Common.{◌≡◌, ◌↔◌, ℕ, suc, ◌+◌, ◌-◌, ◌<◌, eqb, cond, Bool, true, false, Option, Some, None, List, [], ◌∷◌, ◌++◌, length, refl, sym, ◌∙◌, ap, subst, codes, arith}
+use Rattle.std.proofs.lemmas.List.{append-nil}
 use Rattle.std.specs.Prelude.{MatchOption, ◌≢◌, slice_index_or}
 use Rattle.std.specs.Borrow.{Bor}
 use Rattle.std.proofs.lemmas.Bool.{eq-eqb, eqb-true}
@@ -129,10 +130,6 @@ walk_step set old new i whole lt begun_is read_on before =
     ∙ ap (λ (n : ℕ). left_behind old (ranges_from test old.begun i n)) (sym count)
     ∙ before
 
-append_none : (xs : List Span) → xs ++ [] ≡ xs
-append_none [] = refl
-append_none (x ∷ xs) = ap (λ (zs : List Span). x ∷ zs) (append_none xs)
-
 walk_end : (set : List Bool) (old new : Walk) (number : ℕ) (whole : Option (List ℕ)) → number ≡ length set
     → ((more : List Span) → left_behind new more ≡ left_behind old (ended old.begun (length set) false ++ more))
     → left_behind old (ranges_behind set old.begun number) ≡ whole
@@ -140,7 +137,7 @@ walk_end : (set : List Bool) (old new : Walk) (number : ℕ) (whole : Option (Li
 unfolding ranges_behind ranges_from
 walk_end set old new number whole at read_on before =
     let none : length set - length set ≡ 0 = omega arith in
-    read_on [] ∙ ap (λ (spans : List Span). left_behind old spans) (append_none (ended old.begun (length set) false))
+    read_on [] ∙ ap (λ (spans : List Span). left_behind old spans) (append-nil (ended old.begun (length set) false))
     ∙ ap (λ (n : ℕ). left_behind old (ranges_from (λ k. slice_index_or set k false) old.begun (length set) n)) (sym none)
     ∙ ap (λ (n : ℕ). left_behind old (ranges_behind set old.begun n)) (sym at)
     ∙ before

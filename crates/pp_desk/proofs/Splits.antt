@@ -1,5 +1,6 @@
 -- The spans by which a method names a range have the chunks of the range.
 use Rattle.std.proofs.Common.{◌≡◌, ℕ, ◌+◌, ◌*◌, ◌^◌, ◌<◌, ◌≤◌, nat_le, nat_lt, Bool, true, false, ◌&&◌, ◌||◌, List, [], ◌∷◌, map, refl, ◌∙◌, ap, arith}
+use Rattle.std.proofs.Math.Bool.{or-false}
 use Rattle.std.proofs.lemmas.Bool.Decides.{nat_tests}
 use Rattle.std.proofs.lemmas.Nat.{pow_pos}
 use Rattle.pp_terms.specs.tree.Tree.{Node}
@@ -36,11 +37,7 @@ bins_split range spans bins i =
     ends = grind (arith, nat_tests)
 
 one_split : (range : Span) (spans : List Span) → spans ≡ range ∷ [] → IsSplit range spans
-one_split range spans is i = ap (λ (xs : List Span). has xs i) is ∙ alone (within range i)
-  where
-    alone : (b : Bool) → (b || false) ≡ b
-    alone true = refl
-    alone false = refl
+one_split range spans is i = ap (λ (xs : List Span). has xs i) is ∙ or-false (within range i)
 
 pub names_split : (method : Method) (range : Span) (spans : List Span) → AreNames method range spans → IsSplit range spans
 names_split Bin32 range spans names = bins_split range spans names

@@ -1,7 +1,6 @@
 -- The ranges of a set's numbers.
 use Rattle.std.proofs.Common.{◌≡◌, ⊎_elim, ℕ, ◌+◌, ◌-◌, ◌<◌, ◌≤◌, Bool, true, false, ◌||◌, List, [], ◌∷◌, ◌++◌, length, get_or, codes, decimal, refl, sym, ◌∙◌, ap, subst, arith, append_assoc}
 use Rattle.std.proofs.lemmas.Bool.{cases_lt, false≢true, false_from_ne_true}
-use Rattle.std.proofs.lemmas.Bool.Decides.{nat_tests}
 use mathlib.Core.Bool.{beq}
 use Rattle.std.specs.Prelude.{Result, Ok, Err, OnOk}
 use Rattle.std.proofs.lemmas.List.{get_or_past, append-nil}
@@ -9,6 +8,7 @@ use Rattle.std.proofs.Math.Bool.{or-false, or_assoc}
 use Rattle.pp_terms.specs.tree.Range.{Span, within, has, IsRunsFrom}
 use Rattle.pp_terms.specs.command.Stream.{SinkState, Gains}
 use Rattle.pp_terms.proofs.Within.{within_from, within_past}
+use Rattle.pp_audit.proofs.ReportRanges.{within_low}
 use Rattle.pp_node.specs.Held.{HasRanges, HasMore}
 use Rattle.pp_terms.specs.command.Report.{span_text, more_text}
 use Rattle.pp_node.proofs.Written.{gains-nil, gains_more}
@@ -25,9 +25,6 @@ all_end_later m n (x ∷ xs) le h = (omega (arith, h.0), all_end_later m n xs le
 all_end_more : (n : ℕ) (xs : List Span) (x : Span) → AllEnd n xs → x.last + 2 ≤ n → AllEnd n (xs ++ x ∷ [])
 all_end_more n [] x h last = (last, tt)
 all_end_more n (y ∷ ys) x h last = (h.0, all_end_more n ys x h.1 last)
-
-within_low : (x : Span) (i : ℕ) → i < x.first → within x i ≡ false
-within_low x i lt = grind (arith, nat_tests)
 
 has_past : (n i : ℕ) (xs : List Span) → AllEnd (n + 1) xs → n ≤ i → has xs i ≡ false
 has_past n i [] h le = refl

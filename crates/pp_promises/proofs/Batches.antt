@@ -1,6 +1,7 @@
 -- A peer that commits as it should commits in time.
 use Rattle.std.proofs.Common.{◌≡◌, ℕ, suc, ◌<◌, ◌≤◌, leb, eqb, Bool, true, false, cond, ◌||◌, List, [], ◌∷◌, length, refl, sym, ◌∙◌, ap, subst, arith}
 use Rattle.std.specs.Prelude.{slice_index_or}
+use Rattle.std.proofs.Math.Bool.{or-false, or_assoc, or_comm}
 use Rattle.std.proofs.lemmas.Bool.{leb-true, leb-false}
 use Rattle.std.proofs.lemmas.List.FromFn.{length-map-range_with_len, get_or-map-range_with_len}
 use Rattle.pp_promises.specs.Batches.{Pending, Batch, is_pending, is_in, is_full, committed_with, after_commit, after_put, after_puts, is_due, after_read, after_event, with_puts, with_all_pending, CommitsInTime}
@@ -79,12 +80,8 @@ settled_none quiet now b e = pick (is_due quiet now b) refl
 committed_at : (b : Batch) (i : ℕ) → i < length b.committed → slice_index_or (committed_with b) i false ≡ is_in b i
 committed_at b i lt = get_or-map-range_with_len (is_in b) 0 (length b.committed) i i false lt (omega arith)
 
-or_false : (x : Bool) → (x || false) ≡ x
-or_false true = refl
-or_false false = refl
-
 commit_keeps : (b : Batch) (i : ℕ) → i < length b.committed → is_in (after_commit b) i ≡ is_in b i
-commit_keeps b i lt = or_false (slice_index_or (committed_with b) i false) ∙ committed_at b i lt
+commit_keeps b i lt = or-false (slice_index_or (committed_with b) i false) ∙ committed_at b i lt
 
 -- with one more that is pending
 with_put : ℕ → ℕ → Batch → Batch
@@ -99,16 +96,16 @@ put_keeps k now b i lt = pick (is_full (with_put k now b))
     pick false = refl
 
 -- the same chunks are in where the same were in before
-or_moved : (c x p : Bool) → (c || (x || p)) ≡ (x || (c || p))
-or_moved true true p = refl
-or_moved true false p = refl
-or_moved false x p = refl
+or_moved : (c x p : Bool) → (c || x || p) ≡ (x || (c || p))
+or_moved c x p = ap (λ (b : Bool). b || p) (or_comm c x) ∙ or_assoc x c p
 
 put_same : (k now : ℕ) (b b' : Batch) (i : ℕ) → is_in b i ≡ is_in b' i → is_in (with_put k now b) i ≡ is_in (with_put k now b') i
 unfolding with_put
 put_same k now b b' i same =
-    or_moved (slice_index_or b.committed i false) (eqb k i) (is_pending b i) ∙ ap (λ (x : Bool). eqb k i || x) same
+    sym (or_assoc (slice_index_or b.committed i false) (eqb k i) (is_pending b i)) ∙ or_moved (slice_index_or b.committed i false) (eqb k i) (is_pending b i)
+    ∙ ap (λ (x : Bool). eqb k i || x) same
     ∙ sym (or_moved (slice_index_or b'.committed i false) (eqb k i) (is_pending b' i))
+    ∙ or_assoc (slice_index_or b'.committed i false) (eqb k i) (is_pending b' i)
 
 all_same : (stored : List ℕ) (now : ℕ) (b b' : Batch) (i : ℕ) → is_in b i ≡ is_in b' i
     → is_in (with_all_pending stored now b) i ≡ is_in (with_all_pending stored now b') i
