@@ -1,11 +1,11 @@
 -- Whether each chunk that came first is acknowledged is decided by its test.
 use Rattle.std.proofs.Common.{◌≡◌, ◌↔◌, ⊎_elim, ℕ, ◌+◌, ◌^◌, ◌<◌, ◌≤◌, Bool, true, false, not, ◌&&◌, ◌||◌, List, [], ◌∷◌, ◌++◌, length, refl, sym, ◌∙◌, ap, subst}
 use Rattle.std.specs.List.{list_any, list_all}
-use Rattle.std.proofs.lemmas.Bool.{and_parts, and_from, or_cases, or_left, or_right, or_parts, not-true, not_from_false, not_from_true, cases_Bool, both_ways}
+use Rattle.std.proofs.lemmas.Bool.{and_parts, and_from, or_cases, or_left, or_right, or_parts, not-true, not_from_false, cases_Bool, both_ways}
 use Rattle.pp_terms.specs.format.Descriptor.{Descriptor, chunks_of, height_of}
 use Rattle.pp_terms.specs.format.Messages.{Message, Handshake, Data, Ack, Have, Integrity, Pex4, PexReq, Request, Cancel, Choke, Unchoke, Pex6}
 use Rattle.pp_terms.specs.format.Traffic.{Record, Received, Quiet, Sent}
-use Rattle.pp_terms.specs.tree.Book.{LookUp, AreDigests}
+use Rattle.pp_terms.specs.tree.Book.{LookUp}
 use Rattle.pp_terms.specs.tree.Claims.{met, Contradicts}
 use Rattle.pp_terms.specs.tree.Proves.{Proves}
 use Rattle.pp_traffic.specs.Life.{Life, comes_on, closes}
@@ -14,13 +14,11 @@ use Rattle.pp_traffic.specs.Plain.{IsPlainNow, IsPlainUpTo}
 use Rattle.pp_traffic.specs.Story.{story}
 use Rattle.pp_promises.specs.Announced.{is_data, came_in, is_acknowledged, IsFirst, AcknowledgesFirst}
 use Rattle.pp_promises.specs.LastTurn.{last_event, earlier, is_quiet}
-use Rattle.pp_promises.specs.Stored.{claimed_before}
 use Rattle.pp_audit.specs.declared.entry.Entry.{Entry}
-use Rattle.pp_audit.specs.Acknowledgements.{is_excused, is_acked, acks_on, acks_newest, acks_each, acknowledges, quiet_by}
+use Rattle.pp_audit.specs.Acknowledgements.{is_excused, is_acked, acks_on, acks_newest, acks_each, acknowledges}
 use Rattle.pp_audit.specs.Channels.{each_plain}
 use Rattle.pp_audit.specs.Contradictions.{contradicts}
 use Rattle.pp_audit.specs.Digests.{is_long, AllAreLong}
-use Rattle.pp_audit.specs.Entries.{record_of}
 use Rattle.pp_audit.specs.PlainTests.{is_plain_newest}
 use Rattle.pp_audit.specs.Provings.{proves}
 use Rattle.pp_audit.specs.Storings.{known_behind, each_stored}

@@ -1,5 +1,5 @@
 -- How many times a peer has asked, record by record.
-use Rattle.std.proofs.Common.{◌≡◌, ⊎_elim, ℕ, ◌+◌, ◌-◌, ◌^◌, ◌<◌, ◌≤◌, min, leb, eqb, Bool, true, false, cond, List, [], ◌∷◌, length, get_or, count_by, refl, sym, ◌∙◌, ap, arith}
+use Rattle.std.proofs.Common.{◌≡◌, ⊎_elim, ℕ, ◌+◌, ◌-◌, ◌^◌, ◌<◌, min, leb, eqb, Bool, true, false, cond, List, [], ◌∷◌, length, get_or, count_by, refl, sym, ◌∙◌, ap, arith}
 use Rattle.std.proofs.lemmas.Bool.{cases_lt, le-leb, lt-leb}
 use Rattle.std.proofs.lemmas.List.Sums.{sum_by-cons}
 use Rattle.pp_terms.specs.format.Traffic.{Record, Received, Quiet, Sent}
@@ -11,7 +11,7 @@ use Rattle.pp_traffic.specs.Story.{Line, Heard, Said, hear, say, heard_in, said_
 use Rattle.pp_traffic.specs.Asking.{asks, asks_in}
 use Rattle.pp_traffic.proofs.OneMore.{before_opening}
 use Rattle.pp_audit.specs.declared.entry.Entry.{Entry}
-use Rattle.pp_audit.specs.Entries.{record_of, past}
+use Rattle.pp_audit.specs.Entries.{record_of}
 use Rattle.pp_audit.specs.Asks.{asks_by, asks_at}
 use Rattle.pp_audit.proofs.Pasts.{first, one_more, length_first}
 

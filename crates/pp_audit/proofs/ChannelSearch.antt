@@ -10,7 +10,7 @@ use Rattle.pp_terms.specs.format.Descriptor.{Descriptor}
 use Rattle.pp_traffic.specs.Past.{read, comes_from, goes_to, is_number, is_at, some_since}
 use Rattle.pp_traffic.specs.Life.{Life, fits, begins_as, begins_fitting, greets, answers}
 use Rattle.pp_traffic.specs.Places.{StandsFrom, StandsAt}
-use Rattle.pp_traffic.specs.Plain.{greets_once, first_since, IsPlainAnswer, IsPlainDial, IsPlainNow, IsPlainUpTo}
+use Rattle.pp_traffic.specs.Plain.{greets_once, IsPlainAnswer, IsPlainDial, IsPlainNow, IsPlainUpTo}
 use Rattle.pp_traffic.proofs.Standing.{found_at, found_since}
 use Rattle.pp_traffic.proofs.Plains.{first_some}
 use Rattle.pp_audit.specs.Parts.{first_shake}

@@ -1,16 +1,16 @@
 -- Past the greatest number that the messages of a traffic name, nothing is asked for or announced.
-use Rattle.std.proofs.Common.{◌≡◌, ℕ, ◌<◌, leb, eqb, Bool, false, not, ◌&&◌, List, [], ◌∷◌, refl, ap, arith}
+use Rattle.std.proofs.Common.{◌≡◌, ℕ, ◌<◌, Bool, false, not, ◌&&◌, List, [], ◌∷◌, refl, ap, arith}
 use Rattle.std.specs.List.{AllByRecursion}
-use Rattle.std.proofs.lemmas.Bool.{lt-leb, and_right, or_from, false_from_ne_true, both_ways}
+use Rattle.std.proofs.lemmas.Bool.{and_right, or_from, false_from_ne_true, both_ways}
 use Rattle.pp_terms.specs.format.Traffic.{Record, Received, Quiet, Sent}
 use Rattle.pp_terms.specs.format.Descriptor.{Descriptor}
 use Rattle.pp_terms.specs.format.Messages.{Message, Handshake, Data, Ack, Have, Integrity, Pex4, PexReq, Request, Cancel, Choke, Unchoke, Pex6}
-use Rattle.pp_terms.specs.tree.Range.{Span, within}
+use Rattle.pp_terms.specs.tree.Range.{within}
 use Rattle.pp_terms.proofs.Within.{within_past}
 use Rattle.pp_traffic.specs.Past.{read}
 use Rattle.pp_traffic.specs.Life.{Life}
 use Rattle.pp_traffic.specs.Story.{Line, Heard, Said, Taken, story}
-use Rattle.pp_traffic.specs.Asking.{choked, asked_by, asked_after, asked}
+use Rattle.pp_traffic.specs.Asking.{choked, asked_by, asked}
 use Rattle.pp_traffic.specs.Keeping.{announces}
 use Rattle.pp_traffic.proofs.Chokes.{said_none}
 use Rattle.pp_promises.specs.Served.{is_announced, is_owed}
