@@ -148,7 +148,7 @@ fn reads_commands(rt: HostRuntime) -> Result<(), Fail> {
     let descriptor = Descriptor::read(D).ok().ok_or("no descriptor")?;
     let listen = Address::V4([127, 0, 0, 1], 7000);
     let store = "s";
-    let lines: [(&[&str], Command<'_>); 6] = [
+    let lines: [(&[&str], Command<'_>); 7] = [
         (
             &["import", "s", "8192"],
             Command::Import { store, chunk: 8192 },
