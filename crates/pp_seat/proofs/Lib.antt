@@ -13,3 +13,4 @@ pub mod Framing
 pub mod News
 pub mod Awaited
 pub mod Outstanding
+pub mod Stops

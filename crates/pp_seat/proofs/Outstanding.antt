@@ -25,7 +25,7 @@ use Rattle.pp_seat.specs.Awaited.{since_heard, since_said, awaited_since, is_in_
 abbrev pub is_asked : (i at : ℕ) → List OwnRequest → Bool
 is_asked i at requests = list_any (λ q. eqb q.chunk i && eqb q.asked_at at) requests
 
-filtered : (p : OwnRequest → Bool) (i at : ℕ) (requests : List OwnRequest)
+pub filtered : (p : OwnRequest → Bool) (i at : ℕ) (requests : List OwnRequest)
     → is_asked i at (filter p requests) ≡ (p (record { chunk = i; asked_at = at }) && is_asked i at requests)
 filtered p i at [] = sym (and_right (p (record { chunk = i; asked_at = at })) false refl)
 filtered p i at (q ∷ qs) = kept (p q) (filter p qs) (filtered p i at qs)
@@ -120,7 +120,7 @@ heard n Choke a since h = nothing n (λ i. since_heard i Choke (since i)) (λ i.
 heard n Unchoke a since h = h
 heard n _ a since h = h
 
-all_heard : (n at : ℕ) (ms : List Message) (a : own_side.Asking) (story : List Line) → Pending n a.requests (λ i. awaited_since i story)
+pub all_heard : (n at : ℕ) (ms : List Message) (a : own_side.Asking) (story : List Line) → Pending n a.requests (λ i. awaited_since i story)
     → Pending n (after_all_heard ms a).requests (λ i. awaited_since i (hear at ms story))
 all_heard n at [] a story h = h
 all_heard n at (m ∷ ms) a story h = all_heard n at ms (after_heard m a) (Heard at m ∷ story) (heard n m a (λ i. awaited_since i story) h)
@@ -185,7 +185,7 @@ waits n later requests since le h = record {
 
 -- ---- record by record
 
-pending : (d : Descriptor) (life : Life) (past : List Record) → Pending (now past) (asking d life past).requests (λ i. awaited_since i (read_story d life past))
+pub pending : (d : Descriptor) (life : Life) (past : List Record) → Pending (now past) (asking d life past).requests (λ i. awaited_since i (read_story d life past))
 pending d life [] = nothing 0 (λ i. None) (λ i. refl)
 pending d life (Received at sender bytes ∷ b) = by (nat_le life.opening (length b)) (is_read d life (Received at sender bytes ∷ b)) (pending d life b)
   where
@@ -232,7 +232,7 @@ some_moment i (q ∷ qs) e = ⊎_elim
     (λ there. let rest = some_moment i qs there in (rest.0, or_right (eqb q.chunk i && eqb q.asked_at rest.0) (is_asked i rest.0 qs) rest.1))
     (or_cases (eqb q.chunk i) (list_any (λ (r : OwnRequest). eqb r.chunk i) qs) e)
 
-any_moment : (i at : ℕ) (requests : List OwnRequest) → is_asked i at requests ≡ true → list_any (λ q. eqb q.chunk i) requests ≡ true
+pub any_moment : (i at : ℕ) (requests : List OwnRequest) → is_asked i at requests ≡ true → list_any (λ q. eqb q.chunk i) requests ≡ true
 any_moment i at [] e = absurd (false≢true e)
 any_moment i at (q ∷ qs) e = ⊎_elim
     (λ here. or_left (eqb q.chunk i) (list_any (λ (r : OwnRequest). eqb r.chunk i) qs) (and_parts (eqb q.chunk i) (eqb q.asked_at at) here).0)

@@ -1,16 +1,16 @@
 -- Which chunks this peer waits for on a channel, by what was said and heard there.
-use Rattle.std.specs.Prelude.{◌≡◌, ℕ, ◌+◌, ◌<◌, ◌≤◌, ◌==◌, nat_lt, Bool, false, if◌then◌else◌, Option, Some, None, is_some, List, [], ◌∷◌, ◌++◌, map}
+use Rattle.std.specs.Prelude.{◌≡◌, ℕ, ◌+◌, ◌<◌, ◌≤◌, ◌==◌, nat_lt, Bool, true, false, ◌&&◌, if◌then◌else◌, Option, Some, None, is_some, List, [], ◌∷◌, ◌++◌, map, length}
 use Rattle.std.specs.List.{list_any}
 use Rattle.pp_terms.specs.format.Traffic.{Record}
 use Rattle.pp_terms.specs.format.Descriptor.{Descriptor, chunks_of}
 use Rattle.pp_terms.specs.format.Messages.{Message, Data, Request, Cancel, Choke}
 use Rattle.pp_terms.specs.tree.Range.{Span, within}
 use Rattle.pp_traffic.specs.Past.{now}
-use Rattle.pp_traffic.specs.Life.{Life}
+use Rattle.pp_traffic.specs.Life.{Life, comes_on}
 use Rattle.pp_traffic.specs.Story.{Line, Heard, Said, Taken, say}
 use Rattle.pp_traffic.specs.Fates.{clock}
 use Rattle.pp_promises.specs.OwnSide.{waiting_time, is_choked_by_peer, asking}
-use Rattle.pp_promises.specs.ReadStory.{read_story}
+use Rattle.pp_promises.specs.ReadStory.{is_read, read_story}
 use Rattle.pp_requests.specs.declared.asking.Asking.{Asking}
 use Rattle.pp_requests.specs.Moments.{asked_at, Changes, NoneExpired, IsLeastExpired}
 use Rattle.pp_seat.specs.Lines.{Tale}
@@ -113,3 +113,12 @@ AskingIsChoked = (d : Descriptor) (life : Life) (past : List Record) → (asking
 abbrev pub OwnIsAsking : Type 0
 OwnIsAsking = (d : Descriptor) (life : Life) (own : List Asking) (past : List Record) → AreAwaited (chunks_of d) own (read_story d life past)
     → NoneExpired own (now past) → (i : ℕ) → i < chunks_of d → is_some (asked_at own i) ≡ list_any (λ q. q.chunk == i) (asking d life past).requests
+
+-- Asking stays stopped through what was sent, what came elsewhere and what isn't read; and it stops with a record after which one of
+-- the own requests has expired that hadn't before.
+pub record StopsAreTold : Type 0 where
+  pub stays : (d : Descriptor) (life : Life) (r : Record) (past : List Record) → life.opening ≤ length past
+      → (comes_on d life r && is_read d life (r ∷ past)) ≡ false → (asking d life past).is_stopped ≡ true → (asking d life (r ∷ past)).is_stopped ≡ true
+  pub stops : (d : Descriptor) (life : Life) (r : Record) (past : List Record) (own : List Asking) (i moment : ℕ)
+      → AreAwaited (chunks_of d) own (read_story d life (r ∷ past)) → NoneExpired own (now past)
+      → asked_at own i ≡ Some moment → moment + waiting_time ≤ now (r ∷ past) → (asking d life (r ∷ past)).is_stopped ≡ true

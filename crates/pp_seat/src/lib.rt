@@ -3,7 +3,7 @@
 #![tactic(auto)]
 
 ghost use Rattle.pp_seat.specs.Frames.{SameTales, TalesGrow, NoneBegins, OwedIsKept, OwedIsGiven, HeldIsTold, FramesGrow, ReadsComeToNow, NewsAreCounted};
-ghost use Rattle.pp_seat.specs.Awaited.{LinesKeepAwaited, NoneAwaited, AskingIsAwaited, AskingIsChoked, OwnIsAsking};
+ghost use Rattle.pp_seat.specs.Awaited.{LinesKeepAwaited, NoneAwaited, AskingIsAwaited, AskingIsChoked, OwnIsAsking, StopsAreTold};
 ghost use Rattle.pp_seat.specs.Laws.{IdleStays, IdleSays, CutsNameAlike, OffersGrow, AnnouncedStays, MarkStays, NoneLeft, ChokesAreDue};
 
 mod cursor;
@@ -51,4 +51,5 @@ pub fn laws_of_own()
     ensures asking { AskingIsAwaited }
     ensures choked { AskingIsChoked }
     ensures own { OwnIsAsking }
+    ensures stops { StopsAreTold }
 {}

@@ -6,7 +6,12 @@ ghost use Rattle.pp_terms.specs.format.Messages.{Data, Request, Cancel, Choke, U
 ghost use Rattle.pp_traffic.specs.Story.{Line, Heard, Said};
 ghost use Rattle.pp_requests.specs.Moments.{asked_at, Changes, IsLeastAsked, IsLeastExpired, NoneExpired};
 ghost use Rattle.pp_traffic.specs.Fates.{clock};
-ghost use Rattle.pp_promises.specs.OwnSide.{most_outstanding, is_choked_by_peer, has_old_request};
+ghost use Rattle.pp_promises.specs.OwnSide.{most_outstanding, is_choked_by_peer, has_old_request, asking};
+ghost use Rattle.pp_terms.specs.format.Traffic.{Record};
+ghost use Rattle.pp_terms.specs.format.Descriptor.{Descriptor, chunks_of};
+ghost use Rattle.pp_traffic.specs.Life.{Life};
+ghost use Rattle.pp_traffic.specs.Past as moments;
+ghost use Rattle.pp_promises.specs.ReadStory.{read_story};
 ghost use Rattle.pp_promises.specs.Asked.{named_count};
 ghost use Rattle.pp_seat.specs.Lines.{Tale};
 ghost use Rattle.pp_seat.specs.Own.{IsSplit, HasAsked, CanAsk, AsksAll};
@@ -74,6 +79,8 @@ impl Seat {
         ensures room { result + length self.now.own ≡ 32 }
         ensures some { (f : Frame) (lost : Lost) (t : Tale) → Follows f lost self.now t
             → named_count f.chunks t.story < most_outstanding → 0 < result }
+        ensures outstanding { (d : Descriptor) (life : Life) (past : List Record) → AreAwaited (chunks_of d) self.now.own (read_story d life past)
+            → NoneExpired self.now.own (moments.now past) → length (asking d life past).requests < most_outstanding → 0 < result }
     {
         self.own.room()
     }
