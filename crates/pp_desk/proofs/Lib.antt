@@ -4,3 +4,4 @@ pub mod Delivering
 pub mod Serving
 pub mod Following
 pub mod Tales
+pub mod Heard

@@ -3,3 +3,4 @@ pub mod Delivers
 pub mod Chunks
 pub mod Laws
 pub mod Stored
+pub mod Hearing

@@ -6,12 +6,14 @@ ghost use Rattle.pp_desk.specs.Laws.{LinkCarries, EachCounts, AllIsSaid, SeatFol
 mod chunk;
 mod delivery;
 mod greeting;
+mod hearing;
 mod steps;
 mod stored;
 
 pub use chunk::{Service, deliver_chunk};
 pub use delivery::{Outgoing, deliver};
 pub use greeting::{close, greet};
+pub use hearing::hear;
 pub use steps::Delivered;
 pub use stored::CommittedChunks;
 

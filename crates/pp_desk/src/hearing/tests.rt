@@ -1,0 +1,155 @@
+//! Messages at a seat of four chunks. What is wanted of each was worked out by hand from RFC 7574, sections 3.2 to 3.9 and 5.3, and
+//! RFC 6817: a window of two chunks at first, that opens again with an acknowledgement.
+ghost use Rattle.pp_wire.specs.Views.{message_of};
+ghost use Rattle.pp_desk.specs.Hearing.{IsNoData};
+
+use super::*;
+use pp_tree::Node;
+use std::process::Abort;
+use std::test::Fail;
+
+// A message that names the chunks from `first` to `last`.
+#[derive(Clone, Copy, Debug, PartialEq, Eq)]
+enum Kind {
+    Have,
+    Ack,
+    Integrity,
+    Request,
+    Cancel,
+}
+
+// Hears such a message at moment 20, with a delay of 100 and a digest of sevens.
+fn hears(seat: &mut Seat, kind: Kind, first: u64, last: u64) -> Option<Note> {
+    let span = Span { first, last };
+    let digest = Digest::new([7; 32]);
+    match kind {
+        Kind::Have => hear(seat, &Message::Have { span }, 20),
+        Kind::Ack => hear(seat, &Message::Ack { span, delay: 100 }, 20),
+        Kind::Integrity => hear(seat, &Message::Integrity { span, digest }, 20),
+        Kind::Request => hear(seat, &Message::Request { span }, 20),
+        Kind::Cancel => hear(seat, &Message::Cancel { span }, 20),
+    }
+}
+
+fn keeps_to(rt: &impl Abort, seat: &mut Seat, steps: &[(Kind, u64, u64, Option<Note>)]) {
+    for (kind, first, last, want) in steps {
+        assert_eq!(rt;
+            hears(seat, *kind, *first, *last),
+            *want,
+            "{kind:?} {first} {last}"
+        );
+    }
+}
+
+#[test]
+fn notes_what_is_not_of_the_content(rt: HostRuntime) -> Result<(), Fail> {
+    let mut seat = Seat::new(rt.alloc(), 4, 1024)?;
+    seat.begin(1024, true);
+    let steps = [
+        (Kind::Have, 4, 9, Some(Note::Outside)),
+        (Kind::Ack, 4, 9, Some(Note::Outside)),
+        (Kind::Integrity, 4, 9, Some(Note::Outside)),
+        (Kind::Request, 4, 9, Some(Note::Outside)),
+        (Kind::Cancel, 4, 9, Some(Note::Outside)),
+        (Kind::Have, 3, 9, None),
+        (Kind::Request, 1 << 40, 1 << 41, Some(Note::Outside)),
+    ];
+    keeps_to(&rt, &mut seat, &steps);
+    assert_eq!(rt; seat.next(), None);
+    Ok(())
+}
+
+// Whether these are the nodes that go before a chunk.
+fn plans(seat: &Seat, chunk: u32, want: &[Node]) -> bool {
+    chunk < seat.chunks() && seat.plan(chunk).as_slice() == want
+}
+
+// Who has chunk 0 knows the hashes of chunk 1 and of the node over chunks 2 and 3: of chunk 2 only its sibling's is lacking.
+#[test]
+fn a_have_and_an_ack_tell_of_hashes(rt: HostRuntime) -> Result<(), Fail> {
+    for kind in [Kind::Have, Kind::Ack] {
+        let mut seat = Seat::new(rt.alloc(), 4, 1024)?;
+        assert!(rt; !plans(&seat, 2, &[Node::leaf(3)]));
+        assert_eq!(rt; hears(&mut seat, kind, 0, 0), None);
+        assert!(rt; plans(&seat, 2, &[Node::leaf(3)]));
+        assert!(rt; plans(&seat, 1, &[]));
+    }
+    Ok(())
+}
+
+#[test]
+fn lists_requests_with_a_slot(rt: HostRuntime) -> Result<(), Fail> {
+    let mut seat = Seat::new(rt.alloc(), 4, 1024)?;
+    assert_eq!(rt; hears(&mut seat, Kind::Request, 1, 9), Some(Note::Choked));
+    seat.begin(1024, true);
+    assert_eq!(rt; seat.next(), None);
+    assert_eq!(rt; hears(&mut seat, Kind::Request, 1, 9), None);
+    assert_eq!(rt; hears(&mut seat, Kind::Cancel, 1, 1), None);
+    assert_eq!(rt; seat.next(), Some(2));
+    Ok(())
+}
+
+// Sends the next chunk, if one may be sent.
+fn sends(seat: &mut Seat) -> Option<u32> {
+    let chunk = seat.next()?;
+    seat.said_data(chunk, 10);
+    Some(chunk)
+}
+
+#[test]
+fn an_ack_lets_more_be_sent(rt: HostRuntime) -> Result<(), Fail> {
+    let mut seat = Seat::new(rt.alloc(), 4, 1024)?;
+    seat.begin(1024, true);
+    assert_eq!(rt; hears(&mut seat, Kind::Request, 0, 3), None);
+    let first = (sends(&mut seat), sends(&mut seat), sends(&mut seat));
+    assert_eq!(rt; first, (Some(0), Some(1), None));
+    assert_eq!(rt; hears(&mut seat, Kind::Ack, 0, 0), None);
+    assert_eq!(rt; sends(&mut seat), Some(2));
+    Ok(())
+}
+
+// Every second chunk is a range of its own, and the list has room for 64.
+#[test]
+fn a_full_list_is_noted(rt: HostRuntime) -> Result<(), Fail> {
+    let mut seat = Seat::new(rt.alloc(), 1 << 20, 1024)?;
+    seat.begin(1024, true);
+    for i in 0..64u64 {
+        assert_eq!(rt; hears(&mut seat, Kind::Request, 2 * i, 2 * i), None, "{i}");
+    }
+    assert_eq!(rt; hears(&mut seat, Kind::Request, 128, 128), Some(Note::Full));
+    assert_eq!(rt; hears(&mut seat, Kind::Request, 127, 127), None);
+    Ok(())
+}
+
+#[test]
+fn claims_of_a_proven_channel_count(rt: HostRuntime) -> Result<(), Fail> {
+    let mut seat = Seat::new(rt.alloc(), 4, 1024)?;
+    assert_eq!(rt; hears(&mut seat, Kind::Integrity, 0, 2), None);
+    seat.prove();
+    let steps = [
+        (Kind::Integrity, 0, 1, None),
+        (Kind::Integrity, 0, 2, Some(Note::NotANode)),
+        (Kind::Integrity, 0, 9, None),
+    ];
+    keeps_to(&rt, &mut seat, &steps);
+    Ok(())
+}
+
+// Asks for chunks 0 and 1, and hears a message. Answers whether the seat may ask, and how many chunks more.
+fn asks<'m>(seat: &mut Seat, message: &'m Message<'m>) -> Option<(bool, u32)>
+    requires { IsNoData (message_of message.now) }
+{
+    let range = inside(Span { first: 0, last: 1 }, seat.chunks())?;
+    seat.said_request(range, 5);
+    hear(seat, message, 20);
+    Some((seat.may_ask(), seat.room()))
+}
+
+#[test]
+fn a_choke_ends_the_own_requests(rt: HostRuntime) -> Result<(), Fail> {
+    let mut seat = Seat::new(rt.alloc(), 4, 1024)?;
+    assert_eq!(rt; asks(&mut seat, &Message::PexReq), Some((true, 30)));
+    assert_eq!(rt; asks(&mut seat, &Message::Choke), Some((false, 32)));
+    assert_eq!(rt; asks(&mut seat, &Message::Unchoke), Some((true, 30)));
+    Ok(())
+}
