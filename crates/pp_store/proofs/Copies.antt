@@ -1,5 +1,5 @@
 -- Slots that are copied, one after the other.
-use Rattle.std.proofs.Common.{◌≡◌, ◌⊎◌, inl, inr, ⊎_elim, ℕ, suc, ◌+◌, ◌-◌, ◌*◌, ◌%◌, ◌^◌, ◌<◌, ◌≤◌, ◌==◌, min, Bool, true, false, Option, Some, List, [], ◌∷◌, ◌++◌, length, get_or, drop, Result, Ok, Err, OnOk, refl, sym, ◌∙◌, ap, subst, arith}
+use Rattle.std.proofs.Common.{◌≡◌, ◌⊎◌, ⊎_elim, ℕ, suc, ◌+◌, ◌-◌, ◌*◌, ◌%◌, ◌^◌, ◌<◌, ◌≤◌, ◌==◌, min, Bool, false, Option, Some, List, [], ◌∷◌, ◌++◌, length, get_or, drop, Result, Ok, Err, OnOk, sym, ◌∙◌, ap, subst, arith}
 use Rattle.std.proofs.Math.Pow.{pow_mono}
 use Rattle.std.proofs.lemmas.Bool.{cases_lt, cases_eq, eqb-false}
 use Rattle.std.proofs.lemmas.List.{length-drop, length-append, drop-drop, drop_all, get_or-drop, get_or_append_left, get_or_past}
@@ -8,7 +8,6 @@ use Rattle.pp_terms.specs.disk.Store.{chunk_place, gate_place, slot_size, file_s
 use Rattle.pp_terms.specs.disk.Disk.{DiskState, written}
 use Rattle.pp_terms.specs.command.Stream.{SourceState}
 use Rattle.pp_terms.proofs.Images.{length-written, written_inside, written_outside}
-use Rattle.pp_store.specs.Behind.{KeepsBehind}
 use Rattle.pp_store.specs.Import.{TakesAtMost}
 use Rattle.pp_store.specs.Old.{old_slot_size}
 use Rattle.pp_store.specs.Upgrade.{IsCopied, CopiesSlot, HasFault}

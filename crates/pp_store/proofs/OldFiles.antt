@@ -1,13 +1,13 @@
 -- What is known in a file to which the slots of an old one were copied is what is known in the old one.
-use Rattle.std.proofs.Common.{◌≡◌, ◌⊎◌, inl, inr, ⊎_elim, ℕ, zero, suc, ◌+◌, ◌-◌, ◌*◌, ◌/◌, ◌^◌, ◌<◌, ◌≤◌, ◌==◌, nat_le, Bool, true, false, cond, Option, Some, None, List, length, get_or, take, drop, replicate, refl, sym, ◌∙◌, ap, arith}
+use Rattle.std.proofs.Common.{◌≡◌, ⊎_elim, ℕ, zero, suc, ◌+◌, ◌-◌, ◌*◌, ◌/◌, ◌^◌, ◌<◌, ◌≤◌, ◌==◌, nat_le, Bool, true, false, cond, Option, Some, None, List, length, get_or, take, drop, replicate, refl, sym, ◌∙◌, ap, arith}
 use Rattle.std.specs.Prelude.{◌&&◌}
-use Rattle.std.proofs.lemmas.Bool.{cases_lt, eqb-true, cases_Bool}
+use Rattle.std.proofs.lemmas.Bool.{cases_lt, eqb-true}
 use Rattle.std.proofs.lemmas.Grind.{same_number_lists}
 use Rattle.std.proofs.lemmas.List.{places, length-take, length-drop, length-append, length-replicate, get_or-take, get_or-drop, get_or-replicate, get_or-append_right, get_or_append_left, get_or_past}
 use Rattle.std.proofs.lemmas.Nat.{pow-add, pow_pos}
 use Rattle.sha2.specs.Sha256.{sha256}
 use Rattle.pp_terms.specs.tree.Content.{chunk_length}
-use Rattle.pp_terms.specs.tree.Book.{LookUp, has_peaks}
+use Rattle.pp_terms.specs.tree.Book.{has_peaks}
 use Rattle.pp_terms.specs.format.Descriptor.{Descriptor, chunks_of, height_of, IsDescriptor}
 use Rattle.pp_terms.specs.disk.Store.{chunk_place, pair_place, pair_slot, slot_size, file_size}
 use Rattle.pp_terms.specs.disk.Image.{slice, child, known_below, known, holds, matches}

@@ -2,7 +2,6 @@
 use Rattle.std.proofs.Common.{◌≡◌, ◌⊎◌, inl, inr, ⊎_elim, ℕ, ◌-◌, ◌<◌, Bool, true, false, Option, Some, None, List, get_or, Result, Ok, Err, refl, sym, ◌∙◌, ap, subst, arith, get_or-set_other}
 use Rattle.std.specs.Prelude.{◌||◌, ◌&&◌, OnErr, IfOk, IsOk, is_some}
 use Rattle.std.proofs.Math.ListN.{set, length-set}
-use Rattle.std.proofs.Math.Bool.{or-true}
 use Rattle.std.proofs.lemmas.Bool.{cases_eq, false≢true, and_parts, or_parts}
 use Rattle.sha2.specs.Sha256.{sha256}
 use Rattle.pp_terms.specs.Count.{HasCause}

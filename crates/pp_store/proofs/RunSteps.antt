@@ -1,11 +1,11 @@
 -- Chunks that are read one behind the other into a buffer, and judged there.
-use Rattle.std.proofs.Common.{◌≡◌, ⊎_elim, ℕ, ◌+◌, ◌-◌, ◌*◌, ◌<◌, ◌≤◌, nat_eq, Bool, true, false, Option, Some, None, List, ◌++◌, length, take, drop, refl, sym, ◌∙◌, ap, subst, arith, below_more}
-use Rattle.std.specs.Prelude.{◌/◌, ◌%◌, min}
+use Rattle.std.proofs.Common.{◌≡◌, ⊎_elim, ℕ, ◌+◌, ◌-◌, ◌*◌, ◌<◌, ◌≤◌, nat_eq, true, Option, Some, None, List, [], ◌++◌, length, take, drop, refl, sym, ◌∙◌, ap, subst, arith, below_more}
+use Rattle.std.specs.Prelude.{◌/◌, ◌%◌, slice_index}
 use Rattle.std.specs.Cmp.Lexicographic.{pointwise, same_text}
 use Rattle.std.proofs.Math.Nat.{mul-le-mul_left, mul-le-mul_right}
 use Rattle.std.proofs.Math.Seq.{drop-append_seam}
 use Rattle.std.proofs.lemmas.Bool.{cases_lt, cases_Bool}
-use Rattle.std.proofs.lemmas.List.{drop-drop, drop-append-le, take-append-le, take-append-drop, length-take, length-drop}
+use Rattle.std.proofs.lemmas.List.{places, append-nil, drop_all, drop-drop, drop-append-le, take-append-le, take-append-drop, length-take, length-drop}
 use Rattle.sha2.specs.Sha256.{sha256}
 use Rattle.pp_terms.specs.tree.Content.{chunk_length}
 use Rattle.pp_terms.specs.tree.Book.{LookUp}
@@ -13,9 +13,9 @@ use Rattle.pp_terms.specs.format.Descriptor.{Descriptor, chunks_of}
 use Rattle.pp_terms.specs.disk.Disk.{DiskState, IsKnown, IsRead}
 use Rattle.pp_terms.specs.disk.Store.{chunk_place}
 use Rattle.pp_scan.specs.Holding.{is_there}
-use Rattle.pp_store.specs.ReadChunk.{IsRightChunk, IsDamaged}
+use Rattle.pp_store.specs.ReadChunk.{IsDamaged}
 use Rattle.pp_store.specs.declared.reading.ReadFault.{ReadFault}
-use Rattle.pp_store.specs.Runs.{run_length, HasEnded, AreRightChunks, chunk_in, AreRead, AreLeaves, IsFirstDamaged}
+use Rattle.pp_store.specs.Runs.{run_length, HasEnded, AreRightChunks, chunk_in, AreRead, AreTogether, AreLeaves, IsFirstDamaged}
 use Rattle.pp_store.proofs.Opening.{there_sound}
 
 -- whole chunks take no more bytes than more of them
@@ -73,6 +73,71 @@ module _ (d : Descriptor) (first : ℕ) (reads out new : List ℕ) (at start : �
 
   pub read_more : IsRead reads (chunk_place d.chunk (first + at)) (take (chunk_length d.size d.chunk (first + at)) new) → AreRead d first reads (take start out ++ new) (at + 1)
   read_more read = below_more _ _ read_kept (subst (IsRead reads (chunk_place d.chunk (first + at))) (sym last) read)
+
+-- chunks that were read behind these, to the end of the buffer
+module _ (d : Descriptor) (first : ℕ) (reads out new : List ℕ) (at start more : ℕ) (is : start ≡ at * d.chunk) (inside : start ≤ length out) where
+  front_long : length (take start out) ≡ start
+  front_long = length-take start out ∙ omega (arith, inside)
+
+  new_behind : drop start (take start out ++ new) ≡ new
+  new_behind = ap (λ (n : ℕ). drop n (take start out ++ new)) (sym front_long) ∙ drop-append_seam (take start out) new
+
+  chunk_same : (k : ℕ) → at ≤ k → chunk_in d (first + at) new (k - at) ≡ chunk_in d first (take start out ++ new) k
+  chunk_same k le =
+      ap (λ (xs : List ℕ). chunk_in d (first + at) xs (k - at)) (sym new_behind)
+      ∙ chunk_in_behind d first at start (take start out ++ new) is (k - at)
+      ∙ ap (λ (i : ℕ). chunk_in d first (take start out ++ new) i) (omega (arith, le))
+
+  both : AreRead d first reads out at → AreRead d (first + at) reads new more → AreRead d first reads (take start out ++ new) (at + more)
+  both before next k lt = ⊎_elim
+      (λ low. read_kept d first reads out new at start is inside before k low)
+      (λ high.
+      let number : first + at + (k - at) ≡ first + k = omega (arith, high) in
+      subst (λ (i : ℕ). IsRead reads (chunk_place d.chunk i) (chunk_in d first (take start out ++ new) k)) number
+      (subst (IsRead reads (chunk_place d.chunk (first + at + (k - at)))) (chunk_same k (omega (arith, high))) (next (k - at) (omega (arith, lt, high)))))
+      (cases_lt k at)
+
+  pub read_on : AreRead d first reads out at → AreRead d (first + at) reads new more
+      → AreRead d first reads (take start out ++ (new ++ drop (length out - start) (drop start out))) (at + more)
+  read_on before next =
+      let none : drop (length out - start) (drop start out) ≡ [] = drop_all (length out - start) (drop start out) (omega (arith, length-drop start out)) in
+      subst (λ (xs : List ℕ). AreRead d first reads (take start out ++ xs) (at + more)) (sym (ap (λ (ys : List ℕ). new ++ ys) none ∙ append-nil new)) (both before next)
+
+-- so many slots fit
+pub slots_fit : (count room chunk : ℕ) → chunk ≤ room → count ≤ 1 + (room - chunk) / (chunk + 65) → (count - 1) * (chunk + 65) + chunk ≤ room
+slots_fit count room chunk fits le =
+    let most : (room - chunk) / (chunk + 65) * (chunk + 65) ≤ room - chunk = omega arith in
+    let below : (count - 1) * (chunk + 65) ≤ (room - chunk) / (chunk + 65) * (chunk + 65) = mul-le-mul_right (chunk + 65) (omega (arith, le)) in
+    omega (arith, most, below, fits)
+
+-- the chunks of slots that were read at once, and then moved together
+pub slots_read : (d : Descriptor) (first count : ℕ) (reads into rest new : List ℕ) → 0 < count
+    → length into ≡ (count - 1) * (d.chunk + 65) + chunk_length d.size d.chunk (first + count - 1)
+    → IsRead reads (chunk_place d.chunk first) into → AreTogether d.chunk count (into ++ rest) new → AreRead d first reads new count
+slots_read d first count reads into rest new some long read together k lt j less =
+    let size : ℕ = chunk_length d.size d.chunk (first + k) in
+    let at : ℕ = k * (d.chunk + 65) + j in
+    let low : j < size = omega (arith, less, length-take size (drop (k * d.chunk) new)) in
+    let most : size ≤ d.chunk = omega arith in
+    let inside : at < length into = ⊎_elim
+    (λ before. let le = chunks_within k (count - 1) (d.chunk + 65) before in omega (arith, le, low, most, long))
+    (λ here.
+    let same : k ≡ count - 1 = omega (arith, here, lt) in
+    let sizes : size ≡ chunk_length d.size d.chunk (first + count - 1) = ap (λ (i : ℕ). chunk_length d.size d.chunk i) (omega (arith, same, some)) in
+    let begin : k * (d.chunk + 65) ≡ (count - 1) * (d.chunk + 65) = ap (λ (i : ℕ). i * (d.chunk + 65)) same in
+    omega (arith, low, sizes, begin, long))
+    (cases_lt k (count - 1)) in
+    one new (k * d.chunk) size j low
+    ∙ together.1 k j lt (omega (arith, low, most))
+    ∙ front into rest at inside
+    ∙ read at inside
+    ∙ ap (λ (i : ℕ). slice_index reads i) (omega arith)
+  where
+    one : (xs : List ℕ) (from n i : ℕ) → i < n → slice_index (take n (drop from xs)) i ≡ slice_index xs (from + i)
+    one xs from n i lt' = grind (arith, places)
+
+    front : (xs ys : List ℕ) (i : ℕ) → i < length xs → slice_index (xs ++ ys) i ≡ slice_index xs i
+    front xs ys i lt' = grind (arith, places)
 
 -- ---- a whole run
 

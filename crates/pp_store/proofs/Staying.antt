@@ -1,5 +1,5 @@
 -- What goes on holding of every image while a file is cleared, written behind its front, and given its header.
-use Rattle.std.proofs.Common.{◌≡◌, inl, inr, ⊎_elim, ℕ, ◌+◌, ◌<◌, ◌≤◌, List, [], ◌∷◌, length, get_or, drop, replicate, refl, sym, ◌∙◌, ap, subst, arith}
+use Rattle.std.proofs.Common.{◌≡◌, inl, inr, ℕ, ◌+◌, ◌<◌, ◌≤◌, List, [], ◌∷◌, length, get_or, drop, replicate, refl, sym, ◌∙◌, ap, subst, arith}
 use Rattle.sha2.proofs.Facts256.{length-sha256}
 use Rattle.pp_terms.specs.tree.Content.{chunk_of}
 use Rattle.pp_terms.specs.tree.Tree.{leaf_of, height}

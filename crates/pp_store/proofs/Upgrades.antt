@@ -1,24 +1,24 @@
 -- What a crash may leave during an upgrade.
-use Rattle.std.proofs.Common.{◌≡◌, ◌⊎◌, inl, inr, ⊎_elim, ℕ, zero, suc, ◌+◌, ◌-◌, ◌^◌, ◌*◌, ◌<◌, ◌≤◌, ◌==◌, min, Bool, true, false, Option, Some, List, [], ◌∷◌, length, get_or, set, drop, replicate, Result, Ok, Err, OnOk, IfOk, IfErr, refl, sym, ◌∙◌, ap, subst, arith}
+use Rattle.std.proofs.Common.{◌≡◌, ◌⊎◌, inl, inr, ⊎_elim, ℕ, suc, ◌+◌, ◌^◌, ◌*◌, ◌<◌, ◌≤◌, ◌==◌, min, Bool, true, false, Option, Some, List, [], length, get_or, set, drop, replicate, Result, Ok, Err, OnOk, IfOk, IfErr, refl, sym, ◌∙◌, ap, subst, arith}
 use Rattle.std.proofs.lemmas.Bool.{cases_lt, cases_Bool, false≢true}
 use Rattle.std.proofs.lemmas.List.{drop_all}
 use Rattle.pp_terms.specs.format.Descriptor.{Descriptor, chunks_of, height_of, IsDescriptor}
-use Rattle.pp_terms.specs.disk.Store.{header, gate_place, file_size, Has, HasHeader, IsNoStore}
+use Rattle.pp_terms.specs.disk.Store.{header, gate_place, file_size, HasHeader, IsNoStore}
 use Rattle.pp_terms.specs.disk.Image.{holds, is_open}
 use Rattle.pp_terms.specs.disk.Sound.{IsSound}
 use Rattle.pp_terms.specs.tree.Book.{LookUp}
 use Rattle.pp_terms.specs.command.Stream.{SourceState}
-use Rattle.pp_terms.specs.disk.Disk.{Epoch, DiskState, History, IsKnown, DoesSync, DoesLen, IsImage, WasImage, IsOver, MayLeaveSince, Throughout, moment_of, written, pends, after_write, settled}
+use Rattle.pp_terms.specs.disk.Disk.{Epoch, DiskState, History, IsKnown, DoesSync, DoesLen, IsImage, IsOver, MayLeaveSince, Throughout, moment_of, written, pends, after_write}
 use Rattle.pp_terms.proofs.Headers.{length-header}
-use Rattle.pp_terms.proofs.Images.{length-written, written_inside, written_outside, sole_image, is_sole, since_now, moment-settled, throughout_settled}
+use Rattle.pp_terms.proofs.Images.{length-written, written_inside, written_outside, sole_image, since_now, moment-settled}
 use Rattle.pp_terms.proofs.Knowing.{known_on}
 use Rattle.pp_scan.specs.Look.{KeepsAll, synced}
 use Rattle.pp_scan.specs.Layers.{HasKnown}
 use Rattle.pp_scan.specs.Verify.{IsVerified}
-use Rattle.pp_store.specs.Keep.{kept, KeepsDisk}
+use Rattle.pp_store.specs.Keep.{KeepsDisk}
 use Rattle.pp_store.specs.Import.{TakesAtMost, IsUnbegun}
 use Rattle.pp_store.specs.Behind.{IsBehind, KeepsBehind}
-use Rattle.pp_store.specs.Front.{DoesFront, Leaves, unsynced, front_refused, front_unsynced, front_kept}
+use Rattle.pp_store.specs.Front.{DoesFront}
 use Rattle.pp_store.specs.Gates.{gates_opened}
 use Rattle.pp_store.specs.Sound.{StaysSound}
 use Rattle.pp_store.specs.Store.{cleared}

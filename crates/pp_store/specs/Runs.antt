@@ -1,5 +1,5 @@
 -- What a reading of chunks that follow one another answers.
-use Rattle.std.specs.Prelude.{◌≡◌, ℕ, ◌+◌, ◌-◌, ◌*◌, ◌/◌, ◌<◌, min, Err, Option, Some, None, List, length, take, drop}
+use Rattle.std.specs.Prelude.{◌≡◌, ℕ, ◌+◌, ◌-◌, ◌*◌, ◌/◌, ◌<◌, min, Err, Option, Some, None, List, length, take, drop, slice_index}
 use Rattle.sha2.specs.Sha256.{sha256}
 use Rattle.pp_terms.specs.tree.Content.{chunk_length}
 use Rattle.pp_terms.specs.tree.Book.{LookUp}
@@ -36,6 +36,11 @@ chunk_in d first out k = take (chunk_length d.size d.chunk (first + k)) (drop (k
 -- so many of them are what reads gave at their places
 abbrev pub AreRead : Descriptor → ℕ → List ℕ → List ℕ → ℕ → Type 0
 AreRead d first reads out count = (k : ℕ) → k < count → IsRead reads (chunk_place d.chunk (first + k)) (chunk_in d first out k)
+
+-- The chunks at the front of so many slots stand one behind the other.
+abbrev pub AreTogether : ℕ → ℕ → List ℕ → List ℕ → Type 0
+AreTogether chunk count old new = (length new ≡ length old)
+    × ((k j : ℕ) → k < count → j < chunk → slice_index new (k * chunk + j) ≡ slice_index old (k * (chunk + 65) + j))
 
 -- so many of them have the digests of their leaves
 abbrev pub AreLeaves : Descriptor → ℕ → LookUp → List ℕ → ℕ → Type 0

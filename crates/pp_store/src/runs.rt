@@ -1,5 +1,5 @@
 // Runs of chunks are read back.
-ghost use Rattle.std.specs.Prelude.{◌≡◌, ℕ, ◌+◌, ◌*◌, ◌≤◌, ◌<◌, true, Some, List, is_some, length, take, IsTrue, OnOk, MatchOption};
+ghost use Rattle.std.specs.Prelude.{◌≡◌, ℕ, ◌+◌, ◌-◌, ◌*◌, ◌^◌, ◌≤◌, ◌<◌, true, Some, List, is_some, length, take, IsTrue, OnOk, MatchOption};
 ghost use Rattle.pp_terms.specs.Count.{HasCause, HasRisen};
 ghost use Rattle.pp_terms.specs.tree.Content.{chunk_length};
 ghost use Rattle.pp_terms.specs.format.Descriptor.{chunks_of};
@@ -8,7 +8,7 @@ ghost use Rattle.pp_terms.specs.disk.Store.{chunk_place};
 ghost use Rattle.pp_tree.specs.Book.{entry};
 ghost use Rattle.pp_scan.specs.Look.{KeepsAll};
 ghost use Rattle.pp_scan.specs.Holding.{is_there};
-ghost use Rattle.pp_store.specs.Runs.{run_length, HasRun, AreRead, AreLeaves, IsFirstDamaged};
+ghost use Rattle.pp_store.specs.Runs.{run_length, HasRun, AreRead, AreTogether, AreLeaves, IsFirstDamaged};
 
 use crate::reading::ReadFault;
 use pp_lanes::digest_four;
@@ -71,8 +71,92 @@ pub fn read_run<D: Disk>(
     }
 }
 
-// Reads so many chunks, and answers how many of them it read before the disk refused one.
+// Reads so many chunks, and answers how many of them it read before the disk refused one. What stands between them in the file is
+// read with them, as many at once as there is room for; where the disk refuses that, each is read alone.
 fn read_chunks<D: Disk>(
+    descriptor: &Descriptor,
+    first: u32,
+    count: u32,
+    out: &mut [u8],
+    disk: &mut D,
+) -> u32
+    requires within { first + count ≤ chunks_of descriptor.now }
+    requires room { count * descriptor.now.chunk ≤ length out.old }
+    ensures most { result ≤ count }
+    ensures read { IsKnown (D.state disk.old)
+        → AreRead descriptor.now first (D.state disk.old).history.reads out.new result }
+    ensures refused { result < count → HasRisen (D.state disk.old).faults (D.state disk.new).faults }
+    ensures looks { KeepsAll (D.state disk.old) (D.state disk.new) }
+    ensures hard { (D.state disk.new).hard ≡ (D.state disk.old).hard }
+{
+    let chunk = descriptor.chunk() as usize;
+    let mut read = 0;
+    while read < count {
+        let left = count - read;
+        let rest = &mut out[read as usize * chunk..];
+        let group = fitting_slots(left, chunk, rest.len());
+        match read_slots(descriptor, first + read, group, rest, disk) {
+            Ok(()) => read += group,
+            Err(_) => return read + read_each(descriptor, first + read, left, rest, disk),
+        }
+    }
+    count
+}
+
+// For how many of so many slots there is room, the last one up to its chunk's end.
+fn fitting_slots(count: u32, chunk: usize, room: usize) -> u32
+    requires some { 0 < count }
+    requires size { chunk ≤ 8192 }
+    requires fits { chunk ≤ room }
+    ensures some { 0 < result }
+    ensures most { result ≤ count }
+    ensures fits { (result - 1) * (chunk + 65) + chunk ≤ room }
+{
+    let fitting = 1 + (room - chunk) / (chunk + 65);
+    fitting.min(count as usize) as u32
+}
+
+// Reads so many slots that follow one another, the last one up to its chunk's end, and moves their chunks together.
+fn read_slots<D: Disk>(
+    descriptor: &Descriptor,
+    first: u32,
+    count: u32,
+    out: &mut [u8],
+    disk: &mut D,
+) -> Result<(), DiskFault>
+    requires some { 0 < count }
+    requires within { first + count ≤ chunks_of descriptor.now }
+    requires room { (count - 1) * (descriptor.now.chunk + 65) + descriptor.now.chunk ≤ length out.old }
+    ensures read { IsKnown (D.state disk.old)
+        → OnOk result (AreRead descriptor.now first (D.state disk.old).history.reads out.new count) }
+    ensures looks { KeepsAll (D.state disk.old) (D.state disk.new) }
+    ensures hard { (D.state disk.new).hard ≡ (D.state disk.old).hard }
+{
+    let chunk = descriptor.chunk() as usize;
+    let before = (count - 1) as usize * (chunk + 65);
+    let size = descriptor.chunk_len(first + count - 1) as usize;
+    disk.read_at(
+        slot_place(descriptor.chunk(), first),
+        &mut out[..before + size],
+    )?;
+    close_gaps(chunk, count as usize, out);
+    Ok(())
+}
+
+// Moves the chunks of slots together.
+fn close_gaps(chunk: usize, count: usize, out: &mut [u8])
+    requires some { 0 < count }
+    requires room { (count - 1) * (chunk + 65) + chunk ≤ length out.old }
+    ensures { AreTogether chunk count out.old out.new }
+{
+    let slot = chunk + 65;
+    for k in 1..count {
+        out.copy_within(k * slot..k * slot + chunk, k * chunk);
+    }
+}
+
+// Reads so many chunks one by one, and answers how many of them it read before the disk refused one.
+fn read_each<D: Disk>(
     descriptor: &Descriptor,
     first: u32,
     count: u32,

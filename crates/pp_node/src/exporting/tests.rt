@@ -205,27 +205,88 @@ impl Disk for StoppingDisk {
     }
 }
 
-// The last seven calls read the chunks.
+// The fourteenth call reads all chunks.
 #[test]
-fn a_disk_that_refuses_leaves_whole_chunks(rt: HostRuntime) -> Result<(), Fail> {
+fn a_disk_that_refuses_gives_nothing(rt: HostRuntime) -> Result<(), Fail> {
     let alloc = rt.alloc();
-    let content = generated();
-    let mut last = 0;
-    for left in 0..40 {
+    for (left, status, len) in [
+        (0, Status::DiskFault, 0),
+        (1, Status::DiskFault, 0),
+        (13, Status::DiskFault, 0),
+        (14, Status::Done, 7000),
+        (40, Status::Done, 7000),
+    ] {
         let mut inner = MemoryDisk::new(alloc, &[])?;
         let descriptor = store_on(&mut inner)?;
         let exported = export_from(alloc, &descriptor, &mut StoppingDisk { inner, left });
-        let bytes = exported.sink.bytes();
-        assert!(rt; content.starts_with(bytes), "after {left} calls");
-        if exported.status == Status::Done {
-            assert_eq!(rt; (bytes.len(), last), (7000, 6144), "after {left} calls");
-        } else {
-            assert_eq!(rt; exported.status, Status::DiskFault, "after {left} calls");
-            let more = bytes.len().wrapping_sub(last);
-            assert!(rt; bytes.len() == 0 || more == 1024, "after {left} calls");
-            last = bytes.len();
-        }
+        assert_eq!(rt; exported.status, status, "after {left} calls");
+        assert_eq!(rt;
+            exported.sink.bytes(),
+            &generated()[..len],
+            "after {left} calls"
+        );
     }
-    assert_eq!(rt; last, 6144);
+    Ok(())
+}
+
+// A disk that refuses each reading of one byte.
+#[derive(Drop)]
+struct BrokenDisk {
+    inner: MemoryDisk,
+    byte: u64,
+}
+
+impl Disk for BrokenDisk {
+    ghost use Rattle.pp_outside.specs.MemoryDisk.{state_of};
+    ghost use Rattle.pp_outside.specs.Whole.{reads_are_image};
+
+    ghost state = { λ disk. state_of disk.inner };
+
+    ghost whole = { λ disk known. reads_are_image disk.inner.log };
+
+    fn attach(&mut self, name: &str) -> Result<(), DiskFault> {
+        self.inner.attach(name)
+    }
+
+    fn len(&mut self) -> Result<u64, DiskFault> {
+        self.inner.len()
+    }
+
+    fn read_at(&mut self, place: u64, into: &mut [u8]) -> Result<(), DiskFault> {
+        if place <= self.byte && self.byte - place < into.len() as u64 {
+            self.inner.fail_next(Call::Read);
+        }
+        self.inner.read_at(place, into)
+    }
+
+    fn write_at(&mut self, place: u64, bytes: &[u8]) -> Result<(), DiskFault> {
+        self.inner.write_at(place, bytes)
+    }
+
+    fn sync(&mut self) -> Result<(), DiskFault> {
+        self.inner.sync()
+    }
+
+    fn moment(&self) -> u64 {
+        self.inner.moment()
+    }
+}
+
+// The chunks before the one that can't be read are given.
+#[test]
+fn a_broken_place_leaves_whole_chunks(rt: HostRuntime) -> Result<(), Fail> {
+    let alloc = rt.alloc();
+    for chunk in [0, 1, 2, 3, 4, 5, 6] {
+        let mut inner = MemoryDisk::new(alloc, &[])?;
+        let descriptor = store_on(&mut inner)?;
+        let byte = 64 + 1089 * chunk as u64 + 500;
+        let exported = export_from(alloc, &descriptor, &mut BrokenDisk { inner, byte });
+        assert_eq!(rt; exported.status, Status::DiskFault, "in chunk {chunk}");
+        assert_eq!(rt;
+            exported.sink.bytes(),
+            &generated()[..1024 * chunk],
+            "in chunk {chunk}"
+        );
+    }
     Ok(())
 }

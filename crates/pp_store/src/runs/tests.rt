@@ -81,17 +81,21 @@ fn run_from(first: u32, out: &mut [u8], left: u32, stored: Stored) -> Option<Run
 fn a_run_ends_before_a_damaged_chunk(rt: HostRuntime) -> Result<(), Fail> {
     let content = content();
     for (damaged, first, room, left, count, refused) in [
-        // At the third one of the first four, also where the disk refuses the next one.
+        // At the third one of the first four: one call reads all seven, and none is left for another.
         (2, 0, 8192, 9, 2, Some(false)),
-        (2, 0, 8192, 3, 2, Some(false)),
-        (2, 0, 8192, 2, 2, Some(true)),
-        (2, 0, 8192, 1, 1, Some(true)),
+        (2, 0, 8192, 1, 2, Some(false)),
+        (2, 0, 8192, 0, 0, Some(true)),
         (2, 2, 1024, 9, 0, Some(false)),
+        // There is no room for what stands between two chunks: each is read alone.
         (2, 0, 2048, 9, 2, None),
+        (2, 0, 2048, 2, 2, None),
+        (2, 0, 2048, 1, 1, Some(true)),
+        (2, 1, 2048, 9, 1, Some(false)),
+        (2, 1, 2048, 1, 1, Some(true)),
         // Behind four right ones, and at the last chunk.
         (4, 0, 8192, 9, 4, Some(false)),
         (6, 0, 8192, 9, 6, Some(false)),
-        (6, 0, 8192, 5, 5, Some(true)),
+        (6, 0, 8192, 1, 6, Some(false)),
         // Three whole chunks and the last one.
         (2, 3, 8192, 9, 4, None),
         (2, 5, 2047, 9, 1, None),

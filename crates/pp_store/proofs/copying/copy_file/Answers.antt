@@ -1,6 +1,5 @@
-use Rattle.std.proofs.Common.{◌≡◌, ℕ, ◌-◌, [], ◌∷◌, List, length, sym, ◌∙◌, ap, subst, arith}
+use Rattle.std.proofs.Common.{ℕ, ◌-◌, [], ◌∷◌, List, length, sym, ◌∙◌, ap, subst, arith}
 use Rattle.pp_terms.specs.disk.Disk.{History, written}
-use Rattle.pp_terms.specs.disk.Store.{file_size}
 use Rattle.pp_terms.proofs.Knowing.{known_on}
 use Rattle.pp_store.specs.Upgrade.{IsCopied}
 use Rattle.pp_store.proofs.Copies.{longer_size, longer_copied}

@@ -1,4 +1,4 @@
-use Rattle.std.proofs.Common.{◌≡◌, ℕ, ◌∙◌, ap, arith}
+use Rattle.std.proofs.Common.{ℕ, ◌∙◌, ap, arith}
 use Rattle.pp_terms.specs.disk.Disk.{History, written}
 use Rattle.pp_store.proofs.Copies.{slot_copied}
 use Rattle.pp_store.proofs.Writings.{write_puts}

@@ -1,4 +1,4 @@
-use Rattle.std.proofs.Common.{◌≡◌, ℕ, ◌-◌, length, drop, set, ◌∙◌, arith}
+use Rattle.std.proofs.Common.{◌≡◌, ◌-◌, length, drop, set, ◌∙◌, arith}
 use Rattle.std.proofs.lemmas.List.{length-drop, length-set}
 use Rattle.pp_store.proofs.Copies.{slot_bytes}
 use Rattle.pp_store.proofs.copying.read_slot.Goals as goal

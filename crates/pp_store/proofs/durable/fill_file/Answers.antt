@@ -1,6 +1,6 @@
-use Rattle.std.proofs.Common.{◌≡◌, ◌-◌, ℕ, [], ◌∷◌, List, Ok, Err, ◌∙◌, ap, subst}
+use Rattle.std.proofs.Common.{◌-◌, ℕ, [], ◌∷◌, List, ◌∙◌, ap, subst}
 use Rattle.pp_terms.specs.disk.Disk.{History}
-use Rattle.pp_terms.specs.disk.Store.{header, file_size}
+use Rattle.pp_terms.specs.disk.Store.{file_size}
 use Rattle.pp_terms.proofs.Knowing.{known_on}
 use Rattle.pp_store.specs.Keep.{kept, DoesKeep}
 use Rattle.pp_store.proofs.Freshening.{stretch_sound, header_sound, sound_more}

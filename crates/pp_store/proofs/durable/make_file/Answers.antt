@@ -1,4 +1,3 @@
-use Rattle.std.proofs.Common.{replicate}
 use Rattle.pp_terms.proofs.Knowing.{known_on}
 use Rattle.pp_store.proofs.Ends.{front_keeps}
 use Rattle.pp_store.proofs.Freshening.{front_sound, sound_more}

@@ -1,7 +1,6 @@
-use Rattle.std.proofs.Common.{◌≡◌, ℕ, ◌+◌, ◌-◌, ◌*◌, ◌/◌, ◌<◌, length, drop, sym, ap, ◌∙◌, arith}
+use Rattle.std.proofs.Common.{◌≡◌, ◌+◌, ◌-◌, ◌*◌, ◌/◌, ◌<◌, length, drop, sym, ◌∙◌, arith}
 use Rattle.std.specs.Prelude.{min}
 use Rattle.std.proofs.lemmas.List.{length-drop}
-use Rattle.pp_terms.specs.format.Descriptor.{chunks_of}
 use Rattle.pp_tree.specs.Book.{entry}
 use Rattle.pp_tree.proofs.Sizes.{chunk_begins}
 use Rattle.pp_store.specs.Runs.{run_length}

@@ -1,5 +1,5 @@
 use Rattle.std.proofs.Common.{arith}
-use Rattle.pp_store.proofs.Upgrades.{header_read, header_other}
+use Rattle.pp_store.proofs.Upgrades.{header_read}
 use Rattle.pp_store.proofs.upgrading.check_header.Goals as goal
 
 pub returns-in-Ok-clause-read : goal.returns-in-Ok-clause-read
