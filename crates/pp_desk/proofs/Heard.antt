@@ -44,8 +44,3 @@ outside_goes now m span chunks s few is idle = record {
 -- Nor does one that a seat passes over.
 pub idle_goes : (now : ℕ) (m : Message) (s : SeatState) → ((n : ℕ) → IsIdleHeard n m) → Goes Always (Heard now m) s s
 idle_goes now m s idle = record { follows = λ f lost t always h. (idle_stays (Heard now m) s).follows f lost t (idle f.chunks) h }
-
--- Whatever a seat follows has the same content before a line and after.
-pub content_stays : (line : Line) (old new : SeatState) → Goes Always line old new → (f : Frame) (lost : Lost) (t : Tale) → Follows f lost old t
-    → new.told.chunks ≡ old.told.chunks
-content_stays line old new g f lost t h = (g.follows f lost t tt h).told.content ∙ sym h.told.content

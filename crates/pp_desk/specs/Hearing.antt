@@ -3,7 +3,7 @@ use Rattle.std.specs.Prelude.{◌≡◌, ◌⊎◌, ℕ, true, false, ◌||◌, 
 use Rattle.pp_terms.specs.format.Messages.{Message, Data, Ack, Have, Integrity, Request, Cancel, Choke, Unchoke}
 use Rattle.pp_terms.specs.tree.Range.{Span, within, has, leaves_of}
 use Rattle.pp_terms.specs.tree.Tree.{Node}
-use Rattle.pp_ranges.specs.Edits.{inserted}
+use Rattle.pp_ranges.specs.Edits.{inserted, removed}
 use Rattle.pp_traffic.specs.Hashes.{tells}
 use Rattle.pp_traffic.specs.Meter as meters
 use Rattle.pp_requests.specs.Lists.{are_too_many, cancelled}
@@ -42,6 +42,7 @@ pub record HearsAck (range : Span) (delay now : ℕ) (noted : Option Note) (old 
 -- The chunks of a REQUEST come onto the list, beside those that are there.
 pub record IsListed (range : Span) (noted : Option Note) (old new : SeatState) : Type 0 where
   pub quiet : noted ≡ None
+  pub few : are_too_many (inserted (Some range) old.list) ≡ false
   pub rest : new ≡ record old { list = new.list }
   pub listed : (i : ℕ) → has new.list i ≡ (within range i || has old.list i)
 
@@ -55,6 +56,12 @@ pub record IsFull (range : Span) (noted : Option Note) (old new : SeatState) : T
 pub record HearsRequest (range : Span) (noted : Option Note) (old new : SeatState) : Type 0 where
   pub slot : old.slot ≡ true → IsListed range noted old new ⊎ IsFull range noted old new
   pub choked : old.slot ≡ false → (noted ≡ Some Choked) × (new ≡ old)
+
+-- The chunks of a CANCEL leave the list; where that has no room for what is left of its ranges, more goes, and this is counted.
+pub record HearsCancel (range : Span) (noted : Option Note) (old new : SeatState) : Type 0 where
+  pub exact : new ≡ record old { list = cancelled range old.list }
+  pub quiet : are_too_many (removed range old.list) ≡ false → noted ≡ None
+  pub wide : are_too_many (removed range old.list) ≡ true → noted ≡ Some Full
 
 -- The digest of an INTEGRITY is the newest claim, of the node whose leaves the chunks are.
 pub record IsClaimed (range : Span) (digest : List ℕ) (noted : Option Note) (old new : SeatState) : Type 0 where
@@ -81,8 +88,7 @@ Hears now (Ack span delay) noted old new = HearsPart span (λ range. HearsAck ra
 Hears now (Have span) noted old new = HearsPart span (λ range. HearsHave range noted old new) noted old new
 Hears now (Integrity span digest) noted old new = HearsPart span (λ range. HearsIntegrity range digest noted old new) noted old new
 Hears now (Request span) noted old new = HearsPart span (λ range. HearsRequest range noted old new) noted old new
-Hears now (Cancel span) noted old new =
-    HearsPart span (λ range. (noted ≡ None) × (new ≡ record old { list = cancelled range old.list })) noted old new
+Hears now (Cancel span) noted old new = HearsPart span (λ range. HearsCancel range noted old new) noted old new
 Hears now Choke noted old new = (noted ≡ None) × (new ≡ record old { chokes = true; own = [] })
 Hears now Unchoke noted old new = (noted ≡ None) × (new ≡ record old { chokes = false })
 Hears now _ noted old new = (noted ≡ None) × (new ≡ old)

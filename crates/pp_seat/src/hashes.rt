@@ -37,6 +37,7 @@ impl Seat {
         requires { range.last < self.old.told.chunks }
         ensures told { (n : terms.Node) → knows self.new.told n ≡ (knows self.old.told n || tells self.old.told.chunks (span_of range) n) }
         ensures rest { self.new ≡ record self.old { told = self.new.told } }
+        ensures chunks { self.new.told.chunks ≡ self.old.told.chunks }
         ensures goes { (now : ℕ) (span : Span) → Goes (IsCut range span) (Heard now (Have span)) self.old self.new }
     {
         self.told.told(range);
@@ -47,6 +48,7 @@ impl Seat {
         requires { range.last < self.old.told.chunks }
         ensures told { (n : terms.Node) → knows self.new.told n ≡ (knows self.old.told n || tells self.old.told.chunks (span_of range) n) }
         ensures rest { self.new ≡ record self.old { told = self.new.told; window = meters.acked range.first range.last delay now self.old.window } }
+        ensures chunks { self.new.told.chunks ≡ self.old.told.chunks }
         ensures goes { (span : Span) → Goes (IsCut range span) (Heard now (Ack span delay)) self.old self.new }
     {
         self.told.told(range);

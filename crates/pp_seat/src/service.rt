@@ -1,9 +1,9 @@
 //! What the other peer asks for and is sent.
 
-ghost use Rattle.std.specs.Prelude.{◌≡◌, ◌↔◌, ◌+◌, ◌<◌, ◌≤◌, ◌||◌, ℕ, List, [], true, false, Some, MatchOption, IfSome};
+ghost use Rattle.std.specs.Prelude.{◌≡◌, ◌↔◌, ◌⊎◌, ◌+◌, ◌<◌, ◌≤◌, ◌||◌, ℕ, List, [], true, false, Some, MatchOption, IfSome};
 ghost use Rattle.pp_terms.specs.format.Messages.{Data, Request, Cancel, Choke, Unchoke};
 ghost use Rattle.pp_terms.specs.tree.Range.{Span, within, has};
-ghost use Rattle.pp_ranges.specs.Edits.{inserted, without_below};
+ghost use Rattle.pp_ranges.specs.Edits.{inserted, removed, without_below};
 ghost use Rattle.pp_traffic.specs.Meter as terms;
 ghost use Rattle.pp_traffic.specs.Story.{Heard, Said, Taken};
 ghost use Rattle.pp_requests.specs.Lists.{IsLeast, are_too_many, cancelled, without, chunk_count};
@@ -29,8 +29,10 @@ impl Seat {
     /// A REQUEST came, of which this range lies in the content (RFC 7574, section 3.7).
     pub fn heard_request(&mut self, range: ChunkRange) -> Listed
         ensures listed { result ≡ Listed.Yes → (i : ℕ) → has self.new.list i ≡ (within range i || has self.old.list i) }
+        ensures few { result ≡ Listed.Yes → are_too_many (inserted (Some range) self.old.list) ≡ false }
         ensures full { result ≡ Listed.Full → (are_too_many (inserted (Some range) self.old.list) ≡ true) × (self.new ≡ self.old) }
         ensures choked { (result ≡ Listed.Choked) ↔ (self.old.slot ≡ false) }
+        ensures others { (result ≡ Listed.Yes) ⊎ (self.new ≡ self.old) }
         ensures rest { self.new ≡ record self.old { list = self.new.list } }
         ensures goes { (now : ℕ) (span : Span) → Goes (IsCut range span) (Heard now (Request span)) self.old self.new }
     {
@@ -46,6 +48,8 @@ impl Seat {
     /// A CANCEL came, of which this range lies in the content (RFC 7574, section 3.8). Where the list has no room for the two
     /// parts of a range, more than the range goes.
     pub fn heard_cancel(&mut self, range: ChunkRange) -> Cancelled
+        ensures many { result ≡ Cancelled.Wide → are_too_many (removed range self.old.list) ≡ true }
+        ensures few { result ≡ Cancelled.Exact → are_too_many (removed range self.old.list) ≡ false }
         ensures exact { self.new ≡ record self.old { list = cancelled range self.old.list } }
         ensures goes { (now : ℕ) (span : Span) → Goes (IsCut range span) (Heard now (Cancel span)) self.old self.new }
     {

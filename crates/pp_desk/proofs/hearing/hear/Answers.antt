@@ -1,45 +1,24 @@
 use Rattle.std.proofs.Common.{⊎_elim}
-use Rattle.pp_desk.proofs.Heard.{idle_goes, content_stays}
+use Rattle.pp_desk.proofs.Heard.{idle_goes}
 use Rattle.pp_desk.proofs.hearing.hear.Goals as goal
-
-pub returns-in-Ack-clause-content : goal.returns-in-Ack-clause-content
-returns-in-Ack-clause-content c = content_stays _ _ _ (c.hear_ack.ensures.goes)
 
 pub returns-in-Have-clause-hears : goal.returns-in-Have-clause-hears
 returns-in-Have-clause-hears c = rw c.in-Have.is (c.hear_have.ensures.hears c.args.now)
 
-pub returns-in-Have-clause-content : goal.returns-in-Have-clause-content
-returns-in-Have-clause-content c = content_stays _ _ _ (c.hear_have.ensures.goes c.args.now)
-
 pub returns-in-Integrity-clause-hears : goal.returns-in-Integrity-clause-hears
 returns-in-Integrity-clause-hears c = rw c.in-Integrity.is (c.hear_integrity.ensures.hears c.args.now)
-
-pub returns-in-Integrity-clause-content : goal.returns-in-Integrity-clause-content
-returns-in-Integrity-clause-content c = content_stays _ _ _ (c.hear_integrity.ensures.goes c.args.now)
 
 pub returns-in-Request-clause-hears : goal.returns-in-Request-clause-hears
 returns-in-Request-clause-hears c = rw c.in-Request.is (c.hear_request.ensures.hears c.args.now)
 
-pub returns-in-Request-clause-content : goal.returns-in-Request-clause-content
-returns-in-Request-clause-content c = content_stays _ _ _ (c.hear_request.ensures.goes c.args.now)
-
 pub returns-in-Cancel-clause-hears : goal.returns-in-Cancel-clause-hears
 returns-in-Cancel-clause-hears c = rw c.in-Cancel.is (c.hear_cancel.ensures.hears c.args.now)
-
-pub returns-in-Cancel-clause-content : goal.returns-in-Cancel-clause-content
-returns-in-Cancel-clause-content c = content_stays _ _ _ (c.hear_cancel.ensures.goes c.args.now)
 
 pub returns-in-Choke-clause-hears : goal.returns-in-Choke-clause-hears
 returns-in-Choke-clause-hears c = rw c.in-Choke.is (c.hear_choke.ensures.hears c.args.now)
 
-pub returns-in-Choke-clause-content : goal.returns-in-Choke-clause-content
-returns-in-Choke-clause-content c = content_stays _ _ _ (c.hear_choke.ensures.goes c.args.now)
-
 pub returns-in-Unchoke-clause-hears : goal.returns-in-Unchoke-clause-hears
 returns-in-Unchoke-clause-hears c = rw c.in-Unchoke.is (c.hear_unchoke.ensures.hears c.args.now)
-
-pub returns-in-Unchoke-clause-content : goal.returns-in-Unchoke-clause-content
-returns-in-Unchoke-clause-content c = content_stays _ _ _ (c.hear_unchoke.ensures.goes c.args.now)
 
 pub returns-in-Handshake-clause-goes : goal.returns-in-Handshake-clause-goes
 returns-in-Handshake-clause-goes c = idle_goes _ _ _ (λ n. ⊎_elim
