@@ -117,7 +117,10 @@ fn a_full_list_is_noted(rt: HostRuntime) -> Result<(), Fail> {
         assert_eq!(rt; hears(&mut seat, Kind::Request, 2 * i, 2 * i), None, "{i}");
     }
     assert_eq!(rt; hears(&mut seat, Kind::Request, 128, 128), Some(Note::Full));
-    assert_eq!(rt; hears(&mut seat, Kind::Request, 127, 127), None);
+    assert_eq!(rt; hears(&mut seat, Kind::Request, 127, 130), None);
+    // Two ranges would be left of the last one, and 65 in all: all of it goes.
+    assert_eq!(rt; hears(&mut seat, Kind::Cancel, 128, 128), Some(Note::Full));
+    assert_eq!(rt; hears(&mut seat, Kind::Request, 128, 128), None);
     Ok(())
 }
 
