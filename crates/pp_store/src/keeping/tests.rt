@@ -73,8 +73,10 @@ fn a_crash_leaves_a_fresh_store_or_none(rt: HostRuntime) -> Result<(), Fail> {
     else {
         return Err("no descriptor".into());
     };
+    let header = header_of(&descriptor);
+    let begin = &header[..52];
     let mut want = [0u8; 706];
-    want[..64].copy_from_slice(&header_of(&descriptor));
+    want[..64].copy_from_slice(&header);
     for (left, pick) in (0..=8).flat_map(|left| (0..=5).map(move |pick| (left, pick))) {
         let inner = MemoryDisk::new(alloc, &[])?;
         let mut disk = StoppingDisk { inner, left };
@@ -85,7 +87,7 @@ fn a_crash_leaves_a_fresh_store_or_none(rt: HostRuntime) -> Result<(), Fail> {
         );
         disk.inner.crash(pick);
         let image = disk.inner.bytes();
-        if left == 8 || image.starts_with(&want[..52]) {
+        if left == 8 || image.starts_with(begin) {
             assert_eq!(rt;
                 image,
                 want.as_slice(),
