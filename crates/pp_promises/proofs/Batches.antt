@@ -1,10 +1,11 @@
 -- A peer that commits as it should commits in time.
-use Rattle.std.proofs.Common.{◌≡◌, ℕ, suc, ◌<◌, ◌≤◌, leb, eqb, Bool, true, false, cond, ◌||◌, List, [], ◌∷◌, length, refl, sym, ◌∙◌, ap, subst, arith}
+use Rattle.std.proofs.Common.{◌≡◌, ⊎_elim, ℕ, suc, ◌<◌, ◌≤◌, leb, eqb, Bool, true, false, cond, ◌||◌, List, [], ◌∷◌, length, refl, sym, ◌∙◌, ap, subst, arith}
 use Rattle.std.specs.Prelude.{slice_index_or}
+use Rattle.std.specs.List.{list_all}
 use Rattle.std.proofs.Math.Bool.{or-false, or_assoc, or_comm}
-use Rattle.std.proofs.lemmas.Bool.{leb-true, leb-false}
+use Rattle.std.proofs.lemmas.Bool.{leb-true, leb-false, eq-eqb, and_from, or_cases, or_left, or_right}
 use Rattle.std.proofs.lemmas.List.FromFn.{length-map-range_with_len, get_or-map-range_with_len}
-use Rattle.pp_promises.specs.Batches.{Pending, Batch, is_pending, is_in, is_full, committed_with, after_commit, after_put, after_puts, is_due, after_read, after_event, with_puts, with_all_pending, CommitsInTime}
+use Rattle.pp_promises.specs.Batches.{Pending, Batch, is_same, is_among, is_pending, is_in, is_full, committed_with, after_commit, after_put, after_puts, is_due, after_read, after_event, with_puts, with_all_pending, CommitsInTime}
 
 few_of : (n : ℕ) → leb 64 n ≡ false → n < 64
 few_of n e = let lt = leb-false 64 n e in omega (arith, lt)
@@ -180,6 +181,56 @@ read_stays quiet now b i lt e = pick (is_due quiet now b)
     pick true = commit_stays b i lt e
     pick false = e
 
+-- ---- a pending chunk keeps its moment
+
+-- each entry of one list stands in another
+Within : (some all : List Pending) → Type 0
+Within some all = (p : Pending) → is_among p some ≡ true → is_among p all ≡ true
+
+is_same_itself : (p : Pending) → is_same p p ≡ true
+is_same_itself p = and_from (eqb p.chunk p.chunk) (eqb p.put_at p.put_at) (eq-eqb p.chunk p.chunk refl) (eq-eqb p.put_at p.put_at refl)
+
+all_among : (some all : List Pending) → Within some all → list_all (λ p. is_among p all) some ≡ true
+unfolding Within
+all_among [] all within = refl
+all_among (p ∷ some) all within =
+    and_from (is_among p all) (list_all (λ q. is_among q all) some)
+    (within p (or_left (is_same p p) (is_among p some) (is_same_itself p)))
+    (all_among some all (λ q e. within q (or_right (is_same q p) (is_among q some) e)))
+
+one_more_within : (p : Pending) (some all : List Pending) → Within some all → Within (p ∷ some) (p ∷ all)
+unfolding Within
+one_more_within p some all within q e = ⊎_elim
+    (λ here. or_left (is_same q p) (is_among q all) here)
+    (λ later. or_right (is_same q p) (is_among q all) (within q later))
+    (or_cases (is_same q p) (is_among q some) e)
+
+with_puts_within : (stored : List ℕ) (now : ℕ) (some all : List Pending) → Within some all → Within (with_puts stored now some) (with_puts stored now all)
+with_puts_within [] now some all within = within
+with_puts_within (i ∷ more) now some all within =
+    let put : Pending = record { chunk = i; put_at = now } in
+    with_puts_within more now (put ∷ some) (put ∷ all) (one_more_within put some all within)
+
+-- what is pending behind a commit, or where there was none, was pending in front of it
+commit_within : (b : Batch) (x : Bool) → Within (cond x (after_commit b) b).pending b.pending
+unfolding Within
+commit_within b true p e = absurd cc
+commit_within b false p e = e
+
+puts_within : (stored : List ℕ) (now : ℕ) (b : Batch) → Within (after_puts stored now b).pending (with_puts stored now b.pending)
+unfolding with_put Within
+puts_within [] now b p e = e
+puts_within (i ∷ more) now b p e =
+    with_puts_within more now (after_put i now b).pending (record { chunk = i; put_at = now } ∷ b.pending)
+    (commit_within (with_put i now b) (is_full (with_put i now b))) p (puts_within more now (after_put i now b) p e)
+
+event_within : (quiet : Bool) (stored : List ℕ) (now : ℕ) (b : Batch)
+    → Within (after_event quiet stored now b).pending (with_puts stored now b.pending)
+unfolding Within
+event_within quiet stored now b p e =
+    let after : Batch = after_puts stored now b in
+    puts_within stored now b p (commit_within after (is_due quiet now after) p e)
+
 pub batches_are_in_time : (quiet : Bool) (stored : List ℕ) (now : ℕ) (b : Batch) → is_full b ≡ false → CommitsInTime quiet stored now b (after_event quiet stored now b)
 unfolding IsCommitted
 batches_are_in_time quiet stored now b e = record {
@@ -194,4 +245,5 @@ batches_are_in_time quiet stored now b e = record {
       read_stays quiet now (after_puts stored now b) i (rw (length-after_puts stored now b) lt) (puts_stay stored now b i lt was);
   keeps = λ i lt.
       read_keeps quiet now (after_puts stored now b) i (rw (length-after_puts stored now b) lt) ∙ puts_keep stored now b i lt;
+  since = all_among (after_event quiet stored now b).pending (with_puts stored now b.pending) (event_within quiet stored now b);
 }

@@ -44,7 +44,7 @@ use Rattle.pp_traffic.specs.Committed.{requests, AreCommitted, RequestsNone}
 use Rattle.pp_traffic.specs.Tallied.{TookTurns, IsTallied}
 use Rattle.pp_promises.specs.Batches.{CommitsInTime, after_commit}
 use Rattle.pp_promises.specs.RunExample.{to_bob, quiet_tally, quiet_turns, empty, stored}
-use Rattle.pp_promises.specs.BrokenRuns.{no_book, no_bytes, torn}
+use Rattle.pp_promises.specs.BrokenRuns.{no_book, no_bytes, torn, pending_since}
 use Rattle.pp_promises.specs.Runs as run
 use Rattle.pp_promises.specs.Runs.{past, alice, bob, both, seven, hundred, two_hundred, two, answered, dialled, second}
 
@@ -491,6 +491,9 @@ batches_lost s = let e : false ≡ true = s.keeps 0 (omega arith) in absurd cc
 
 pub batches_forgotten : CommitsInTime false [] 0 (after_commit (stored 1)) (stored 1) → ⊥
 batches_forgotten s = let e : false ≡ true = s.stays 0 (omega arith) refl in absurd cc
+
+pub batches_reset : CommitsInTime false [] 50000 (pending_since 0) (pending_since 50000) → ⊥
+batches_reset s = let e : false ≡ true = s.since in absurd cc
 
 -- ---- what nobody has told
 

@@ -1,6 +1,6 @@
 -- When stored chunks are committed, up to 64 of them by one sync (this profile's): they are pending until then, and neither
 -- acknowledged nor announced (RFC 7574, sections 3.2 and 3.3).
-use Rattle.std.specs.Prelude.{◌≡◌, ℕ, ◌+◌, ◌<◌, ◌==◌, nat_le, Bool, true, false, ◌||◌, if◌then◌else◌, List, [], ◌∷◌, length, map, slice_index_or}
+use Rattle.std.specs.Prelude.{◌≡◌, ℕ, ◌+◌, ◌<◌, ◌==◌, nat_le, Bool, true, false, ◌&&◌, ◌||◌, if◌then◌else◌, List, [], ◌∷◌, length, map, slice_index_or}
 use Rattle.std.specs.List.{list_any, list_all, range_with_len}
 
 -- a chunk that was stored, and when
@@ -79,6 +79,13 @@ with_puts (i ∷ more) now pending = with_puts more now (record { chunk = i; put
 abbrev pub with_all_pending : List ℕ → ℕ → Batch → Batch
 with_all_pending stored now b = record { committed = b.committed; pending = with_puts stored now b.pending }
 
+-- the same chunk, stored at the same moment
+abbrev pub is_same : (p q : Pending) → Bool
+is_same p q = (p.chunk == q.chunk) && (p.put_at == q.put_at)
+
+abbrev pub is_among : Pending → List Pending → Bool
+is_among p pending = list_any (is_same p) pending
+
 pub record CommitsInTime (is_quiet : Bool) (stored : List ℕ) (now : ℕ) (old new : Batch) : Type 0 where
   -- fewer than so many are ever pending
   pub few : length new.pending < most_pending
@@ -94,3 +101,5 @@ pub record CommitsInTime (is_quiet : Bool) (stored : List ℕ) (now : ℕ) (old 
       → slice_index_or new.committed i false ≡ true
   -- nothing is lost, and nothing comes in but what was stored
   pub keeps : (i : ℕ) → i < length old.committed → is_in new i ≡ is_in (with_all_pending stored now old) i
+  -- each chunk that is pending was pending since the same moment, or was stored now
+  pub since : list_all (λ p. is_among p (with_puts stored now old.pending)) new.pending ≡ true

@@ -14,7 +14,7 @@ use Rattle.pp_promises.specs.Announced.{AcknowledgesAll, TellsAll}
 use Rattle.pp_promises.specs.Answered.{LetsInBut, ChokesNone, KeepsUpBut}
 use Rattle.pp_promises.specs.Asked.{DialsBut, AsksBut}
 use Rattle.pp_promises.specs.Datagrams.{IsReadToEnd, IsWhole, PlansAll}
-use Rattle.pp_promises.specs.Batches.{after_commit, CommitsInTime}
+use Rattle.pp_promises.specs.Batches.{Batch, after_commit, CommitsInTime}
 use Rattle.pp_promises.specs.RunExample.{quiet_tally, quiet_turns, empty, stored}
 use Rattle.pp_promises.specs.Runs as run
 use Rattle.pp_promises.specs.Runs.{past, alice, both, seven, hundred, two_hundred, two}
@@ -29,6 +29,10 @@ no_bytes = []
 -- a datagram with a byte behind it that begins no message
 abbrev pub torn : Record
 torn = Sent 1 alice (run.for 9 (run.have 0 6 ∷ []) ++ 13 ∷ [])
+
+-- the first chunk is pending since a moment
+abbrev pub pending_since : ℕ → Batch
+pending_since moment = record { committed = empty.committed; pending = record { chunk = 0; put_at = moment } ∷ [] }
 
 pub record BrokenPromises : Type 0 where
   -- one chunk alone is served, though the window has room; six are left, which one refusal doesn't excuse
@@ -73,3 +77,5 @@ pub record BrokenPromises : Type 0 where
   -- a chunk that was stored is neither committed nor pending; one that was committed isn't any more, though it is pending
   pub batches_lost : CommitsInTime false (0 ∷ []) 0 empty empty → ⊥
   pub batches_forgotten : CommitsInTime false [] 0 (after_commit (stored 1)) (stored 1) → ⊥
+  -- a pending chunk gets the moment of an event that didn't store it
+  pub batches_reset : CommitsInTime false [] 50000 (pending_since 0) (pending_since 50000) → ⊥

@@ -32,4 +32,5 @@ returns c = record {
   batches_early = broken.batches_early;
   batches_lost = broken.batches_lost;
   batches_forgotten = broken.batches_forgotten;
+  batches_reset = broken.batches_reset;
 }
