@@ -1,11 +1,11 @@
 -- Chunks that were stored and those that are pending, without one list of both.
-use Rattle.std.proofs.Common.{◌≡◌, ℕ, ◌+◌, leb, eqb, Bool, true, false, ◌&&◌, ◌||◌, List, [], ◌∷◌, length, refl, sym, ◌∙◌, ap, subst, arith}
+use Rattle.std.proofs.Common.{◌≡◌, ⊎_elim, ℕ, ◌+◌, leb, eqb, Bool, true, false, ◌&&◌, ◌||◌, List, [], ◌∷◌, length, refl, sym, ◌∙◌, ap, subst, arith}
 use Rattle.std.specs.Prelude.{slice_index_or}
 use Rattle.std.specs.Cmp.Lexicographic.{pointwise}
 use Rattle.std.proofs.Math.Bool.{beq}
 use Rattle.std.specs.List.{list_any, list_all, range_with_len}
-use Rattle.std.proofs.lemmas.Bool.{lt-leb, and_parts, and_from}
-use Rattle.pp_promises.specs.Batches.{Pending, Batch, most_pending, longest_wait, is_in, is_late, is_full, is_due, with_puts, with_all_pending, CommitsInTime}
+use Rattle.std.proofs.lemmas.Bool.{lt-leb, eq-eqb, ne_eqb, cases_eq, and_parts, and_from}
+use Rattle.pp_promises.specs.Batches.{Pending, Batch, is_same, is_among, most_pending, longest_wait, is_in, is_late, is_full, is_due, with_puts, with_all_pending, CommitsInTime}
 use Rattle.pp_audit.proofs.Sayings.{swap}
 use Rattle.pp_audit.specs.Batches as tests
 
@@ -49,10 +49,41 @@ pub full_pending : (stored : List ℕ) (now : ℕ) (b : Batch) (full : Bool) →
     → is_full (with_all_pending stored now b) ≡ full
 full_pending stored now b full e = full_by stored now b ∙ sym e
 
+-- ---- each pending chunk keeps its moment
+
+eqb_swapped : (x y : ℕ) → eqb x y ≡ eqb y x
+eqb_swapped x y = ⊎_elim
+    (λ e. eq-eqb x y e ∙ sym (eq-eqb y x (sym e)))
+    (λ ne. ne_eqb x y ne ∙ sym (ne_eqb y x (λ e. ne (sym e))))
+    (cases_eq x y)
+
+stored_now : (stored : List ℕ) (now : ℕ) (p : Pending) → list_any (λ i. is_same p (put now i)) stored ≡ tests.is_put_now stored now p
+stored_now [] now p = refl
+stored_now (i ∷ stored) now p =
+    ap (λ (b : Bool). (b && eqb p.put_at now) || list_any (λ k. is_same p (put now k)) stored) (eqb_swapped p.chunk i)
+    ∙ ap (λ (b : Bool). (eqb i p.chunk && eqb p.put_at now) || b) (stored_now stored now p)
+    ∙ gathered (eqb i p.chunk) (list_any (λ k. eqb k p.chunk) stored) (eqb p.put_at now)
+  where
+    gathered : (x y z : Bool) → ((x && z) || (y && z)) ≡ ((x || y) && z)
+    gathered true true true = refl
+    gathered true true false = refl
+    gathered true false true = refl
+    gathered true false false = refl
+    gathered false y z = refl
+
+among_by : (stored : List ℕ) (now : ℕ) (old : List Pending) (p : Pending) → is_among p (with_puts stored now old) ≡ tests.is_since stored now old p
+among_by stored now old p = puts_any (is_same p) stored now old ∙ ap (λ (b : Bool). b || is_among p old) (stored_now stored now p)
+
+since_by : (stored : List ℕ) (now : ℕ) (old new : List Pending) → list_all (λ p. is_among p (with_puts stored now old)) new ≡ tests.are_since stored now old new
+since_by stored now old [] = refl
+since_by stored now old (p ∷ new) =
+    ap (λ (b : Bool). b && list_all (λ q. is_among q (with_puts stored now old)) new) (among_by stored now old p)
+    ∙ ap (λ (b : Bool). tests.is_since stored now old p && b) (since_by stored now old new)
+
 -- ---- both halves
 
 pub in_time : (is_quiet : Bool) (stored : List ℕ) (now : ℕ) (old new : Batch)
-    → tests.IsTimely is_quiet stored now old new → tests.LosesNone stored old new → CommitsInTime is_quiet stored now old new
+    → tests.IsTimely is_quiet stored now old new → tests.LosesNone stored now old new → CommitsInTime is_quiet stored now old new
 in_time is_quiet stored now old new timely none = record {
   few = timely.few;
   waits = timely.waits;
@@ -60,6 +91,7 @@ in_time is_quiet stored now old new timely none = record {
   as_many = none.as_many;
   stays = none.stays;
   keeps = λ i lt. none.keeps i lt ∙ sym (in_by stored now old i);
+  since = since_by stored now old.pending new.pending ∙ none.since;
 }
 
 pub timely_of : (is_quiet : Bool) (stored : List ℕ) (now : ℕ) (old new : Batch)
@@ -67,11 +99,12 @@ pub timely_of : (is_quiet : Bool) (stored : List ℕ) (now : ℕ) (old new : Bat
 timely_of is_quiet stored now old new s = record { few = s.few; waits = s.waits; settled = s.settled }
 
 pub none_lost_of : (is_quiet : Bool) (stored : List ℕ) (now : ℕ) (old new : Batch)
-    → CommitsInTime is_quiet stored now old new → tests.LosesNone stored old new
+    → CommitsInTime is_quiet stored now old new → tests.LosesNone stored now old new
 none_lost_of is_quiet stored now old new s = record {
   as_many = s.as_many;
   stays = s.stays;
   keeps = λ i lt. s.keeps i lt ∙ in_by stored now old i;
+  since = sym (since_by stored now old.pending new.pending) ∙ s.since;
 }
 
 -- ---- lists of tests

@@ -1,5 +1,5 @@
 -- Chunks that are committed and pending, as the plain data that they mean.
-use Rattle.std.specs.Prelude.{◌≡◌, ℕ, nat_le, ◌==◌, ◌+◌, ◌<◌, Bool, true, false, ◌||◌, List, [], length, map, slice_index_or}
+use Rattle.std.specs.Prelude.{◌≡◌, ℕ, nat_le, ◌==◌, ◌+◌, ◌<◌, Bool, true, false, ◌&&◌, ◌||◌, List, [], length, map, slice_index_or}
 use Rattle.std.specs.List.{list_any, list_all, range_with_len}
 use Rattle.pp_promises.specs.Batches as terms
 use Rattle.pp_audit.specs.declared.batches.Pending.{Pending}
@@ -31,6 +31,18 @@ is_late now pending = list_any (λ p. nat_le (p.put_at + terms.longest_wait) now
 abbrev pub is_due : Bool → ℕ → List ℕ → terms.Batch → Bool
 is_due is_quiet now stored b = is_quiet || are_all_in b.committed stored b.pending || is_late now b.pending
 
+-- the chunk was stored now, by its moment
+abbrev pub is_put_now : List ℕ → ℕ → terms.Pending → Bool
+is_put_now stored now p = list_any (λ k. k == p.chunk) stored && (p.put_at == now)
+
+-- the chunk was stored now, or was pending since the same moment
+abbrev pub is_since : List ℕ → ℕ → List terms.Pending → terms.Pending → Bool
+is_since stored now old p = is_put_now stored now p || terms.is_among p old
+
+-- each pending chunk was stored now, or was pending since the same moment
+abbrev pub are_since : List ℕ → ℕ → (old new : List terms.Pending) → Bool
+are_since stored now old new = list_all (is_since stored now old) new
+
 -- ---- the two halves of what is promised of an event
 
 -- few are pending, none is committed too early, and none too late
@@ -49,8 +61,9 @@ StaysCommitted old new =
 abbrev pub Keeps : List ℕ → (old new : terms.Batch) → Type 0
 Keeps stored old new = (i : ℕ) → i < length old.committed → terms.is_in new i ≡ is_in old.committed stored old.pending i
 
--- nothing is lost, and nothing else comes in
-pub record LosesNone (stored : List ℕ) (old new : terms.Batch) : Type 0 where
+-- nothing is lost, nothing else comes in, and each pending chunk keeps its moment
+pub record LosesNone (stored : List ℕ) (now : ℕ) (old new : terms.Batch) : Type 0 where
   pub as_many : length new.committed ≡ length old.committed
   pub stays : StaysCommitted old.committed new.committed
   pub keeps : Keeps stored old new
+  pub since : are_since stored now old.pending new.pending ≡ true

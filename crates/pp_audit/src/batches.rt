@@ -160,6 +160,43 @@ fn keeps<'m>(stored: &[u64], old: &'m Batch<'m>, new: &'m Batch<'m>) -> bool
     true
 }
 
+// Whether the chunk was stored by this event, and its moment is the event's.
+fn is_put_now(stored: &[u64], now: u64, pending: Pending) -> bool
+    ensures { result ≡ terms.is_put_now stored.now now (pending_of pending) }
+{
+    is_stored(stored, pending.chunk) && pending.put_at == now
+}
+
+// Whether the chunk is one of those that are pending, since the same moment.
+fn is_among(pending: Pending, all: &[Pending]) -> bool
+    ensures { result ≡ promises.is_among (pending_of pending) (map pending_of all.now) }
+{
+    let mut found = false;
+    for other in all {
+        let is_same = pending.chunk == other.chunk && pending.put_at == other.put_at;
+        found = is_same | found;
+    }
+    found
+}
+
+// Whether the chunk was stored by this event, or was pending since the same moment.
+fn is_since(stored: &[u64], now: u64, old: &[Pending], pending: Pending) -> bool
+    ensures { result ≡ terms.is_since stored.now now (map pending_of old.now) (pending_of pending) }
+{
+    is_put_now(stored, now, pending) || is_among(pending, old)
+}
+
+// Whether every pending chunk was stored by this event, or was pending since the same moment.
+fn are_since(stored: &[u64], now: u64, old: &[Pending], new: &[Pending]) -> bool
+    ensures { result ≡ terms.are_since stored.now now (map pending_of old.now) (map pending_of new.now) }
+{
+    let mut all = true;
+    for one in new {
+        all = is_since(stored, now, old, *one) & all;
+    }
+    all
+}
+
 // Whether few are pending, none is committed too early, and none too late.
 fn is_timely<'m>(
     is_quiet: bool,
@@ -175,19 +212,21 @@ fn is_timely<'m>(
         && settles(is_quiet, now, new)
 }
 
-// Whether nothing is lost, and nothing else comes in.
-fn loses_none<'m>(stored: &[u64], old: &'m Batch<'m>, new: &'m Batch<'m>) -> bool
-    ensures { IsTrue result ↔ terms.LosesNone stored.now (batch_of old.now) (batch_of new.now) }
+// Whether nothing is lost, nothing else comes in, and each pending chunk keeps its moment.
+fn loses_none<'m>(stored: &[u64], now: u64, old: &'m Batch<'m>, new: &'m Batch<'m>) -> bool
+    ensures { IsTrue result ↔ terms.LosesNone stored.now now (batch_of old.now) (batch_of new.now) }
 {
     new.committed.len() == old.committed.len()
         && stays_committed(old.committed, new.committed)
         && keeps(stored, old, new)
+        && are_since(stored, now, old.pending, new.pending)
 }
 
 /// Whether an event at a moment, by which these chunks were stored, left what it found as it should: fewer than 64 chunks are
 /// pending; none is committed where something came, some chunk is neither committed nor pending, none was pending for a tenth of
-/// a second, and they are fewer than 64; in one of the first three cases none is left pending; what was committed still is; and
-/// those chunks are committed or pending that were before, or that were stored, and no others.
+/// a second, and they are fewer than 64; in one of the first three cases none is left pending; what was committed still is; those
+/// chunks are committed or pending that were before, or that were stored, and no others; and each pending chunk keeps the moment
+/// at which it was stored.
 pub fn commits_in_time<'m>(
     is_quiet: bool,
     stored: &[u64],
@@ -197,5 +236,5 @@ pub fn commits_in_time<'m>(
 ) -> bool
     ensures { IsTrue result ↔ promises.CommitsInTime is_quiet stored.now now (batch_of old.now) (batch_of new.now) }
 {
-    is_timely(is_quiet, stored, now, old, new) && loses_none(stored, old, new)
+    is_timely(is_quiet, stored, now, old, new) && loses_none(stored, now, old, new)
 }

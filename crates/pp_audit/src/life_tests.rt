@@ -427,7 +427,7 @@ fn decides_batches(rt: HostRuntime) -> Result<(), Fail> {
     Ok(())
 }
 
-// What is stored is neither lost nor forgotten, and nothing else comes in.
+// What is stored is neither lost nor forgotten, nothing else comes in, and a pending chunk keeps its moment.
 #[test]
 fn decides_what_is_kept(rt: HostRuntime) {
     let none = Batch {
@@ -450,6 +450,17 @@ fn decides_what_is_kept(rt: HostRuntime) {
     assert!(rt; !commits_in_time(false, &[0], 500_000, &none, &none));
     assert!(rt; !commits_in_time(true, &[], 500_000, &none, &forgotten));
     assert!(rt; !commits_in_time(false, &[1], 500_000, &none, &one));
+    // the chunk's moment becomes that of a later event, which stored it again, or didn't
+    let later = Pending {
+        chunk: 0,
+        put_at: 550_000,
+    };
+    let reset = Batch {
+        committed: &[false, false, true],
+        pending: &[later],
+    };
+    assert!(rt; commits_in_time(false, &[0], 550_000, &one, &reset));
+    assert!(rt; !commits_in_time(false, &[], 550_000, &one, &reset));
 }
 
 // The life of the first fetcher, whose link refused its first datagram with requests; they are sent in the next turn.
