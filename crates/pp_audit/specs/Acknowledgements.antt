@@ -20,15 +20,16 @@ abbrev pub is_excused : Descriptor → LookUp → List Record → LookUp → Lis
 is_excused d book before known front i bytes =
     not (proves d known i bytes) || (contradicts d book known i bytes || (list_any (came_in d i) before || list_any (is_data i) front))
 
--- A message is no chunk, or such a one, or is acknowledged.
+-- A message is no chunk, or an excused one, or is acknowledged.
 abbrev pub is_acked : Descriptor → LookUp → (ℕ → Bool) → List Record → LookUp → List Message → Message → Bool
 is_acked d book acked before known front (Data i sent_at bytes) = is_excused d book before known front i bytes || acked i
 is_acked d book acked before known front _ = true
 
--- so is each message of a record that comes on a channel, in front of a closing handshake
+-- each message of a record that comes on a channel, in front of a closing handshake, is no chunk, or excused, or acknowledged
 abbrev pub acks_on : Descriptor → LookUp → (ℕ → Bool) → Life → List Record → Record → Bool
 acks_on d book acked life before r =
-    not (comes_on d life r) || each_stored (λ front m. is_acked d book acked before (known_behind d life before front) front m) [] (read d r).messages.read
+    not (comes_on d life r)
+    || each_stored (λ front m. is_acked d book acked before (known_behind d life before front) front m) [] (read d r).messages.read
 
 -- of the newest record, where the channel is plain up to it; and of all
 abbrev pub acks_newest : Descriptor → LookUp → (ℕ → Bool) → Life → List Record → Bool

@@ -53,12 +53,12 @@ passes_openings test d past (r ∷ before) = passes_opening test d past (length 
 abbrev pub each_plain : (Life → Bool) → Descriptor → List Record → Bool
 each_plain test d past = passes_openings (λ life. not (is_plain d life past) || test life) d past past
 
--- which it does exactly where no plain channel fails it
+-- The search says that each plain channel passes exactly where none of them fails the test.
 abbrev pub SearchFindsAll : Type 0
 SearchFindsAll = (test : Life → Bool) (d : Descriptor) (past : List Record)
     → (each_plain test d past ≡ true) ↔ ((life : Life) → IsPlainNow d life past → test life ≡ true)
 
--- And where each channel that is plain up to the newest record is to pass it, likewise.
+-- The search says the same of each channel that is plain up to the newest record exactly where none of these fails.
 abbrev pub NewestFindsAll : Type 0
 NewestFindsAll = (test : Life → Bool) (d : Descriptor) (r : Record) (before : List Record)
     → (passes_openings (λ life. not (is_plain_newest d life (r ∷ before)) || test life) d (r ∷ before) (r ∷ before) ≡ true)

@@ -53,7 +53,7 @@ claims_after chunks (m ∷ ms) claims = claims_after chunks ms (with_claims_of c
 abbrev pub is_proven : Descriptor → Life → Bool → ℕ → Record → Bool
 is_proven d life is_read place r = is_read && comes_on d life r && nat_le life.opening place
 
--- the claims of such records
+-- the claims of the records that are read once the address was proven
 abbrev pub proven_claims : Descriptor → Life → List Record → List Claim
 proven_claims d life [] = []
 proven_claims d life (r ∷ before) =
@@ -61,7 +61,7 @@ proven_claims d life (r ∷ before) =
     then claims_after (chunks_of d) (read d r).messages.read (proven_claims d life before)
     else proven_claims d life before
 
--- and of the first messages of a newer datagram
+-- the claims of these records, and of the first messages of a newer datagram
 abbrev pub claims_of : Claims → List Claim
 claims_of c =
     claims_after (chunks_of c.descriptor.now) (take c.count (all c.descriptor.now c.bytes.now))

@@ -7,7 +7,7 @@ use Rattle.pp_terms.specs.format.Traffic.{Record}
 use Rattle.pp_terms.specs.tree.Claims.{Claim}
 use Rattle.pp_traffic.specs.Past.{read}
 
--- the digest of an INTEGRITY message has, and that of a claim
+-- the digest of an INTEGRITY message, or of a claim, has 32 bytes
 abbrev pub is_long : Message → Bool
 is_long (Integrity span digest) = length digest == 32
 is_long _ = true
@@ -15,7 +15,7 @@ is_long _ = true
 abbrev pub has_digest : Claim → Bool
 has_digest c = length c.digest == 32
 
--- Those of a record have, and those of all.
+-- The digests of a record's messages have 32 bytes, or those of all records.
 abbrev pub AreLong : Descriptor → Record → Type 0
 AreLong d r = list_all is_long (read d r).messages.read ≡ true
 

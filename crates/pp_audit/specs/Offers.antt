@@ -22,7 +22,8 @@ brought d life is_opening (Sent moment receiver bytes) = []
 abbrev pub has_heard : (Message → Bool) → Descriptor → Life → List Record → Bool
 has_heard test d life [] = false
 has_heard test d life (r ∷ before) =
-    (nat_le life.opening (length before) && list_any test (brought d life (life.opening == length before) r)) || has_heard test d life before
+    (nat_le life.opening (length before) && list_any test (brought d life (life.opening == length before) r))
+    || has_heard test d life before
 
 -- whether the peer chokes, behind some messages
 abbrev pub chokes_after : List Message → Bool → Bool

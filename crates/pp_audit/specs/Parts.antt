@@ -22,7 +22,7 @@ abbrev pub shake_of : Message → Option (ℕ × Options)
 shake_of (Handshake source options) = Some (source, options)
 shake_of _ = None
 
--- those of the first message
+-- the source channel and the options of the first message, where it is a handshake
 abbrev pub first_shake : List Message → Option (ℕ × Options)
 first_shake [] = None
 first_shake (m ∷ ms) = shake_of m

@@ -29,6 +29,7 @@ abbrev pub is_plain_newest : Descriptor → Life → List Record → Bool
 is_plain_newest d life [] = false
 is_plain_newest d life (r ∷ before) = is_plain_by d life (r ∷ before) before
 
--- which they are
+-- a channel is plain exactly where this test says so
 abbrev pub PlainIsTested : Type 0
-PlainIsTested = (d : Descriptor) (life : Life) (reach past : List Record) → (is_plain_by d life reach past ≡ true) ↔ IsPlain d life reach past
+PlainIsTested = (d : Descriptor) (life : Life) (reach past : List Record)
+    → (is_plain_by d life reach past ≡ true) ↔ IsPlain d life reach past

@@ -31,14 +31,15 @@ abbrev pub leads_at : ℕ → LookUp → ℕ → List ℕ → ℕ → Bool
 leads_at n known i digest top =
     is_peak n (record { layer = top; offset = i / 2 ^ top }) && is_same (climbed known top 0 i digest) (known top (i / 2 ^ top))
 
--- so it is in some layer of a peak
+-- the climb from a chunk leads to a peak above it, in some layer
 unfoldable pub leads_up : ℕ → LookUp → ℕ → List ℕ → Bool
 leads_up n known i digest = some_below (leads_at n known i digest) 21
 
 -- the climb from the last peak, so many layers up; and whether it leads to the root
 abbrev pub climbed_last : ℕ → LookUp → ℕ → Option (List ℕ)
 climbed_last n known layers =
-    option_and_then (climbed (filled n known) layers (last_layer n) (peak_offset (last_layer n) n)) (known (last_layer n) (peak_offset (last_layer n) n))
+    option_and_then (climbed (filled n known) layers (last_layer n) (peak_offset (last_layer n) n))
+    (known (last_layer n) (peak_offset (last_layer n) n))
 
 abbrev pub leads_to_root : Descriptor → LookUp → Bool
 leads_to_root d known = is_same (climbed_last (chunks_of d) known (height_of d - last_layer (chunks_of d))) (Some d.root)

@@ -47,7 +47,7 @@ unfoldable pub ranges_from : (ℕ → Bool) → Option ℕ → (i n : ℕ) → L
 ranges_from test begun i zero = ended begun i false
 ranges_from test begun i (suc n) = ended begun i (test i) ++ ranges_from test (begun_after begun i (test i)) (suc i) n
 
--- those of a set from one number on
+-- the ranges of a set from one number on
 unfoldable pub ranges_behind : List Bool → Option ℕ → ℕ → List Span
 ranges_behind set begun i = ranges_from (λ k. slice_index_or set k false) begun i (length set - i)
 

@@ -20,16 +20,18 @@ use Rattle.pp_audit.specs.Tests.{is_life}
 -- The chunk, behind some messages, answers the peer on the channel.
 abbrev pub answers_on : Descriptor → Window → List Record → ℕ → List Message → Life → Bool
 answers_on d window past i front life = is_life d life past && asked i (story d life past) && not (choked (story d life past))
-    && is_heard d life past && completes (chunks_of d) (brings front) (is_told (chunks_of d) (story d life past)) i && window (story d life past)
+    && is_heard d life past
+    && completes (chunks_of d) (brings front) (is_told (chunks_of d) (story d life past)) i && window (story d life past)
 
--- And, where that is asked, the hashes before it are those of its plan.
+-- The chunk answers the peer, and, where that is asked too, the hashes before it are those of its plan.
 abbrev pub answers_planned : Bool → Descriptor → Window → List Record → ℕ → List Message → Life → Bool
 answers_planned false d window past i front life = answers_on d window past i front life
 answers_planned true d window past i front life = answers_on d window past i front life && is_planned d past i front life
 
--- so it is of a reply
+-- The chunk of a reply answers the peer on the channel, behind the reply's messages in front of it.
 abbrev pub replies_on : Descriptor → List Record → Reply → Life → Bool
-replies_on d past reply life = answers_planned reply.is_planned d (window_of d) past reply.chunk (take reply.count (all d reply.bytes.now)) life
+replies_on d past reply life =
+    answers_planned reply.is_planned d (window_of d) past reply.chunk (take reply.count (all d reply.bytes.now)) life
 
 -- the test of some number below one
 abbrev pub some_below : (ℕ → Bool) → ℕ → Bool
@@ -57,11 +59,13 @@ some_opening test a remote size local =
 abbrev pub some_life : (Life → Bool) → Descriptor → Address → ℕ → List Record → Bool
 some_life test d a remote past = some_source (some_opening test a remote (length past)) d a past
 
--- It finds one exactly where there is one; so where the hashes are asked for too.
+-- The search finds a channel exactly where there is one, whether or not the hashes are asked for too.
 abbrev pub SearchIsExact : Type 0
 SearchIsExact = (d : Descriptor) (window : Window) (past : List Record) (receiver : Address) (remote i : ℕ) (front : List Message)
-    → (some_life (answers_on d window past i front) d receiver remote past ≡ true) ↔ AnswersPeer d window past receiver (Some remote) i front
+    → (some_life (answers_on d window past i front) d receiver remote past ≡ true)
+    ↔ AnswersPeer d window past receiver (Some remote) i front
 
 abbrev pub PlansAreSought : Type 0
 PlansAreSought = (d : Descriptor) (window : Window) (past : List Record) (receiver : Address) (remote i : ℕ) (front : List Message)
-    → (some_life (answers_planned true d window past i front) d receiver remote past ≡ true) ↔ PlansPeer d window past receiver (Some remote) i front
+    → (some_life (answers_planned true d window past i front) d receiver remote past ≡ true)
+    ↔ PlansPeer d window past receiver (Some remote) i front

@@ -52,7 +52,7 @@ heard_by chunks question m s = record { choked = s.choked; found = found_by chun
 abbrev pub said_by : Question → Message → Standing → Standing
 said_by question m s = record { choked = choked_by m s.choked; found = found_after question m s.found }
 
--- those of a datagram
+-- what all messages of a datagram add
 abbrev pub hear_all : ℕ → Question → List Message → Standing → Standing
 hear_all chunks question [] s = s
 hear_all chunks question (m ∷ ms) s = hear_all chunks question ms (heard_by chunks question m s)

@@ -11,5 +11,6 @@ use Rattle.pp_audit.specs.Storings.{stores_newest}
 abbrev pub stores_all : Descriptor → LookUp → List Bool → List Record → Bool
 stores_all d book held [] = true
 stores_all d book held (r ∷ before) =
-    passes_openings (λ life. not (is_plain_newest d life (r ∷ before)) || stores_newest d book held (r ∷ before) life) d (r ∷ before) (r ∷ before)
+    passes_openings (λ life. not (is_plain_newest d life (r ∷ before)) || stores_newest d book held (r ∷ before) life)
+    d (r ∷ before) (r ∷ before)
     && stores_all d book held before

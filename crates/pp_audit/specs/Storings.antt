@@ -18,18 +18,20 @@ known_behind d life before front = latest (take 128 (claims_after (chunks_of d) 
 
 -- A message is no chunk, or one that isn't proved, or is held, or contradicts the book.
 abbrev pub is_stored : Descriptor → LookUp → List Bool → LookUp → Message → Bool
-is_stored d book held known (Data i sent_at bytes) = not (proves d known i bytes) || (slice_index_or held i false || contradicts d book known i bytes)
+is_stored d book held known (Data i sent_at bytes) =
+    not (proves d known i bytes) || (slice_index_or held i false || contradicts d book known i bytes)
 is_stored d book held known _ = true
 
--- so is each message before a closing handshake, by those in front of it
+-- each message before a closing handshake passes a test, by the messages in front of it
 abbrev pub each_stored : (List Message → Message → Bool) → (front rest : List Message) → Bool
 each_stored test front [] = true
 each_stored test front (m ∷ ms) = is_of 0 m || (test front m && each_stored test (front ++ m ∷ []) ms)
 
--- and each of a record that comes on a channel
+-- each message of a record that comes on a channel is stored so
 abbrev pub stores_on : Descriptor → LookUp → List Bool → Life → List Record → Record → Bool
 stores_on d book held life before r =
-    not (comes_on d life r) || each_stored (λ front m. is_stored d book held (known_behind d life before front) m) [] (read d r).messages.read
+    not (comes_on d life r)
+    || each_stored (λ front m. is_stored d book held (known_behind d life before front) m) [] (read d r).messages.read
 
 -- the newest record
 abbrev pub stores_newest : Descriptor → LookUp → List Bool → List Record → Life → Bool

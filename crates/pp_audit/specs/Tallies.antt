@@ -46,12 +46,12 @@ pub record Waited (taken : ℕ) (before after : ℕ) : Type 0 where
   pub nexts : 0 < taken → after ≡ capped (before + taken)
   pub still : taken ≡ 0 → after ≡ before
 
--- So many turns and refused waits are counted as there were.
+-- A tally counts each of so many turns, and as a refused wait each of them that no event began.
 pub record CountsTurns (t : Tally) (taken : ℕ) (past : List Record) : Type 0 where
   pub turns : t.turns ≡ capped taken
   pub receive_faults : t.receive_faults ≡ capped (taken - events past)
 
--- So many datagrams are counted as came, were short, and were sent.
+-- A tally counts each datagram that came, each that was short, and each that was sent.
 pub record CountsDatagrams (t : Tally) (past : List Record) : Type 0 where
   pub datagrams : t.datagrams ≡ capped (came past)
   pub sent : t.sent ≡ capped (went past)
