@@ -226,7 +226,7 @@ fn loses_none<'m>(stored: &[u64], now: u64, old: &'m Batch<'m>, new: &'m Batch<'
 /// pending; none is committed where something came, some chunk is neither committed nor pending, none was pending for a tenth of
 /// a second, and they are fewer than 64; in one of the first three cases none is left pending; what was committed still is; those
 /// chunks are committed or pending that were before, or that were stored, and no others; and each pending chunk keeps the moment
-/// at which it was stored.
+/// at which it was stored, unless it was stored again.
 pub fn commits_in_time<'m>(
     is_quiet: bool,
     stored: &[u64],
