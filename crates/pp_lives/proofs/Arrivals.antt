@@ -6,7 +6,7 @@ use Rattle.std.specs.Int.{w32, from_be_bytes}
 use Rattle.std.proofs.lemmas.List.Quantifiers.{position-Some}
 use Rattle.std.proofs.lemmas.List.Sums.{prefix_len_passes}
 use Rattle.std.proofs.lemmas.Option.{same_Some}
-use Rattle.std.proofs.lemmas.Bool.{cases_Bool, cases_lt, or_cases, or_parts, and_parts, and_from, and_right, both_ways, cond-true, eqb-true, eqb-false, eq-eqb, lt-ltb, le-ltb, not-true}
+use Rattle.std.proofs.lemmas.Bool.{cases_Bool, cases_lt, or_cases, or_parts, and_parts, and_from, and_right, both_ways, cond-true, cond-false, eqb-true, eqb-false, eq-eqb, ne_eqb, lt-ltb, le-ltb, not-true}
 use Rattle.pp_terms.specs.format.Traffic as traffic
 use Rattle.pp_terms.specs.format.Traffic.{Record, Received, same_address}
 use Rattle.pp_terms.specs.format.Descriptor.{Descriptor}
@@ -25,13 +25,14 @@ use Rattle.pp_lives.specs.Standing.{StandsAt, Seated, Plains}
 use Rattle.pp_lives.specs.Calls.{Drops, hears, replied, with_life, as_dial, opened_life, looked, TellsOne, TellsFirst}
 use Rattle.pp_lives.specs.Arriving.{contents, is_shadowed_at, is_given_up}
 use Rattle.pp_lives.specs.Standing.{Standing}
-use Rattle.pp_lives.specs.Arrived.{Stays, GivesUp, Reads}
-use Rattle.pp_lives.proofs.Staying.{Misses}
-use Rattle.pp_lives.proofs.Own.{stands_of, others_apart, missed_by, heard_seated, heard_tells}
+use Rattle.pp_lives.specs.Arrived.{Stays, GivesUp, Reads, WasThere, IsPassed, PassesAt, IsHeardOn, IsOpenedBy, IsRepliedBy}
+use Rattle.pp_lives.proofs.Staying.{Misses, began}
+use Rattle.pp_lives.proofs.Sharing.{was_same, was_apart, dropped_same, passes_of}
+use Rattle.pp_lives.proofs.Own.{stands_of, others_apart, missed_by, reads_on, heard_seated, heard_tells}
 use Rattle.pp_lives.proofs.Missed.{MissesAll, missed_seated, missed_tells, zero_misses}
 use Rattle.pp_lives.proofs.Closing.{dropped_seated, dropped_tells}
 use Rattle.pp_lives.proofs.Sent.{same_self, same_is}
-use Rattle.pp_lives.proofs.Replied.{IsReplyFor, replied_seated, replied_tells}
+use Rattle.pp_lives.proofs.Replied.{IsReplyFor, replied_seated, replied_tells, replied_by}
 use Rattle.pp_lives.proofs.Opened.{IsOpeningFor, opened_seated, opened_tells}
 use Rattle.pp_lives.proofs.Edits.{steady_seated, steady_tells, steady_again, still_begun}
 use Rattle.pp_lives.proofs.Plainly.{plains_missed, plains_heard, plains_replied, plains_closed, plains_shut, plains_refused, plains_dropped, IsDone, plains_steady}
@@ -94,6 +95,7 @@ pub stays : (d : Descriptor) (t new : Seats) (lives : ℕ → Option Life) (mome
 stays d t new lives moment sender bytes past s is m =
     subst (λ (x : Seats). Stays d (max moment (now past)) t x lives (Received moment sender bytes) past) (sym is) (record {
       standing = record { seated = missed_seated d t lives moment sender bytes past s.seated m; plains = plains_missed d t lives moment sender bytes past s.plains m };
+      passes = λ seat. passes_of d t t lives lives (Received moment sender bytes) past seat s.seated (λ c there. (c, there, refl)) refl (m seat);
       tells = missed_tells d t lives moment sender bytes past s.seated m;
       begun = λ b. b;
     })
@@ -113,6 +115,9 @@ stays_again d t lives seat c moment sender bytes past s there number =
         seated = missed_seated d new lives moment sender bytes past mid m;
         plains = plains_missed d new lives moment sender bytes past (plains_steady d t new lives seat c (f c) past s.plains there (steady_again c) ch) m;
       };
+      passes = λ other. passes_of d t new lives lives (Received moment sender bytes) past other s.seated
+          (was_same t new seat other c (f c) there (sym (steady_waits c (f c) (steady_again c))) ch) refl
+          (zero_misses d t lives (Received moment sender bytes) past s.seated number other);
       tells = λ other. missed_tells d new lives moment sender bytes past mid m other ∙ ap (looked (max moment (now past))) (steady_tells d t new lives seat c (f c) past there (steady_again c) ch other);
       begun = λ b. begun_changed t new seat (f c) ch (λ waits. still_begun c.opening ∙ b seat c there (sym (steady_waits c (f c) (steady_again c)) ∙ waits)) b;
     }
@@ -135,6 +140,9 @@ gone_seated d t new lives seat c moment sender bytes past s drops are apart plai
     let ends = dropped_tells d t new lives seat c past drops in
     record {
       standing = record { seated = missed_seated d new lives moment sender bytes past mid m; plains = plains };
+      free = drops.free;
+      passes = λ other ne. passes_of d t new lives lives r past other s.seated (dropped_same t new seat other c drops) refl
+          (λ e l also living. missed_by d e l r (apart other e l ne also living));
       own = missed_tells d new lives moment sender bytes past mid m seat ∙ ap (looked (max moment (now past))) ends.own;
       others = λ other ne. missed_tells d new lives moment sender bytes past mid m other ∙ ap (looked (max moment (now past))) (ends.others other ne);
       begun = begun_dropped t new seat c drops;
@@ -162,7 +170,8 @@ Hear now t seat = changed (changed t seat (λ c. record c { state = Proven })) s
 pub heard_arrived : (d : Descriptor) (t new : Seats) (lives : ℕ → Option Life) (seat number : ℕ) (sender : Address) (moment : ℕ) (bytes : List ℕ) (past : List Record) → Standing d t lives past
     → (f : Found t seat number sender) → is_waiting f.channel ≡ false → (read d (Received moment (address_of sender) bytes)).channel ≡ Some number
     → (read d (Received moment (address_of sender) bytes)).messages ≡ contents d bytes → new ≡ Hear (max moment (now past)) t seat
-    → Reads d (max moment (now past)) seat (contents d bytes).read TellsOne t new lives (Received moment (address_of sender) bytes) past
+    → Reads d (max moment (now past)) seat (contents d bytes).read TellsOne (IsHeardOn d t lives (Received moment (address_of sender) bytes) past seat)
+    t new lives (Received moment (address_of sender) bytes) past
 heard_arrived d t new lives seat number sender moment bytes past s f known number_is contents_is is =
     let r = Received moment (address_of sender) bytes in
     let n = max moment (now past) in
@@ -183,9 +192,18 @@ heard_arrived d t new lives seat number sender moment bytes past s f known numbe
     let gone = changed_dropped t v (closed v seat) seat c (hears n c) f.there refl ch gone_is in
     let on : comes_on d life.0 r ≡ true = and_from (comes_from life.0.address r) (is_number life.0.local (read d r).channel)
     (ap (λ (a : traffic.Address). same_address (address_of sender) a) st.address ∙ from) (ap (is_number life.0.local) own ∙ eq-eqb c.local life.0.local (sym st.local)) in
-    subst (λ (x : Seats). Reads d n seat (contents d bytes).read TellsOne t x lives r past) (sym is)
-    (subst (λ (m : Messages). Reads d n seat m.read TellsOne t v lives r past) contents_is (record {
+    subst (λ (x : Seats). Reads d n seat (contents d bytes).read TellsOne (IsHeardOn d t lives r past seat) t x lives r past) (sym is)
+    (subst (λ (m : Messages). Reads d n seat m.read TellsOne (IsHeardOn d t lives r past seat) t v lives r past) contents_is (record {
       living = lives;
+      life = life.0;
+      lives_there = life.1;
+      is_on = record {
+        there = record { channel = c; was = f.there; known = known; living = life.1; begun = began d c life.0 past st };
+        on = on;
+        reads = reads_on d c life.0 r past st known;
+      };
+      passes = λ other ne. passes_of d t v lives lives r past other s.seated (was_apart t v seat other (Some (hears n c)) ne ch) refl
+          (λ e l also living. misses other e l ne also living);
       begun = begun_changed t v seat (hears n c) ch (λ waits. absurd (both_ways (is_waiting (hears n c)) (and_right (is_dialled c.opening) (is_greeted (hears n c).state) refl) waits));
       goes_on = λ open_still. record {
         seated = heard_seated d t v lives seat c life.0 moment (address_of sender) bytes past s.seated are ch f.there life.1 known own from open_still;
@@ -206,7 +224,8 @@ pub opened_arrived : (d : Descriptor) (t new : Seats) (lives : ℕ → Option Li
     → 0 < source → (read d (Received moment (address_of sender) bytes)).channel ≡ Some 0 → (read d (Received moment (address_of sender) bytes)).messages ≡ contents d bytes
     → begins_fitting d false source (contents d bytes).read ≡ true → position (is_source sender source) t.channels ≡ None
     → (made : IsMade t new seat (answered sender source (max moment (now past))))
-    → Reads d (max moment (now past)) seat (drop 1 (contents d bytes).read) TellsFirst t new lives (Received moment (address_of sender) bytes) past
+    → Reads d (max moment (now past)) seat (drop 1 (contents d bytes).read) TellsFirst (IsOpenedBy d (Received moment (address_of sender) bytes) past)
+    t new lives (Received moment (address_of sender) bytes) past
 opened_arrived d t new lives seat source sender moment bytes past s some number_is contents_is fitting none made =
     let r = Received moment (address_of sender) bytes in
     let n = max moment (now past) in
@@ -244,8 +263,21 @@ opened_arrived d t new lives seat source sender moment bytes past s some number_
     } in
     let ends = dropped_tells d new (closed new seat) lives' seat c' (r ∷ past) gone in
     let are_gone = are_dropped new seat c' made.are made.change.there in
-    subst (λ (m : Messages). Reads d n seat (drop 1 m.read) TellsFirst t new lives r past) contents_is (record {
+    let living_else : (other : ℕ) → other ≢ seat → lives' other ≡ lives other = λ other ne. cond-false (eqb other seat) (Some l') (lives other) (ne_eqb other seat ne) in
+    subst (λ (m : Messages). Reads d n seat (drop 1 m.read) TellsFirst (IsOpenedBy d r past) t new lives r past) contents_is (record {
       living = lives';
+      life = l';
+      lives_there = living_there;
+      is_on = record {
+        place = refl;
+        answered = refl;
+        opens = and_from (comes_from l'.address r && is_number 0 (read d r).channel) (begins_fitting d false source (read d r).messages.read)
+            (and_from (comes_from l'.address r) (is_number 0 (read d r).channel) opening.from (ap (is_number 0) number_is)) opening.fitting;
+        apart = and_right (comes_from l'.address r) (is_number l'.local (read d r).channel)
+            (ap (is_number l'.local) number_is ∙ ne_eqb 0 l'.local (λ e. let some = made.some in omega arith));
+      };
+      passes = λ other ne. passes_of d t new lives lives' r past other s.seated (was_apart t new seat other (Some c') ne made.change) (living_else other ne)
+          (misses other);
       begun = begun_changed t new seat c' made.change (λ waits. absurd (both_ways (is_waiting c') refl waits));
       goes_on = λ open_still. standing;
       tells = λ open_still. tells;
@@ -256,6 +288,10 @@ opened_arrived d t new lives seat source sender moment bytes past s some number_
             seated = dropped_seated d new (closed new seat) lives' seat c' (r ∷ past) standing.seated are_gone gone;
             plains = plains_dropped d new (closed new seat) lives' seat c' (r ∷ past) standing.seated standing.plains gone done;
           };
+          free = gone.free;
+          passes = λ other ne. passes_of d t (closed new seat) lives lives' r past other s.seated
+              (λ e also. let b = dropped_same new (closed new seat) seat other c' gone e also in (b.0, sym (made.change.others other ne) ∙ b.1, b.2))
+              (living_else other ne) (misses other);
           own = ends.own;
           others = λ other ne. ends.others other ne ∙ tells.others other ne;
           begun = λ b. begun_dropped new (closed new seat) seat c' gone (begun_changed t new seat c' made.change (λ waits. absurd (both_ways (is_waiting c') refl waits)) b);
@@ -276,7 +312,7 @@ pub replied_arrived : (d : Descriptor) (t : Seats) (lives : ℕ → Option Life)
     → (f : Found t seat number sender) → is_waiting f.channel ≡ true → is_begun f.channel.opening ≡ true → (read d (Received moment (address_of sender) bytes)).channel ≡ Some number
     → (read d (Received moment (address_of sender) bytes)).messages ≡ contents d bytes → (contents d bytes).read ≡ Handshake source options ∷ rest
     → fits d true options ≡ true → is_given_up t seat sender source ≡ false
-    → Reads d (max moment (now past)) seat (contents d bytes).read TellsFirst t
+    → Reads d (max moment (now past)) seat (contents d bytes).read TellsFirst (IsRepliedBy d (Received moment (address_of sender) bytes) past) t
     (changed (changed t seat (λ c. record c { remote = Some source; state = Proven })) seat (λ c. record c { heard = max moment (now past) })) lives (Received moment (address_of sender) bytes) past
 replied_arrived d t lives seat number source options rest sender moment bytes past s f waits live number_is contents_is first fit given =
     let r = Received moment (address_of sender) bytes in
@@ -317,8 +353,15 @@ replied_arrived d t lives seat number source options rest sender moment bytes pa
     let gone_is = dropped_is v seat c' ch.there in
     let gone = changed_dropped t v (closed v seat) seat c c' f.there refl ch gone_is in
     let given_up = gone_seated d t (closed v seat) lives seat c moment (address_of sender) bytes past s gone (are_dropped v seat c' are ch.there) apart in
-    subst (λ (m : Messages). Reads d n seat m.read TellsFirst t v lives r past) contents_is (record {
+    let living_else : (other : ℕ) → other ≢ seat → lives' other ≡ lives other =
+    λ other ne. cond-false (eqb other seat) (Some (as_dial life.0 source)) (lives other) (ne_eqb other seat ne) in
+    subst (λ (m : Messages). Reads d n seat m.read TellsFirst (IsRepliedBy d r past) t v lives r past) contents_is (record {
       living = lives';
+      life = as_dial life.0 source;
+      lives_there = cond-true (eqb seat seat) (Some (as_dial life.0 source)) (lives seat) (eq-eqb seat seat refl);
+      is_on = replied_by d t lives seat c life.0 source r past s.seated is life.1;
+      passes = λ other ne. passes_of d t v lives lives' r past other s.seated (was_apart t v seat other (Some c') ne ch) (living_else other ne)
+          (λ e l also living. misses other e l ne also living);
       begun = begun_changed t v seat c' ch (λ w. absurd (both_ways (is_waiting c') (and_right (is_dialled c.opening) (is_greeted c'.state) refl) w));
       goes_on = λ open_still. record {
         seated = replied_seated d t v lives seat c life.0 source moment (address_of sender) bytes past s.seated is life.1 are ch open_still;

@@ -19,7 +19,7 @@ use Rattle.pp_lives.specs.Standing.{Seated}
 use Rattle.pp_lives.specs.Calls.{TellsOne, TellsFirst}
 use Rattle.pp_lives.specs.Arriving.{contents, is_faulty, begins_faulty, is_waiting_at, IsWelcome, Greets, Awaited, Comes, Numbered, IsNumbered, Arrives}
 use Rattle.pp_lives.specs.Standing.{Standing, AllBegun}
-use Rattle.pp_lives.specs.Arrived.{Stays, GivesUp, Reads, Arrived}
+use Rattle.pp_lives.specs.Arrived.{Stays, GivesUp, Reads, IsHeardOn, IsRepliedBy, Arrived}
 use Rattle.pp_lives.specs.declared.arriving.Arrival.{Arrival}
 use Rattle.pp_lives.specs.declared.arriving.Arrival.TheVariants as arrivals
 use Rattle.pp_lives.proofs.Own.{stands_of, others_apart, missed_by}
@@ -131,8 +131,8 @@ answer_arrived d t new lives seat number sender moment bytes past (arrivals.Give
     subst (λ (n : ℕ). GivesUp d (max moment (now past)) n t new lives lives (R moment sender bytes) past) (sym a.does.0)
     (refused_arrived d t new lives seat number a.source a.options a.rest sender moment bytes past s f waits (live seat f.channel f.there waits) number_is is a.first (inr a.does.2) a.does.3)
 answer_arrived d t new lives seat number sender moment bytes past (arrivals.Replied k) s live f waits number_is is a =
-    subst (λ (n : ℕ). Reads d (max moment (now past)) n (contents d bytes).read TellsFirst t new lives (R moment sender bytes) past) (sym a.does.0)
-    (subst (λ (x : Seats). Reads d (max moment (now past)) seat (contents d bytes).read TellsFirst t x lives (R moment sender bytes) past) (sym a.does.3)
+    subst (λ (n : ℕ). Reads d (max moment (now past)) n (contents d bytes).read TellsFirst (IsRepliedBy d (R moment sender bytes) past) t new lives (R moment sender bytes) past) (sym a.does.0)
+    (subst (λ (x : Seats). Reads d (max moment (now past)) seat (contents d bytes).read TellsFirst (IsRepliedBy d (R moment sender bytes) past) t x lives (R moment sender bytes) past) (sym a.does.3)
     (replied_arrived d t lives seat number a.source a.options a.rest sender moment bytes past s f waits (live seat f.channel f.there waits) number_is is a.first a.does.1 a.does.2))
 answer_arrived d t new lives seat number sender moment bytes past arrivals.Short s live f waits number_is is a = absurd a.does
 answer_arrived d t new lives seat number sender moment bytes past arrivals.NoGreeting s live f waits number_is is a = absurd a.does
@@ -148,7 +148,7 @@ comes_arrived : (d : Descriptor) (t new : Seats) (lives : ℕ → Option Life) (
     → (f : Found t seat number sender) → (read d (R moment sender bytes)).channel ≡ Some number → (read d (R moment sender bytes)).messages ≡ contents d bytes
     → Comes d t seat sender (max moment (now past)) bytes result new → Arrived d t lives (R moment sender bytes) past (max moment (now past)) bytes result new
 comes_arrived d t new lives seat number sender moment bytes past (arrivals.Heard k) s live f number_is is a =
-    subst (λ (n : ℕ). Reads d (max moment (now past)) n (contents d bytes).read TellsOne t new lives (R moment sender bytes) past) (sym a.0)
+    subst (λ (n : ℕ). Reads d (max moment (now past)) n (contents d bytes).read TellsOne (IsHeardOn d t lives (R moment sender bytes) past n) t new lives (R moment sender bytes) past) (sym a.0)
     (heard_arrived d t new lives seat number sender moment bytes past s f (ap is_waiting_at (sym f.there) ∙ a.1) number_is is a.2)
 comes_arrived d t new lives seat number sender moment bytes past arrivals.Short s live f number_is is a = answer_arrived d t new lives seat number sender moment bytes past arrivals.Short s live f (ap is_waiting_at (sym f.there) ∙ a.0) number_is is a.1
 comes_arrived d t new lives seat number sender moment bytes past arrivals.NoGreeting s live f number_is is a = answer_arrived d t new lives seat number sender moment bytes past arrivals.NoGreeting s live f (ap is_waiting_at (sym f.there) ∙ a.0) number_is is a.1

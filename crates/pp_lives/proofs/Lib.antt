@@ -16,6 +16,7 @@ pub mod Beginning
 pub mod Answering
 pub mod Changing
 pub mod Begun
+pub mod Sharing
 pub mod Arrivals
 pub mod Dispatch
 pub mod Wholes

@@ -20,6 +20,7 @@ use Rattle.pp_lives.specs.Reading.{is_waiting}
 use Rattle.pp_channels.specs.Seats.{Seats, channel_at}
 use Rattle.pp_lives.specs.Standing.{Stands, StandsAt, once_known, read_of, read_at, Seated}
 use Rattle.pp_lives.specs.Calls.{Changes, with_life, replied, as_dial, TellsFirst}
+use Rattle.pp_lives.specs.Arrived.{IsRepliedBy}
 use Rattle.pp_lives.proofs.Each.{each_by}
 use Rattle.pp_lives.proofs.Bare.{bare_more, blank_bare}
 use Rattle.pp_lives.proofs.Telling.{since_same, now_later, heard_now, read_more, replied_read, fitting_begins}
@@ -168,6 +169,25 @@ replied_seated d t new lives seat c life remote moment sender bytes past s is li
   where
     none_yet : (a : Address) (n : ℕ) (x : Channel) → x.remote ≡ None → is_source a n (Some x) ≡ false
     none_yet a n x none = ap (λ (o : Option ℕ). has_remote n o && is_same x.address a) none
+
+-- so the record is the reply to the dial
+pub replied_by : (d : Descriptor) (t : Seats) (lives : ℕ → Option Life) (seat : ℕ) (c : Channel) (life : Life) (remote : ℕ) (r : Record) (past : List Record)
+    → Seated d t lives past → IsReplyFor d t seat c remote r → lives seat ≡ Some life → IsRepliedBy d r past (as_dial life remote)
+replied_by d t lives seat c life remote r past s is living =
+    let l' = as_dial life remote in
+    let st = stands_of d (channel_at t seat) (lives seat) c life past (s.each seat) is.there living in
+    let lt = began d c life past st in
+    let from : comes_from life.address r ≡ true = subst (λ (a : traffic.Address). comes_from a r ≡ true) (sym st.address) is.from in
+    let on : comes_on d l' r ≡ true = and_from (comes_from life.address r) (is_number life.local (read d r).channel) from (ap (is_number life.local) is.number ∙ eq-eqb c.local life.local (sym st.local)) in
+    let greets_it : greets d l' r ≡ true = and_from (comes_from life.address r && is_number life.local (read d r).channel) (begins_fitting d true remote (read d r).messages.read) on is.fitting in
+    record {
+      begun = lt;
+      dialled = refl;
+      on = on;
+      reads = replied_read d l' (r ∷ past) (or_left (leb life.opening (length past) && greets d l' r) (some_since (greets d l') life.opening past)
+          (and_from (leb life.opening (length past)) (greets d l' r) (le-leb life.opening (length past) (omega (arith, lt))) greets_it));
+      blank = blank_until d t lives seat c life remote past r s is living;
+    }
 
 -- what is read of it begins
 pub replied_tells : (d : Descriptor) (t new : Seats) (lives : ℕ → Option Life) (seat : ℕ) (c : Channel) (life : Life) (remote moment : ℕ) (sender : traffic.Address) (bytes : List ℕ) (past : List Record)
