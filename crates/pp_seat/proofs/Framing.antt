@@ -101,7 +101,7 @@ none_read d life past early =
     omega arith
 
 -- a record more makes no fewer lines
-read_longer : (d : Descriptor) (life : Life) (r : Record) (b : List Record) → length (read_story d life b) ≤ length (read_story d life (r ∷ b))
+pub read_longer : (d : Descriptor) (life : Life) (r : Record) (b : List Record) → length (read_story d life b) ≤ length (read_story d life (r ∷ b))
 read_longer d life r b = by (nat_le life.opening (length b)) (is_read d life (r ∷ b)) refl
   where
     by : (x y : Bool) → nat_le life.opening (length b) ≡ x

@@ -1,5 +1,5 @@
 -- What contracts see of a seat: all that a peer keeps of one channel's messages.
-use Rattle.std.specs.Prelude.{ℕ, Bool, Option, List}
+use Rattle.std.specs.Prelude.{◌≡◌, ℕ, Bool, false, Option, List, []}
 use Rattle.pp_terms.specs.tree.Claims.{Claim}
 use Rattle.pp_terms.specs.tree.Range.{Span}
 use Rattle.pp_traffic.specs.Meter.{Meter}
@@ -28,3 +28,12 @@ pub record SeatState : Type 0 where
   -- when addresses of other peers were last sent, and last asked for
   pub answer : Option ℕ
   pub question : Option ℕ
+
+-- Nothing was asked for, told or claimed on the channel yet, whose other peer isn't proven to be at its address.
+pub record IsFresh (slot : Bool) (s : SeatState) : Type 0 where
+  pub slot_is : s.slot ≡ slot
+  pub unproven : s.proven ≡ false
+  pub list : s.list ≡ []
+  pub own : s.own ≡ []
+  pub claims : s.claims ≡ []
+  pub cursor : s.cursor ≡ 0

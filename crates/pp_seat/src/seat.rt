@@ -3,6 +3,7 @@
 ghost use Rattle.std.specs.Prelude.{◌≡◌, ◌<◌, ◌≤◌, ◌^◌, true, false, IfOk};
 ghost use Rattle.pp_seat.specs.Follows.{Frame, none_lost, Begins, Follows, IsProved};
 ghost use Rattle.pp_seat.specs.Lines.{Tale};
+ghost use Rattle.pp_seat.specs.Seats.{IsFresh};
 
 use pp_ledbat::Window;
 use pp_paths::Claims;
@@ -92,7 +93,7 @@ impl Seat {
         requires positive { 0 < size }
         requires size { size ≤ 8192 }
         ensures follows { (f : Frame) (t : Tale) → f.chunks ≡ self.old.told.chunks → f.size ≡ size → Begins f t → Follows f none_lost self.new t }
-        ensures slot { self.new.slot ≡ slot }
+        ensures fresh { IsFresh slot self.new }
         ensures chunks { self.new.told.chunks ≡ self.old.told.chunks }
     {
         self.list.clear();

@@ -1,0 +1,9 @@
+pub mod Lists
+pub mod Blank
+pub mod Steps
+pub mod Comings
+pub mod Looking
+pub mod Composing
+pub mod Firsts
+pub mod Waits
+pub mod Outgoing

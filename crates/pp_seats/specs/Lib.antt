@@ -1,0 +1,4 @@
+pub mod Standing
+pub mod Hearing
+pub mod Laws
+pub mod Sending

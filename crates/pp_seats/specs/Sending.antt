@@ -1,0 +1,113 @@
+-- What goes out on the seats' channels, and what the link carries of it.
+use Rattle.std.specs.Prelude.{◌≡◌, ℕ, ◌+◌, ◌<◌, ◌≤◌, nat_lt, Bool, true, false, Option, Some, None, List, [], ◌∷◌, ◌++◌, length, slice_get, slice_set, if◌then◌else◌}
+use Rattle.std.specs.List.{AllByRecursion}
+use Rattle.pp_terms.specs.format.Traffic.{Record, LinkState, GainsRecords}
+use Rattle.pp_terms.specs.format.Descriptor.{chunks_of}
+use Rattle.pp_terms.specs.tree.Range.{Span, within, has}
+use Rattle.pp_ranges.specs.Edits.{number_count}
+use Rattle.pp_requests.specs.declared.asking.Asking.{Asking}
+use Rattle.pp_requests.specs.Moments.{asked_at}
+use Rattle.pp_promises.specs.Served.{is_announced}
+use Rattle.pp_outside.specs.Outside.{address_of}
+use Rattle.pp_channels.specs.Seats.{Seats, channel_at}
+use Rattle.pp_lives.specs.Fars.{far_of}
+use Rattle.pp_lives.specs.Sending.{with_datagram}
+use Rattle.pp_lives.specs.declared.lives.Far.{Far}
+use Rattle.pp_draft.specs.declared.note.Note.{Note}
+use Rattle.pp_draft.specs.declared.note.Note.TheVariants.{Ack, Have, Request, Cancel}
+use Rattle.pp_seat.specs.Seats.{SeatState}
+use Rattle.pp_desk.specs.declared.steps.Delivered.{Delivered}
+use Rattle.pp_desk.specs.Steps.{cursor_behind}
+use Rattle.pp_desk.specs.Delivers.{Way, At, none_delivered, Delivers}
+use Rattle.pp_desk.specs.Laws.{records_of}
+use Rattle.pp_seats.specs.Standing.{SeatsState, Setting, StandsFor}
+
+-- ---- what may be told
+
+-- All chunks that were found, or announced so far, are in a set.
+pub record HoldsAnnounced (x : Setting) (held : ℕ → Bool) (past : List Record) : Type 0 where
+  pub found : (i : ℕ) → x.is_found i ≡ true → held i ≡ true
+  pub announced : (i : ℕ) → is_announced x.d i past ≡ true → held i ≡ true
+
+-- A note announces chunks of the set alone.
+abbrev pub Announces : (ℕ → Bool) → Note → Type 0
+Announces held (Ack range delay) = (i : ℕ) → within range i ≡ true → held i ≡ true
+Announces held (Have range) = (i : ℕ) → within range i ≡ true → held i ≡ true
+Announces held _ = Unit {0}
+
+-- Between the cursor and a HAVE no chunk of the set stands, nor between one HAVE and the next.
+abbrev pub PassesOne : (ℕ → Bool) → ℕ → Note → Type 0
+PassesOne held cursor (Have range) = (i : ℕ) → cursor ≤ i → i < range.first → held i ≡ false
+PassesOne held cursor _ = Unit {0}
+
+abbrev pub PassesAll : (ℕ → Bool) → ℕ → List Note → Type 0
+PassesAll held cursor [] = Unit {0}
+PassesAll held cursor (note ∷ notes) = PassesOne held cursor note × PassesAll held (cursor_behind cursor note) notes
+
+-- ---- what may be asked for
+
+-- the ranges of the REQUESTs
+abbrev pub requested : List Note → List Span
+requested [] = []
+requested (Request range ∷ notes) = range ∷ requested notes
+requested (_ ∷ notes) = requested notes
+
+-- no REQUEST stands behind a CANCEL
+abbrev pub AsksFirst : List Note → Type 0
+AsksFirst [] = Unit {0}
+AsksFirst (Cancel range ∷ notes) = requested notes ≡ []
+AsksFirst (_ ∷ notes) = AsksFirst notes
+
+-- no chunk is in two of the ranges
+abbrev pub AreApart : List Span → Type 0
+AreApart [] = Unit {0}
+AreApart (range ∷ ranges) = ((i : ℕ) → within range i ≡ true → has ranges i ≡ false) × AreApart ranges
+
+-- There is room for all of their chunks, and none of them is asked for.
+pub record AreFit (ranges : List Span) (own : List Asking) : Type 0 where
+  pub room : length own + number_count ranges ≤ 32
+  pub absent : (i : ℕ) → has ranges i ≡ true → asked_at own i ≡ None
+  pub apart : AreApart ranges
+
+abbrev pub FitAll : List Span → List Asking → Type 0
+FitAll [] own = Unit {0}
+FitAll (range ∷ ranges) own = AreFit (range ∷ ranges) own
+
+-- What may be said on a seat, where a set has all that is announced.
+pub record MaySay (held : ℕ → Bool) (notes : List Note) (s : SeatState) : Type 0 where
+  pub announces : AllByRecursion (Announces held) notes
+  pub passes : PassesAll held s.cursor notes
+  pub first : AsksFirst notes
+  pub fit : FitAll (requested notes) s.own
+
+-- ---- notes that were delivered
+
+-- where the notes of a seat go
+abbrev pub way_of : SeatsState → Far → (moment : ℕ) → Way
+way_of p far moment = record { d = p.descriptor; receiver = address_of far.address; channel = far.number; moment = moment; now = p.moment }
+
+-- the channels once the notes of one were delivered: it is noted when something was sent last
+abbrev pub with_sent : Seats → ℕ → (sent now : ℕ) → Seats
+with_sent table seat sent now = if nat_lt 0 sent then with_datagram table seat false now else table
+
+-- The notes were delivered on a seat, whose channel's peer has a known number and was sent a handshake: the link carries records
+-- of what was sent, and the seats stand for it, whatever was refused.
+pub record Speaks (seat : ℕ) (notes : List Note) (moment : ℕ) (delivered : Delivered) (old new : SeatsState) (link later : LinkState) : Type 0 where
+  pub far : Far
+  pub is_far : far_of (channel_at old.table seat) ≡ Some far
+  pub begun : far.begun ≡ true
+  pub before : SeatState
+  pub after : SeatState
+  pub there : slice_get old.seats seat ≡ Some before
+  pub is : new ≡ record old { table = with_sent old.table seat delivered.sent old.moment; seats = slice_set old.seats seat after }
+  pub delivers : Delivers (way_of old far moment) notes [] (record { seat = before; link = link; so_far = none_delivered })
+      (record { seat = after; link = later; so_far = delivered })
+  pub gained : GainsRecords link.traffic (records_of (way_of old far moment) delivers.batches) later.traffic
+  pub stands : (x : Setting) (most : ℕ) (past : List Record) (held : ℕ → Bool) → StandsFor x most old past → HoldsAnnounced x held past
+      → MaySay held notes before
+      → StandsFor x (most + delivered.refused) new (records_of (way_of old far moment) delivers.batches ++ past)
+
+-- Nothing can be said on a seat that is free, or whose peer's number isn't known, or to which no handshake was sent.
+abbrev pub IsSilent : Option Far → Type 0
+IsSilent None = Unit {0}
+IsSilent (Some far) = far.begun ≡ false

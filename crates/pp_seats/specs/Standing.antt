@@ -1,0 +1,70 @@
+-- What the seats of a peer keep is what the link carried says.
+use Rattle.std.specs.Prelude.{◌≡◌, ℕ, ◌<◌, ◌≤◌, Bool, false, Option, Some, List, ◌++◌, length, slice_get}
+use Rattle.pp_terms.specs.format.Traffic.{Record}
+use Rattle.pp_terms.specs.format.Descriptor.{Descriptor, chunks_of}
+use Rattle.pp_traffic.specs.Past.{now}
+use Rattle.pp_traffic.specs.Life.{Life}
+use Rattle.pp_traffic.specs.Asking.{is_heard}
+use Rattle.pp_promises.specs.ReadStory.{read_story}
+use Rattle.pp_channels.specs.Seats.{Seats, channel_at}
+use Rattle.pp_channels.specs.declared.channel.Channel.{Channel}
+use Rattle.pp_lives.specs.Reading.{is_waiting}
+use Rattle.pp_lives.specs.Standing.{Standing, AllBegun}
+use Rattle.pp_seat.specs.Seats.{SeatState}
+use Rattle.pp_seat.specs.Follows.{Frame, Lost, Follows}
+use Rattle.pp_seat.specs.Frames.{since_of, tale_of}
+use Rattle.pp_seat.specs.Awaited.{AreAwaited}
+
+-- What contracts see of the seats: the swarm, the channels, what is kept of the messages of each, and the moment now.
+pub record SeatsState : Type 0 where
+  pub descriptor : Descriptor
+  pub table : Seats
+  pub seats : List SeatState
+  pub moment : ℕ
+
+-- What is settled during a turn: the swarm, which chunks the peer found when it began, and what the link had carried when the
+-- last turn ended.
+pub record Setting : Type 0 where
+  pub d : Descriptor
+  pub is_found : ℕ → Bool
+  pub turn : List Record
+
+-- the frame of a channel's seat
+abbrev pub frame_in : Setting → Life → List Record → Frame
+frame_in x life past = record {
+  chunks = chunks_of x.d;
+  size = x.d.chunk;
+  since = λ i. since_of x.d life x.is_found i past;
+  mark = length (read_story x.d life x.turn);
+  proven = is_heard x.d life past;
+}
+
+-- A seat follows the tale of its channel's life, but for so many chunks that were given up and so many times that its cursor was
+-- set back at most; and since the last turn ended the peer has looked up.
+pub record IsFollowed (x : Setting) (most : ℕ) (s : SeatState) (life : Life) (past : List Record) : Type 0 where
+  pub lost : Lost
+  pub chunks : lost.chunks ≤ most
+  pub haves : lost.haves ≤ most
+  pub follows : Follows (frame_in x life past) lost s (tale_of x.d life past)
+  pub awaited : AreAwaited (chunks_of x.d) s.own (read_story x.d life past)
+  pub marked : length (read_story x.d life x.turn) < length (read_story x.d life past)
+
+-- Each seat is one of a content of so many chunks.
+abbrev pub AllHold : ℕ → List SeatState → Type 0
+AllHold chunks seats = (n : ℕ) (s : SeatState) → slice_get seats n ≡ Some s → s.told.chunks ≡ chunks
+
+-- So it is with each seat on whose channel the other peer's number is known, and with the channel's life.
+abbrev pub EachKnown : Seats → (ℕ → Option Life) → List SeatState → (SeatState → Life → Type 0) → Type 0
+EachKnown t lives seats P = (n : ℕ) (c : Channel) (life : Life) (s : SeatState) → channel_at t n ≡ Some c → is_waiting c ≡ false → lives n ≡ Some life
+    → slice_get seats n ≡ Some s → P s life
+
+-- The seats stand for what the link carried: each channel has its life there, and its seat follows that.
+pub record StandsFor (x : Setting) (most : ℕ) (p : SeatsState) (past : List Record) : Type 0 where
+  pub swarm : p.descriptor ≡ x.d
+  pub now_is : p.moment ≡ now past
+  pub later : List Record
+  pub is_later : past ≡ later ++ x.turn
+  pub lives : ℕ → Option Life
+  pub standing : Standing x.d p.table lives past
+  pub begun : AllBegun p.table
+  pub follow : EachKnown p.table lives p.seats (λ s life. IsFollowed x most s life past)
