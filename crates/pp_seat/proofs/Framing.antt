@@ -125,7 +125,7 @@ announced_before d i (Received at sender bytes) b e = e
 announced_before d i (Quiet at) b e = e
 announced_before d i (Sent moment receiver bytes) b e = (or_parts _ (is_announced d i b) e).1
 
-since_none : (d : Descriptor) (life : Life) (is_found : ℕ → Bool) (i : ℕ) (past : List Record) → is_found i ≡ false → is_announced d i past ≡ false
+pub since_none : (d : Descriptor) (life : Life) (is_found : ℕ → Bool) (i : ℕ) (past : List Record) → is_found i ≡ false → is_announced d i past ≡ false
     → since_of d life is_found i past ≡ None
 since_none d life is_found i [] unfound none = ap (λ (x : Bool). cond x (Some 0) None) unfound
 since_none d life is_found i (r ∷ b) unfound none =

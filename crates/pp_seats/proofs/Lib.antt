@@ -7,3 +7,4 @@ pub mod Composing
 pub mod Firsts
 pub mod Waits
 pub mod Outgoing
+pub mod Speaking

@@ -26,6 +26,11 @@ set_twice [] i x y = refl
 set_twice (z ∷ xs) zero x y = refl
 set_twice (z ∷ xs) (suc i) x y = ap (λ (ys : List SeatState). z ∷ ys) (set_twice xs i x y)
 
+pub set_length : (xs : List SeatState) (i : ℕ) (x : SeatState) → length (set xs i x) ≡ length xs
+set_length [] i x = refl
+set_length (z ∷ xs) zero x = refl
+set_length (z ∷ xs) (suc i) x = ap suc (set_length xs i x)
+
 -- a list has what stands in it
 pub got : (xs : List SeatState) (i : ℕ) (x : SeatState) → i < length xs → slice_get xs i ≡ Some (get_or xs i x)
 got [] i x lt = absurd (omega arith)
@@ -64,9 +69,9 @@ pub mapped_holds : (chunks moment : ℕ) (xs : List SeatState) → AllHold chunk
 mapped_holds chunks moment xs room n y has = let m = mapped (looked_up moment) xs n y has in ap (λ (o : SeatState). o.told.chunks) (sym m.2) ∙ room n m.0 m.1
 
 -- a list written over another of its length
-refills : (ws ys : List SeatState) → take (length ws) (ws ++ ys) ≡ ws
+refills : {A : Type 0} (ws ys : List A) → take (length ws) (ws ++ ys) ≡ ws
 refills [] ys = refl
-refills (w ∷ ws) ys = ap (λ (xs : List SeatState). w ∷ xs) (refills ws ys)
+refills (w ∷ ws) ys = ap (λ xs. w ∷ xs) (refills ws ys)
 
-pub refilled : (ws ys : List SeatState) (n : ℕ) → n ≡ length ws → take n (ws ++ ys) ≡ ws
+pub refilled : {A : Type 0} (ws ys : List A) (n : ℕ) → n ≡ length ws → take n (ws ++ ys) ≡ ws
 refilled ws ys n e = ap (λ (k : ℕ). take k (ws ++ ys)) e ∙ refills ws ys

@@ -5,6 +5,7 @@
 ghost use Rattle.pp_seats.specs.Laws.{HearingComposes, NothingYet};
 
 mod seats;
+mod sending;
 
 pub use seats::Seats;
 
