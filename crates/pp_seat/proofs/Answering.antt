@@ -30,7 +30,7 @@ pub whole_path : (f : Frame) (lost : Lost) (i chunks : ℕ) (s : SeatState) (t :
     → completes chunks brought (knows s.told) i ≡ list_all brought nodes → Follows f lost s t → list_all brought nodes ≡ true
     → completes f.chunks brought (is_told f.chunks t.story) i ≡ true
 whole_path f lost i chunks s t brought nodes content is h all =
-    paths_grow f.chunks brought brought (knows s.told) (is_told f.chunks t.story) i (λ n e. e) h.told.known
+    paths_grow f.chunks brought brought (knows s.told) (is_told f.chunks t.story) i (λ n e. e) (λ n e. sym (h.told.known n) ∙ e)
     (subst (λ (k : ℕ). completes k brought (knows s.told) i ≡ true) (sym content ∙ h.told.content) (is ∙ all))
 
 pub none_left : NoneLeft

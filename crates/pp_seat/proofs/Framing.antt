@@ -576,7 +576,7 @@ pub tales_grow : TalesGrow
 tales_grow = record { opened = tale_opened; dialled = tale_dialled; sent = tale_sent; quiet = tale_quiet; heard = tale_heard; unread = tale_unread }
 
 pub none_begins : NoneBegins
-none_begins f unproven = record { unsaid = tt; unproven = unproven; unclaimed = refl; untold = λ i. refl; unasked = λ i place is. inl (omega arith) }
+none_begins f unproven = record { unsaid = tt; unproven = unproven; unclaimed = refl; unheard = λ n. refl; untold = λ i. refl; unasked = λ i place is. inl (omega arith) }
 
 -- ---- what is left
 

@@ -1,6 +1,7 @@
 -- A seat follows one line more, of a message that came, or of a wait that ended.
 use Rattle.std.proofs.Common.{◌≡◌, ⊎_elim, ℕ, ◌+◌, ◌-◌, ◌^◌, min, ◌<◌, ◌≤◌, Bool, true, false, cond, ◌||◌, Option, Some, None, List, [], ◌∷◌, length, take, refl, sym, ◌∙◌, ap, subst, arith}
 use Rattle.std.specs.List.{AllByRecursion}
+use Rattle.std.proofs.Math.Bool.{or_comm}
 use Rattle.std.proofs.lemmas.Bool.{cond-true, cond-false, or_cases, or_left, or_right, both_ways, false≢true}
 use Rattle.pp_terms.specs.format.Messages.{Data, Ack, Have, Integrity, Request, Cancel, Choke, Unchoke}
 use Rattle.pp_terms.specs.tree.Tree.{Node}
@@ -106,11 +107,9 @@ tells_more : (chunks : ℕ) (span part : Span) (old new : ToldNodes) (story : Li
     → Knows chunks new (λ n. tells chunks span n || is_told chunks story n)
 tells_more chunks span part old new story p same more k = record {
   content = same ∙ k.content;
-  known = λ n e. ⊎_elim
-      (λ before. or_right (tells chunks span n) (is_told chunks story n) (k.known n before))
-      (λ here. or_left (tells chunks span n) (is_told chunks story n)
-      (sym (part_tells chunks span part n p) ∙ subst (λ (c : ℕ). tells c (span_of part) n ≡ true) k.content here))
-      (or_cases (knows old n) (tells old.chunks (span_of part) n) (sym (more n) ∙ e));
+  known = λ n. more n ∙ or_comm (knows old n) (tells old.chunks (span_of part) n)
+      ∙ ap (λ (b : Bool). b || knows old n) (ap (λ (c : ℕ). tells c (span_of part) n) k.content ∙ part_tells chunks span part n p)
+      ∙ ap (λ (b : Bool). tells chunks span n || b) (k.known n);
 }
 
 pub have_goes : (s : SeatState) (part : Span) (told : ToldNodes) (now : ℕ) (span : Span) → told.chunks ≡ s.told.chunks

@@ -211,19 +211,19 @@ passes_list chunks i list are_asked count less l =
 
 -- none of which was announced
 pub below_lacks : (chunks lost i : ℕ) (since : ℕ → Option ℕ) (list : List Span) (are_asked : (place j : ℕ) → Bool) (count : ℕ)
-    → ((j : ℕ) → j < i → since j ≡ None) → IsRunsFrom 0 list → Lacks chunks lost since list are_asked count
+    → ((j : ℕ) → j < i → has list j ≡ true → since j ≡ None) → IsRunsFrom 0 list → Lacks chunks lost since list are_asked count
     → Lacks chunks lost since (without_below i list) are_asked count
 below_lacks chunks lost i since list are_asked count none runs k = record {
   given = k.given;
   few = k.few;
   listed = λ j place few lt is e. ⊎_elim
-      (λ on. inl (below_has i list 0 j runs ∙ and_from (nat_le i j) (has list j) (not_below j place is) on))
+      (λ on. inl (below_has i list 0 j runs ∙ and_from (nat_le i j) (has list j) (not_below j place is on) on))
       (λ gone. inr gone)
       (k.listed j place few lt is e);
 }
   where
-    not_below : (j place : ℕ) → since j ≡ Some place → nat_le i j ≡ true
-    not_below j place is = ⊎_elim
-        (λ (lt : j < i). absurd (none_some place (sym (none j lt) ∙ is)))
+    not_below : (j place : ℕ) → since j ≡ Some place → has list j ≡ true → nat_le i j ≡ true
+    not_below j place is on = ⊎_elim
+        (λ (lt : j < i). absurd (none_some place (sym (none j lt on) ∙ is)))
         (λ (le : i ≤ j). grind (arith, nat_tests))
         (cases_lt j i)

@@ -93,7 +93,7 @@ opens f size told slot t nothing content size_is begins = record {
   };
   slot = record { same = sym (none_choked t.story begins.unsaid); unchoked = λ e. refl; empty = λ e. refl; due = λ e is. ap (λ (b : Bool). not b) e };
   window = record { same = ap (λ (n : ℕ). new_meter n) (sym size_is) ∙ sym (still f.size t.story begins.unsaid); inside = tt };
-  told = record { content = content; known = λ n e. absurd (both_ways (knows told n) (nothing n) e) };
+  told = record { content = content; known = λ n. nothing n ∙ sym (begins.unheard n) };
   claims = ap (take 128) (sym begins.unclaimed);
   proven = sym begins.unproven;
   own = record { named = λ i moment e. absurd (none_some moment e); expired = λ e. absurd (false≢true e); choked = λ e. absurd (false≢true e) };

@@ -1,18 +1,19 @@
 -- Lines that do nothing to a seat, and frames that grow.
 use Rattle.pp_traffic.specs.Fates.{clock}
-use Rattle.std.proofs.Common.{◌≡◌, ⊎_elim, ℕ, ◌+◌, ◌<◌, ◌≤◌, eqb, nat_lt, Bool, true, false, cond, not, ◌&&◌, ◌||◌, Some, None, List, [], ◌∷◌, length, take, refl, sym, ◌∙◌, ap, subst, arith, Option}
+use Rattle.std.proofs.Common.{◌≡◌, ⊎_elim, ℕ, ◌+◌, ◌<◌, ◌≤◌, eqb, nat_lt, nat_le, Bool, true, false, cond, not, ◌&&◌, ◌||◌, Some, None, List, [], ◌∷◌, length, take, refl, sym, ◌∙◌, ap, subst, arith, Option}
 use Rattle.std.specs.List.{AllByRecursion}
 use Rattle.std.proofs.lemmas.Bool.{cond-true, or_left, or_right, or_from, and_right, both_ways, lt-ltb, false≢true, and_parts, and_from}
 use Rattle.std.proofs.lemmas.Bool.Decides.{nat_tests}
 use Rattle.std.proofs.lemmas.List.Sums.{sum_by-cons}
 use Rattle.pp_terms.specs.format.Messages.{Message, Handshake, Data, Ack, Have, Integrity, Pex4, PexReq, Request, Cancel, Choke, Unchoke, Pex6}
-use Rattle.pp_terms.specs.tree.Tree.{Node}
+use Rattle.pp_terms.specs.tree.Tree.{Node, height, is_peak}
+use Rattle.pp_terms.specs.tree.Bins.{parent_of}
 use Rattle.pp_terms.specs.tree.Range.{Span, within}
 use Rattle.pp_traffic.specs.declared.entries.Entry.{Entry}
 use Rattle.pp_traffic.specs.Story.{Line, Heard, Said, Taken}
 use Rattle.pp_traffic.specs.Asking.{choked_by, choked, asked_by, asked_after, asked, asks_in}
-use Rattle.pp_traffic.specs.Claims.{claims_in, with_claim}
-use Rattle.pp_traffic.specs.Hashes.{tells, is_told}
+use Rattle.pp_traffic.specs.Claims.{claims_in, with_claim, cut_to}
+use Rattle.pp_traffic.specs.Hashes.{meets, tells, is_told}
 use Rattle.pp_traffic.specs.Meter.{Meter, meter, covers, hits, acked, settled}
 use Rattle.pp_traffic.proofs.Chokes.{said_none, said_choked}
 use Rattle.pp_promises.specs.Announced.{is_told_of}
@@ -77,7 +78,7 @@ pub record Alike (f : Frame) (t later : Tale) : Type 0 where
   pub more : asks_in t.story ≤ asks_in later.story
   pub choked_same : choked later.story ≡ choked t.story
   pub meter_same : AllByRecursion (λ e. e.chunk < f.chunks) (meter f.size t.story).entries → meter f.size later.story ≡ meter f.size t.story
-  pub told : (n : Node) → is_told f.chunks t.story n ≡ true → is_told f.chunks later.story n ≡ true
+  pub told : (n : Node) → is_told f.chunks later.story n ≡ is_told f.chunks t.story n
   pub claims : claims_in f.chunks later.proven ≡ claims_in f.chunks t.proven
   pub named : (i moment : ℕ) → is_named_at i moment t.story ≡ true → is_named_at i moment later.story ≡ true
   pub old : has_old_request (clock t.story) t.story ≡ true → has_old_request (clock later.story) later.story ≡ true
@@ -102,7 +103,7 @@ alike_follows f lost s t later cursor answer question a h haves fresh exchange =
         same = w.same ∙ sym (a.meter_same (subst (λ (m : Meter). AllByRecursion (λ e. e.chunk < f.chunks) m.entries) w.same w.inside));
         inside = w.inside;
       };
-      told = record { content = h.told.content; known = λ n e. a.told n (h.told.known n e) };
+      told = record { content = h.told.content; known = λ n. h.told.known n ∙ sym (a.told n) };
       claims = h.claims ∙ ap (take 128) (sym a.claims);
       proven = h.proven;
       own = record {
@@ -132,7 +133,7 @@ same_alike f t = record {
   more = omega arith;
   choked_same = refl;
   meter_same = λ e. refl;
-  told = λ n e. e;
+  told = λ n. refl;
   claims = refl;
   named = λ i m e. e;
   old = λ e. e;
@@ -146,7 +147,7 @@ twice_alike f t later last a b = record {
   more = (let one = a.more in let other = b.more in omega arith);
   choked_same = b.choked_same ∙ a.choked_same;
   meter_same = λ e. b.meter_same (subst (λ (m : Meter). AllByRecursion (λ e. e.chunk < f.chunks) m.entries) (sym (a.meter_same e)) e) ∙ a.meter_same e;
-  told = λ n e. b.told n (a.told n e);
+  told = λ n. b.told n ∙ a.told n;
   claims = b.claims ∙ a.claims;
   named = λ i m e. b.named i m (a.named i m e);
   old = λ e. b.old (a.old e);
@@ -175,6 +176,17 @@ not_asked chunks i span c before is lt = ap (λ (b : Bool). (b && not c) || befo
 not_withdrawn : (chunks i : ℕ) (span : Span) (before : Bool) → inside chunks span ≡ None → i < chunks → (not (within span i) && before) ≡ before
 not_withdrawn chunks i span before is lt = ap (λ (b : Bool). not b && before) (out_within chunks span i is lt)
 
+-- a range that names no chunk of the content tells nothing
+outside_tells : (chunks : ℕ) (span : Span) (n : Node) (story : List Line) → inside chunks span ≡ None
+    → (tells chunks span n || is_told chunks story n) ≡ is_told chunks story n
+outside_tells chunks span n story e = by (nat_lt span.first chunks) (nat_le span.first span.last) e
+  where
+    by : (a b : Bool) → cond (a && b) (Some (cut_to chunks span)) None ≡ None
+        → ((a && b && (is_peak chunks n || (nat_lt n.layer (height chunks) && meets chunks span (parent_of n)))) || is_told chunks story n) ≡ is_told chunks story n
+    by true true e = absurd cc
+    by true false e = refl
+    by false b e = refl
+
 -- a message that came
 heard_alike : (f : Frame) (now : ℕ) (m : Message) (t : Tale) → IsIdleHeard f.chunks m → Alike f t (with_line (Heard now m) f.proven t)
 heard_alike f now (Handshake source options) t h = record {
@@ -183,7 +195,7 @@ heard_alike f now (Handshake source options) t h = record {
   more = omega arith;
   choked_same = refl;
   meter_same = λ e. refl;
-  told = λ n e. e;
+  told = λ n. refl;
   claims = unclaimed f.chunks now f.proven (Handshake source options) t.proven refl;
   named = λ i m e. e;
   old = old_stays (Heard now (Handshake source options)) t.story;
@@ -196,7 +208,7 @@ heard_alike f now (Ack span delay) t h = record {
   more = omega arith;
   choked_same = refl;
   meter_same = λ e. no_ack f.chunks span delay now (meter f.size t.story) h e;
-  told = λ n e. or_right (tells f.chunks span n) (is_told f.chunks t.story n) e;
+  told = λ n. outside_tells f.chunks span n t.story h;
   claims = unclaimed f.chunks now f.proven (Ack span delay) t.proven refl;
   named = λ i m e. e;
   old = old_stays (Heard now (Ack span delay)) t.story;
@@ -208,7 +220,7 @@ heard_alike f now (Have span) t h = record {
   more = omega arith;
   choked_same = refl;
   meter_same = λ e. refl;
-  told = λ n e. or_right (tells f.chunks span n) (is_told f.chunks t.story n) e;
+  told = λ n. outside_tells f.chunks span n t.story h;
   claims = unclaimed f.chunks now f.proven (Have span) t.proven refl;
   named = λ i m e. e;
   old = old_stays (Heard now (Have span)) t.story;
@@ -220,7 +232,7 @@ heard_alike f now (Integrity span digest) t h = record {
   more = omega arith;
   choked_same = refl;
   meter_same = λ e. refl;
-  told = λ n e. e;
+  told = λ n. refl;
   claims = unclaimed f.chunks now f.proven (Integrity span digest) t.proven (ap (λ o. with_claim o digest (claims_in f.chunks t.proven)) (named_out f.chunks span h));
   named = λ i m e. e;
   old = old_stays (Heard now (Integrity span digest)) t.story;
@@ -232,7 +244,7 @@ heard_alike f now (Pex4 address port) t h = record {
   more = omega arith;
   choked_same = refl;
   meter_same = λ e. refl;
-  told = λ n e. e;
+  told = λ n. refl;
   claims = unclaimed f.chunks now f.proven (Pex4 address port) t.proven refl;
   named = λ i m e. e;
   old = old_stays (Heard now (Pex4 address port)) t.story;
@@ -244,7 +256,7 @@ heard_alike f now PexReq t h = record {
   more = omega arith;
   choked_same = refl;
   meter_same = λ e. refl;
-  told = λ n e. e;
+  told = λ n. refl;
   claims = unclaimed f.chunks now f.proven PexReq t.proven refl;
   named = λ i m e. e;
   old = old_stays (Heard now PexReq) t.story;
@@ -256,7 +268,7 @@ heard_alike f now (Request span) t h = record {
   more = omega arith;
   choked_same = refl;
   meter_same = λ e. refl;
-  told = λ n e. e;
+  told = λ n. refl;
   claims = unclaimed f.chunks now f.proven (Request span) t.proven refl;
   named = λ i m e. e;
   old = old_stays (Heard now (Request span)) t.story;
@@ -268,7 +280,7 @@ heard_alike f now (Cancel span) t h = record {
   more = omega arith;
   choked_same = refl;
   meter_same = λ e. refl;
-  told = λ n e. e;
+  told = λ n. refl;
   claims = unclaimed f.chunks now f.proven (Cancel span) t.proven refl;
   named = λ i m e. e;
   old = old_stays (Heard now (Cancel span)) t.story;
@@ -282,7 +294,7 @@ heard_alike f now (Pex6 address port) t h = record {
   more = omega arith;
   choked_same = refl;
   meter_same = λ e. refl;
-  told = λ n e. e;
+  told = λ n. refl;
   claims = unclaimed f.chunks now f.proven (Pex6 address port) t.proven refl;
   named = λ i m e. e;
   old = old_stays (Heard now (Pex6 address port)) t.story;
@@ -307,7 +319,7 @@ one_alike f now (Handshake source options) t h = record {
   more = omega arith;
   choked_same = refl;
   meter_same = λ e. refl;
-  told = λ n e. e;
+  told = λ n. refl;
   claims = refl;
   named = λ i m e. e;
   old = old_stays (Said now (Handshake source options)) t.story;
@@ -320,7 +332,7 @@ one_alike f now (Ack span delay) t h = record {
   more = omega arith;
   choked_same = refl;
   meter_same = λ e. refl;
-  told = λ n e. e;
+  told = λ n. refl;
   claims = refl;
   named = λ i m e. e;
   old = old_stays (Said now (Ack span delay)) t.story;
@@ -332,7 +344,7 @@ one_alike f now (Have span) t h = record {
   more = omega arith;
   choked_same = refl;
   meter_same = λ e. refl;
-  told = λ n e. e;
+  told = λ n. refl;
   claims = refl;
   named = λ i m e. e;
   old = old_stays (Said now (Have span)) t.story;
@@ -344,7 +356,7 @@ one_alike f now (Integrity span digest) t h = record {
   more = omega arith;
   choked_same = refl;
   meter_same = λ e. refl;
-  told = λ n e. e;
+  told = λ n. refl;
   claims = refl;
   named = λ i m e. e;
   old = old_stays (Said now (Integrity span digest)) t.story;
@@ -356,7 +368,7 @@ one_alike f now (Pex4 address port) t h = record {
   more = omega arith;
   choked_same = refl;
   meter_same = λ e. refl;
-  told = λ n e. e;
+  told = λ n. refl;
   claims = refl;
   named = λ i m e. e;
   old = old_stays (Said now (Pex4 address port)) t.story;
@@ -368,7 +380,7 @@ one_alike f now PexReq t h = record {
   more = omega arith;
   choked_same = refl;
   meter_same = λ e. refl;
-  told = λ n e. e;
+  told = λ n. refl;
   claims = refl;
   named = λ i m e. e;
   old = old_stays (Said now PexReq) t.story;
@@ -380,7 +392,7 @@ one_alike f now (Request span) t h = record {
   more = omega arith;
   choked_same = refl;
   meter_same = λ e. refl;
-  told = λ n e. e;
+  told = λ n. refl;
   claims = refl;
   named = λ i m e. or_right (within span i && eqb now m) (is_named_at i m t.story) e;
   old = old_stays (Said now (Request span)) t.story;
@@ -392,7 +404,7 @@ one_alike f now (Cancel span) t h = record {
   more = omega arith;
   choked_same = refl;
   meter_same = λ e. refl;
-  told = λ n e. e;
+  told = λ n. refl;
   claims = refl;
   named = λ i m e. e;
   old = old_stays (Said now (Cancel span)) t.story;
@@ -406,7 +418,7 @@ one_alike f now (Pex6 address port) t h = record {
   more = omega arith;
   choked_same = refl;
   meter_same = λ e. refl;
-  told = λ n e. e;
+  told = λ n. refl;
   claims = refl;
   named = λ i m e. e;
   old = old_stays (Said now (Pex6 address port)) t.story;

@@ -101,7 +101,7 @@ passed_stays s i list is less = record {
 }
 
 pub below_stays : (s : SeatState) (i : ℕ) (list : List Span) → list ≡ without_below i s.list → length list ≤ length s.list
-    → Stays (AreUnannounced i) s (record s { list = list })
+    → Stays (AreUnannounced s.list i) s (record s { list = list })
 below_stays s i list is less = record {
   follows = λ f lost t none h.
       subst (λ (xs : List Span). Follows f lost (record s { list = xs }) t) (sym is) (record {

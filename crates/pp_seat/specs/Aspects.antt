@@ -37,10 +37,10 @@ pub record Sends (chunks : ℕ) (window meter : Meter) : Type 0 where
   pub same : window ≡ meter
   pub inside : AllByRecursion (λ e. e.chunk < chunks) window.entries
 
--- The nodes of the content that the other peer told are no more than it did.
+-- The other peer told that it knows just these nodes of the content.
 pub record Knows (chunks : ℕ) (told : ToldNodes) (are_told : Node → Bool) : Type 0 where
   pub content : told.chunks ≡ chunks
-  pub known : (n : Node) → knows told n ≡ true → are_told n ≡ true
+  pub known : (n : Node) → knows told n ≡ are_told n
 
 -- Each chunk that this peer waits for is one of the content, and is named by a REQUEST of that moment. Where asking has stopped, some REQUEST is old;
 -- where the other peer's CHOKE is noted, it stands.

@@ -1,6 +1,7 @@
 -- What a seat keeps is what the story of its channel says, and how it stays so.
 use Rattle.std.specs.Prelude.{◌≡◌, ◌⊎◌, ℕ, ◌+◌, ◌<◌, ◌≤◌, Bool, true, false, Option, Some, None, List, [], ◌∷◌, length, take}
 use Rattle.pp_terms.specs.tree.Range.{Span, has}
+use Rattle.pp_terms.specs.tree.Tree.{Node}
 use Rattle.pp_terms.specs.format.Messages.{Message, Data, Request, Choke, Unchoke, Have, Pex4, PexReq, Pex6}
 use Rattle.pp_traffic.specs.Story.{Line, Heard, Said, Taken}
 use Rattle.pp_traffic.specs.Asking.{choked, asked, asks_in}
@@ -88,8 +89,8 @@ abbrev pub IsUnannounced : ℕ → Frame → Tale → Type 0
 IsUnannounced i f t = f.since i ≡ None
 
 -- none of those below it that are listed was
-abbrev pub AreUnannounced : ℕ → Frame → Tale → Type 0
-AreUnannounced i f t = (j : ℕ) → j < i → f.since j ≡ None
+abbrev pub AreUnannounced : List Span → ℕ → Frame → Tale → Type 0
+AreUnannounced list i f t = (j : ℕ) → j < i → has list j ≡ true → f.since j ≡ None
 
 -- nor was any chunk from one on that is below another
 abbrev pub IsPassed : (cursor first : ℕ) → Frame → Tale → Type 0
@@ -152,5 +153,6 @@ pub record Begins (f : Frame) (t : Tale) : Type 0 where
   pub unsaid : IsUnsaid t.story
   pub unproven : f.proven ≡ false
   pub unclaimed : claims_in f.chunks t.proven ≡ []
+  pub unheard : (n : Node) → is_told f.chunks t.story n ≡ false
   pub untold : (i : ℕ) → t.told i ≡ false
   pub unasked : (i place : ℕ) → f.since i ≡ Some place → (length t.story ≤ place) ⊎ (asked_since place i t.story ≡ false)

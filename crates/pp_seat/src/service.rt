@@ -112,7 +112,7 @@ impl Seat {
     pub fn drop_below(&mut self, i: u32) -> u32
         ensures exact { self.new ≡ record self.old { list = without_below i self.old.list } }
         ensures count { result + chunk_count self.new.list ≡ chunk_count self.old.list }
-        ensures passed { Stays (AreUnannounced i) self.old self.new }
+        ensures passed { Stays (AreUnannounced self.old.list i) self.old self.new }
     {
         self.list.drop_below(i)
     }

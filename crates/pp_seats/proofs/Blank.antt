@@ -10,6 +10,8 @@ use Rattle.pp_traffic.specs.Life.{Life, greets, comes_on}
 use Rattle.pp_traffic.specs.Story.{Line, Heard, Said, Taken, hear, say, heard_in, said_in, told}
 use Rattle.pp_traffic.specs.Asking.{is_heard}
 use Rattle.pp_traffic.specs.Claims.{claims_in}
+use Rattle.pp_traffic.specs.Hashes.{is_told}
+use Rattle.pp_terms.specs.tree.Tree.{Node}
 use Rattle.pp_traffic.proofs.Plains.{none_from_end}
 use Rattle.pp_promises.specs.ReadStory.{is_read, with_unread, read_story, proven_story}
 use Rattle.pp_promises.specs.OwnSide.{has_in}
@@ -39,6 +41,12 @@ claims_blank chunks [] e = refl
 claims_blank chunks (Heard now m ∷ story) e = absurd cc
 claims_blank chunks (Said now m ∷ story) e = absurd cc
 claims_blank chunks (Taken now ∷ story) e = claims_blank chunks story e
+
+told_blank : (chunks : ℕ) (story : List Line) (n : Node) → is_blank story ≡ true → is_told chunks story n ≡ false
+told_blank chunks [] n e = refl
+told_blank chunks (Heard now m ∷ story) n e = absurd cc
+told_blank chunks (Said now m ∷ story) n e = absurd cc
+told_blank chunks (Taken now ∷ story) n e = told_blank chunks story n e
 
 -- no message made it so
 hear_blank : (now : ℕ) (ms : List Message) (story : List Line) → is_blank (hear now ms story) ≡ true → (ms ≡ []) × (is_blank story ≡ true)
@@ -160,6 +168,7 @@ dial_begins d life f past dialled blank unproven = record {
   unsaid = unsaid_blank (read_story d life past) blank;
   unproven = unproven;
   unclaimed = claims_blank f.chunks (proven_story d life past) (proven_blank d life past dialled blank);
+  unheard = λ n. told_blank f.chunks (read_story d life past) n blank;
   untold = λ i. untold_blank d life i past blank;
   unasked = λ i place is. inr (asked_blank place i (read_story d life past) blank);
 }
