@@ -1,8 +1,8 @@
 //! What the other peer asks for and is sent.
 
-ghost use Rattle.std.specs.Prelude.{◌≡◌, ◌↔◌, ◌⊎◌, ◌+◌, ◌<◌, ◌≤◌, ◌||◌, ℕ, List, [], true, false, Some, MatchOption, IfSome};
+ghost use Rattle.std.specs.Prelude.{◌≡◌, ◌↔◌, ◌⊎◌, ◌+◌, ◌<◌, ◌≤◌, ◌||◌, ℕ, List, [], true, false, Some, MatchOption, IfSome, IsSome};
 ghost use Rattle.pp_terms.specs.format.Messages.{Data, Request, Cancel, Choke, Unchoke};
-ghost use Rattle.pp_terms.specs.tree.Range.{Span, within, has};
+ghost use Rattle.pp_terms.specs.tree.Range.{Span, within, has, IsRunsFrom};
 ghost use Rattle.pp_ranges.specs.Edits.{inserted, removed, without_below};
 ghost use Rattle.pp_traffic.specs.Meter as terms;
 ghost use Rattle.pp_traffic.specs.Story.{Heard, Said, Taken};
@@ -71,6 +71,7 @@ impl Seat {
     pub fn next(&self) -> Option<u32>
         ensures next { MatchOption result (IsDone self.now) (IsNext self.now) }
         ensures content { IfSome result (λ i. i < self.now.told.chunks) }
+        ensures runs { IsSome result → IsRunsFrom 0 self.now.list }
         ensures answers { IfSome result (λ i. (f : Frame) (lost : Lost) (t : Tale) → Follows f lost self.now t → Answers f t i) }
     {
         if !self.slot {

@@ -8,3 +8,6 @@ pub mod Firsts
 pub mod Waits
 pub mod Outgoing
 pub mod Speaking
+pub mod Carrying
+pub mod Passing
+pub mod Launching

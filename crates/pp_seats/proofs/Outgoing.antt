@@ -330,7 +330,7 @@ pub record Leaves (x : Setting) (t : Seats) (lives : ℕ → Option Life) (k : �
   pub others : (most n : ℕ) (e : Channel) (l : Life) (s : SeatState) → n ≢ k → channel_at t n ≡ Some e → is_waiting e ≡ false → lives n ≡ Some l
       → IsFollowed x most s l past → IsFollowed x most s l after
 
-leaves_none : (x : Setting) (t : Seats) (lives : ℕ → Option Life) (k : ℕ) (past : List Record) → Standing x.d t lives past → Leaves x t lives k past past
+pub leaves_none : (x : Setting) (t : Seats) (lives : ℕ → Option Life) (k : ℕ) (past : List Record) → Standing x.d t lives past → Leaves x t lives k past past
 leaves_none x t lives k past s = record { standing = s; moment = refl; others = λ most n e l o ne there known living h. h }
 
 leaves_twice : (x : Setting) (t : Seats) (lives : ℕ → Option Life) (k : ℕ) (past mid after : List Record) → Leaves x t lives k past mid → Leaves x t lives k mid after
@@ -342,7 +342,7 @@ leaves_twice x t lives k past mid after one two = record {
 }
 
 -- one datagram without a handshake, to the channel's peer
-leaves_one : (d : Descriptor) (found : ℕ → Bool) (turn : List Record) (t : Seats) (lives : ℕ → Option Life) (k : ℕ) (c : Channel) (life : Life) (moment : ℕ) (bytes : List ℕ) (ms : List Message) (past : List Record)
+pub leaves_one : (d : Descriptor) (found : ℕ → Bool) (turn : List Record) (t : Seats) (lives : ℕ → Option Life) (k : ℕ) (c : Channel) (life : Life) (moment : ℕ) (bytes : List ℕ) (ms : List Message) (past : List Record)
     → Standing d t lives past → channel_at t k ≡ Some c → lives k ≡ Some life → is_waiting c ≡ false
     → (read d (Sent moment (address_of c.address) bytes)).channel ≡ Some life.remote → (read d (Sent moment (address_of c.address) bytes)).messages.read ≡ ms
     → ((number : ℕ) → begins_as number ms ≡ false)
@@ -426,6 +426,52 @@ noted_sent t k c sent at there = by (nat_lt 0 sent)
       are = λ a. are_changed t k c (λ x. record x { wrote = at }) a there refl;
     }
 
+-- The seats stand for the traffic with records more, where these leave the others as they were and one of them follows.
+pub settled : (x : Setting) (most more : ℕ) (p : SeatsState) (k : ℕ) (c : Channel) (sent : ℕ) (before after : SeatState) (added past : List Record)
+    → (h : StandsFor x most p past) → channel_at p.table k ≡ Some c → is_waiting c ≡ false → slice_get p.seats k ≡ Some before → most ≤ more
+    → Leaves x p.table h.lives k past (added ++ past) → ((life : Life) → h.lives k ≡ Some life → IsFollowed x more after life (added ++ past))
+    → StandsFor x more (record p { table = with_sent p.table k sent p.moment; seats = set p.seats k after }) (added ++ past)
+settled x most more p k c sent before after added past h there known has le leaves own =
+    let t = p.table in
+    let noted = noted_sent t k c sent p.moment there in
+    let new = with_sent t k sent p.moment in
+    let waits : is_waiting noted.channel ≡ is_waiting c = steady_waits c noted.channel noted.steady in
+    let stays = steady_stays x.d t new h.lives k c noted.channel (added ++ past) leaves.standing there noted.steady noted.begun (noted.are h.standing.seated.are) noted.change in
+    record {
+      swarm = h.swarm;
+      now_is = h.now_is ∙ sym leaves.moment;
+      later = added ++ h.later;
+      is_later = ap (λ (xs : List Record). added ++ xs) h.is_later ∙ sym (append_assoc added h.later x.turn);
+      lives = h.lives;
+      standing = stays.0;
+      begun = begun_changed t new k noted.channel noted.change (λ w. noted.begun ∙ h.begun k c there (sym waits ∙ w)) h.begun;
+      follow = λ n e l s at unwaits lives_there seat_there. ⊎_elim
+          (λ here.
+          let n_is = eqb-true n k here in
+          let s_is : after ≡ s = same_Some after s (sym (get_set_there p.seats k after before has) ∙ ap (slice_get (set p.seats k after)) (sym n_is) ∙ seat_there) in
+          subst (λ (o : SeatState). IsFollowed x more o l (added ++ past)) s_is (own l (ap h.lives (sym n_is) ∙ lives_there)))
+          (λ apart.
+          let ne = eqb-false n k apart in
+          let at_before = sym (noted.change.others n ne) ∙ at in
+          let seat_before = sym (get_set_other p.seats k n after ne) ∙ seat_there in
+          leaves.others more n e l s ne at_before unwaits lives_there
+          (more_followed x most more s l past le (h.follow n e l s at_before unwaits lives_there seat_before)))
+          (cases_Bool (eqb n k));
+    }
+
+-- What is known of a channel on which something may be said.
+pub record Knows (d : Descriptor) (c : Channel) (life : Life) (past : List Record) : Type 0 where
+  pub began : life.opening < length past
+  pub address : life.address ≡ address_of c.address
+  pub number : unwrap_or c.remote 0 ≡ life.remote
+
+pub knows_of : (x : Setting) (most : ℕ) (p : SeatsState) (k : ℕ) (c : Channel) (past : List Record) (h : StandsFor x most p past) → channel_at p.table k ≡ Some c → is_waiting c ≡ false
+    → (life : Life) × (h.lives k ≡ Some life) × Knows x.d c life past
+knows_of x most p k c past h there known =
+    let living = living_of x.d p.table h.lives past k c h.standing.seated there (inl known) in
+    let st = stands_of x.d (channel_at p.table k) (h.lives k) c living.0 past (h.standing.seated.each k) there living.1 in
+    (living.0, living.1, record { began = began x.d c living.0 past st; address = st.address; number = ap (λ (o : Option ℕ). unwrap_or o 0) (st.remote known).0 })
+
 -- the seats stand for the traffic with what was said on one of them
 pub spoken : (found : ℕ → Bool) (turn : List Record) (most : ℕ) (p : SeatsState) (k : ℕ) (c : Channel) (moment : ℕ) (bs : List Batch) (before after : SeatState) (link later : LinkState) (delivered : Delivered) (past : List Record) (held : ℕ → Bool)
     → let x : Setting = record { d = p.descriptor; is_found = found; turn = turn } in
@@ -438,48 +484,18 @@ pub spoken : (found : ℕ → Bool) (turn : List Record) (most : ℕ) (p : Seats
 spoken found turn most p k c moment bs before after link later delivered past held h there known has plains each holds may =
     let d = p.descriptor in
     let x : Setting = record { d = d; is_found = found; turn = turn } in
-    let t = p.table in
-    let w = W d c (unwrap_or c.remote 0) moment p.moment in
-    let living = living_of d t h.lives past k c h.standing.seated there (inl known) in
-    let life = living.0 in
-    let st = stands_of d (channel_at t k) (h.lives k) c life past (h.standing.seated.each k) there living.1 in
-    let number : unwrap_or c.remote 0 ≡ life.remote = ap (λ (o : Option ℕ). unwrap_or o 0) (st.remote known).0 in
-    let on : IsOn w life past = record {
-      begun = began d c life past st;
-      address = subst (λ (a : traffic.Address). same_address (address_of c.address) a ≡ true) (sym st.address) (same_self (address_of c.address));
-      number = number;
+    let from : At = record { seat = before; link = link; so_far = none_delivered } in
+    let to : At = record { seat = after; link = later; so_far = delivered } in
+    let knows = knows_of x most p k c past h there known in
+    let life = knows.0 in
+    let on : IsOn (W d c (unwrap_or c.remote 0) moment p.moment) life past = record {
+      begun = knows.2.began;
+      address = subst (λ (a : traffic.Address). same_address (address_of c.address) a ≡ true) (sym knows.2.address) (same_self (address_of c.address));
+      number = knows.2.number;
       moment = h.now_is;
     } in
-    let leaves = leaves_all d found turn t h.lives k c life (unwrap_or c.remote 0) moment p.moment bs
-    (record { seat = before; link = link; so_far = none_delivered }) (record { seat = after; link = later; so_far = delivered }) past
-    h.standing there living.1 known number plains each in
-    let own = own_followed d found turn most c (unwrap_or c.remote 0) moment p.moment bs
-    (record { seat = before; link = link; so_far = none_delivered }) (record { seat = after; link = later; so_far = delivered }) life past held
-    each on (h.follow k c life before there known living.1 has) refl refl holds may in
-    let noted = noted_sent t k c delivered.sent p.moment there in
-    let new = with_sent t k delivered.sent p.moment in
-    let waits : is_waiting noted.channel ≡ is_waiting c = steady_waits c noted.channel noted.steady in
-    let stays = steady_stays d t new h.lives k c noted.channel (After w bs past) leaves.standing there noted.steady noted.begun (noted.are h.standing.seated.are) noted.change in
-    record {
-      swarm = refl;
-      now_is = h.now_is ∙ sym leaves.moment;
-      later = records_of w bs ++ h.later;
-      is_later = ap (λ (xs : List Record). records_of w bs ++ xs) h.is_later ∙ sym (append_assoc (records_of w bs) h.later turn);
-      lives = h.lives;
-      standing = stays.0;
-      begun = begun_changed t new k noted.channel noted.change (λ w. noted.begun ∙ h.begun k c there (sym waits ∙ w)) h.begun;
-      follow = λ n e l s at unwaits lives_there seat_there. ⊎_elim
-          (λ here.
-          let n_is = eqb-true n k here in
-          let l_is : life ≡ l = same_Some life l (sym living.1 ∙ ap h.lives (sym n_is) ∙ lives_there) in
-          let s_is : after ≡ s = same_Some after s (sym (get_set_there p.seats k after before has) ∙ ap (slice_get (set p.seats k after)) (sym n_is) ∙ seat_there) in
-          subst (λ (y : Life). IsFollowed x (most + delivered.refused) s y (After w bs past)) l_is
-          (subst (λ (o : SeatState). IsFollowed x (most + delivered.refused) o life (After w bs past)) s_is own))
-          (λ apart.
-          let ne = eqb-false n k apart in
-          let at_before = sym (noted.change.others n ne) ∙ at in
-          let seat_before = sym (get_set_other p.seats k n after ne) ∙ seat_there in
-          leaves.others (most + delivered.refused) n e l s ne at_before unwaits lives_there
-          (more_followed x most (most + delivered.refused) s l past (omega arith) (h.follow n e l s at_before unwaits lives_there seat_before)))
-          (cases_Bool (eqb n k));
-    }
+    settled x most (most + delivered.refused) p k c delivered.sent before after (records_of (W d c (unwrap_or c.remote 0) moment p.moment) bs) past h there known has (omega arith)
+    (leaves_all d found turn p.table h.lives k c life (unwrap_or c.remote 0) moment p.moment bs from to past h.standing there knows.1 known knows.2.number plains each)
+    (λ l lives_there. subst (λ (y : Life). IsFollowed x (most + delivered.refused) after y (After (W d c (unwrap_or c.remote 0) moment p.moment) bs past))
+    (same_Some life l (sym knows.1 ∙ lives_there))
+    (own_followed d found turn most c (unwrap_or c.remote 0) moment p.moment bs from to life past held each on (h.follow k c life before there known knows.1 has) refl refl holds may))

@@ -2,3 +2,4 @@ pub mod Standing
 pub mod Hearing
 pub mod Laws
 pub mod Sending
+pub mod Serving

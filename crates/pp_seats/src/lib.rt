@@ -6,8 +6,10 @@ ghost use Rattle.pp_seats.specs.Laws.{HearingComposes, NothingYet};
 
 mod seats;
 mod sending;
+mod serving;
 
 pub use seats::Seats;
+pub use serving::Served;
 
 /// What is heard message by message is heard together, and what seats stand for when nothing came or went yet. It does nothing.
 pub fn laws_of_hearing()

@@ -1,0 +1,46 @@
+-- Chunks that leave a list.
+use Rattle.std.proofs.Common.{◌≡◌, ⊎_elim, ℕ, ◌+◌, ◌<◌, ◌≤◌, max, Bool, true, false, List, [], ◌∷◌, refl, sym, ◌∙◌, ap, arith}
+use Rattle.std.proofs.lemmas.Bool.{cases_lt, and_parts, and_from, or_cases, or_left, both_ways, lt-ltb, le-ltb, le-leb}
+use Rattle.std.proofs.lemmas.Bool.Decides.{nat_tests}
+use Rattle.std.specs.Prelude.{nat_le, nat_lt}
+use Rattle.pp_terms.specs.tree.Range.{Span, within, has, IsRunsFrom}
+use Rattle.pp_ranges.specs.Edits.{without_below, number_count}
+use Rattle.pp_requests.specs.Lists.{IsLeast}
+
+runs_low : (from : ℕ) (xs : List Span) (k : ℕ) → IsRunsFrom from xs → has xs k ≡ true → from ≤ k
+runs_low from [] k r e = absurd cc
+runs_low from (x ∷ xs) k r e = ⊎_elim
+    (λ here. let low = r.0 in grind (arith, nat_tests))
+    (λ later. let low = runs_low (x.last + 2) xs k r.2 later in omega (arith, low, r.0, r.1))
+    (or_cases (within x k) (has xs k) e)
+
+past_is : (i : ℕ) (x : Span) (xs : List Span) → x.last < i → without_below i (x ∷ xs) ≡ without_below i xs
+past_is i x xs lt = rw (lt-ltb x.last i lt, without_below) refl
+
+reaching_is : (i : ℕ) (x : Span) (xs : List Span) → i ≤ x.last → without_below i (x ∷ xs) ≡ record { first = max x.first i; last = x.last } ∷ xs
+reaching_is i x xs le = rw (le-ltb x.last i le, without_below) refl
+
+below_less : (i : ℕ) (xs : List Span) → number_count (without_below i xs) ≤ number_count xs
+below_less i [] = omega arith
+below_less i (x ∷ xs) = ⊎_elim
+    (λ (lt : x.last < i). let is = ap number_count (past_is i x xs lt) in let rest = below_less i xs in omega (arith, is, rest))
+    (λ (le : i ≤ x.last). let is = ap number_count (reaching_is i x xs le) in omega (arith, is))
+    (cases_lt x.last i)
+
+-- where the least chunk is below a number, fewer are left from the number on
+pub below_fewer : (i : ℕ) (xs : List Span) (k : ℕ) → IsRunsFrom 0 xs → IsLeast xs k → k < i → number_count (without_below i xs) < number_count xs
+below_fewer i [] k r least lt = absurd (let e = least.listed in cc)
+below_fewer i (x ∷ xs) k r least lt =
+    let low : k ≤ x.first = ⊎_elim
+    (λ (above : x.first < k). absurd (both_ways (has (x ∷ xs) x.first) (least.lesser x.first above)
+    (or_left (within x x.first) (has xs x.first) (and_from (nat_le x.first x.first) (nat_le x.first x.last) (le-leb x.first x.first (omega arith)) (le-leb x.first x.last r.1)))))
+    (λ (le : k ≤ x.first). le)
+    (cases_lt x.first k) in
+    let first : x.first ≤ k = ⊎_elim
+    (λ here. grind (arith, nat_tests))
+    (λ later. let far = runs_low (x.last + 2) xs k r.2 later in absurd (omega (arith, far, low, r.1)))
+    (or_cases (within x k) (has xs k) least.listed) in
+    ⊎_elim
+    (λ (past : x.last < i). let is = ap number_count (past_is i x xs past) in let rest = below_less i xs in omega (arith, is, rest, r.1))
+    (λ (reach : i ≤ x.last). let is = ap number_count (reaching_is i x xs reach) in omega (arith, is, first, lt, reach))
+    (cases_lt x.last i)
