@@ -9,7 +9,7 @@ ghost use Rattle.pp_channels.specs.Timing.{handshake_due, is_silent, is_over};
 ghost use Rattle.pp_channels.specs.declared.channel.State.TheVariants.{Proven};
 ghost use Rattle.pp_lives.specs.Arrived.{KeepsStanding};
 ghost use Rattle.pp_lives.specs.Arriving.{Welcomes, Meets, Greets, is_proven_at, is_given_up, Answers, Awaited, is_waiting_at, Comes, Numbered, Arrives, IsSeated, Proves, IsBehind};
-ghost use Rattle.pp_lives.specs.Fars.{far_of};
+ghost use Rattle.pp_lives.specs.Fars.{far_of, greeting_of};
 ghost use Rattle.pp_lives.specs.Sending.{with_datagram};
 
 use crate::arriving::{Arrival, First, begin, fits};
@@ -29,6 +29,15 @@ pub struct Far {
     pub proven: bool,
     /// A handshake of this peer was sent. Before that nothing else is to be sent.
     pub begun: bool,
+}
+
+/// A handshake of this peer: from which of its numbers it comes, and where it goes.
+#[derive(Clone, Copy, Debug, PartialEq, Eq)]
+pub struct Greeting {
+    pub source: u32,
+    pub address: Address,
+    /// The other peer's number, 0 while its reply to a dial is awaited.
+    pub number: u32,
 }
 
 /// The channels, each at one of 64 seats, numbered from 0.
@@ -301,6 +310,33 @@ impl Lives {
             proven: self.is_proven(seat),
             begun: self.channels.is_begun(seat),
         })
+    }
+
+    /// What this peer's handshake on a channel is to be: None where the seat is free.
+    pub fn greeting(&self, seat: u8) -> Option<Greeting>
+        ensures exact { result ≡ greeting_of (channel_at self.now seat) }
+        ensures used { IsSome result → IsUsedSeat self.now seat }
+    {
+        match self.channels.state(seat) {
+            Some(_) => Some(self.greeting_of(seat)),
+            None => None,
+        }
+    }
+
+    fn greeting_of(&self, seat: u8) -> Greeting
+        requires { IsUsed self.now seat }
+        ensures { Some result ≡ greeting_of (channel_at self.now seat) }
+    {
+        let number = if self.is_waiting(seat) {
+            0
+        } else {
+            self.channels.remote(seat)
+        };
+        Greeting {
+            source: self.channels.local(seat),
+            address: self.channels.address(seat),
+            number,
+        }
     }
 
     /// How many seats are in use.

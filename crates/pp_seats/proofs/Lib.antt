@@ -11,3 +11,4 @@ pub mod Speaking
 pub mod Carrying
 pub mod Passing
 pub mod Launching
+pub mod Handshakes

@@ -109,16 +109,16 @@ more_followed x most more s life past le h = record {
   marked = h.marked;
 }
 
--- what was said elsewhere isn't said on a channel whose reading stays as it was
-pub other_unsaid : (d : Descriptor) (t new : Seats) (lives : ℕ → Option Life) (n : ℕ) (c : Channel) (life : Life) (moment : ℕ) (receiver : traffic.Address) (bytes : List ℕ) (past : List Record)
-    → Standing d t lives past → channel_at t n ≡ Some c → is_waiting c ≡ false → lives n ≡ Some life → channel_at new n ≡ Some c
-    → read_at d new lives (Sent moment receiver bytes ∷ past) n ≡ read_at d t lives past n
+-- What was said elsewhere isn't said on a channel whose reading stays as it was.
+pub unsaid_there : (d : Descriptor) (t new : Seats) (lives later : ℕ → Option Life) (n : ℕ) (c : Channel) (life : Life) (moment : ℕ) (receiver : traffic.Address) (bytes : List ℕ) (past : List Record)
+    → Standing d t lives past → channel_at t n ≡ Some c → is_waiting c ≡ false → lives n ≡ Some life → channel_at new n ≡ Some c → later n ≡ Some life
+    → read_at d new later (Sent moment receiver bytes ∷ past) n ≡ read_at d t lives past n
     → said_in d life (Sent moment receiver bytes) ≡ []
-other_unsaid d t new lives n c life moment receiver bytes past s there known living there_now same =
+unsaid_there d t new lives later n c life moment receiver bytes past s there known living there_now living_now same =
     let r = Sent moment receiver bytes in
     let st = stands_of d (channel_at t n) (lives n) c life past (s.seated.each n) there living in
     let before = told_is d (channel_at t n) (lives n) c life past there living known in
-    let after = told_is d (channel_at new n) (lives n) c life (r ∷ past) there_now living known in
+    let after = told_is d (channel_at new n) (later n) c life (r ∷ past) there_now living_now known in
     let story : read_story d life (r ∷ past) ≡ read_story d life past = same_Some (read_story d life (r ∷ past)) (read_story d life past) (sym after ∙ same ∙ before) in
     said_none (now past) (said_in d life r) (read_story d life past) (sym (read_sent d life moment receiver bytes past (began d c life past st)) ∙ story)
 
@@ -363,7 +363,7 @@ leaves_one d found turn t lives k c life moment bytes ms past s there living kno
       others = λ most n e l o ne at unwaits lives_there h.
           let st = stands_of d (channel_at t n) (lives n) e l past (s.seated.each n) at lives_there in
           unsaid_followed x most o l moment (address_of c.address) bytes past h (began d e l past st)
-          (other_unsaid d t t lives n e l moment (address_of c.address) bytes past s at unwaits lives_there at (stays.1.others n ne));
+          (unsaid_there d t t lives lives n e l moment (address_of c.address) bytes past s at unwaits lives_there at lives_there (stays.1.others n ne));
     }
 
 pub leaves_all : (d : Descriptor) (found : ℕ → Bool) (turn : List Record) (t : Seats) (lives : ℕ → Option Life) (k : ℕ) (c : Channel) (life : Life) (channel moment at : ℕ) (bs : List Batch) (old new : At) (past : List Record)

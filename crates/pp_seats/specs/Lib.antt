@@ -3,3 +3,4 @@ pub mod Hearing
 pub mod Laws
 pub mod Sending
 pub mod Serving
+pub mod Greeting

@@ -4,6 +4,7 @@
 
 ghost use Rattle.pp_seats.specs.Laws.{HearingComposes, NothingYet};
 
+mod greeting;
 mod seats;
 mod sending;
 mod serving;
