@@ -421,21 +421,19 @@ read_backed d store book i bytes disk left can lt whole reads = record { rooted 
 -- ---- where a run of chunks that aren't committed ends
 
 pub record EndsRun (set : List Bool) (i end : ℕ) : Type 0 where
-  pub above : i < end
+  pub low : i ≤ end
   pub none : (j : ℕ) → i ≤ j → j < end → slice_index_or set j false ≡ false
+  pub at : end ≤ i → slice_index_or set i false ≡ true
 
-pub run_ends : (set : List Bool) (i chunks : ℕ) (o : Option ℕ) → i < chunks → slice_index_or set i false ≡ false
+pub run_ends : (set : List Bool) (i chunks : ℕ) (o : Option ℕ) → i < chunks
     → MatchOption o ((k : ℕ) → i ≤ k → slice_index_or set k false ≡ false)
     (λ e. (i ≤ e) × (e < length set) × (slice_index_or set e false ≡ true) × ((k : ℕ) → i ≤ k → k < e → slice_index_or set k false ≡ false))
     → EndsRun set i (unwrap_or o chunks)
-run_ends set i chunks None lt absent m = record { above = lt; none = λ j le below. m j le }
-run_ends set i chunks (Some e) lt absent m = record {
-  above = ⊎_elim
-      (λ (below : i < e). below)
-      (λ (le : e ≤ i). let same : i ≡ e = (let low = m.0 in omega (arith, low, le)) in
-      absurd (both_ways (slice_index_or set i false) absent (ap (λ (k : ℕ). slice_index_or set k false) same ∙ m.2)))
-      (cases_lt i e);
+run_ends set i chunks None lt m = record { low = omega (arith, lt); none = λ j le below. m j le; at = λ over. absurd (omega (arith, lt, over)) }
+run_ends set i chunks (Some e) lt m = record {
+  low = m.0;
   none = m.3;
+  at = λ over. (let same : i ≡ e = (let low = m.0 in omega (arith, low, over)) in ap (λ (k : ℕ). slice_index_or set k false) same ∙ m.2);
 }
 
 -- ---- what a delivery answers

@@ -1,5 +1,5 @@
 -- Chunks that go out on the seats' channels.
-use Rattle.std.specs.Prelude.{◌≡◌, ◌⊎◌, ℕ, ◌+◌, ◌<◌, Bool, true, false, Option, Some, None, Ok, Err, List, [], ◌∷◌, ◌++◌, length, slice_get, slice_set, slice_index_or}
+use Rattle.std.specs.Prelude.{◌≡◌, ◌⊎◌, ℕ, ◌+◌, ◌<◌, Bool, true, false, Option, Some, None, Ok, Err, List, [], ◌∷◌, ◌++◌, slice_get, slice_set, slice_index_or}
 use Rattle.pp_terms.specs.Count.{HasRisen}
 use Rattle.pp_terms.specs.disk.Disk.{DiskState, moment_of}
 use Rattle.pp_terms.specs.format.Traffic as traffic
@@ -34,7 +34,6 @@ use Rattle.pp_seats.specs.Sending.{HoldsAnnounced, IsSilent}
 -- The store is one of the swarm, and the book has what goes before each chunk that the store holds.
 pub record CanServe (d : Descriptor) (s : StoreState) (book : LookUp) : Type 0 where
   pub swarm : s.descriptor ≡ d
-  pub size : length s.committed ≡ chunks_of d
   pub rooted : IsRooted d book
   pub knows : KnowsHeld s book
 

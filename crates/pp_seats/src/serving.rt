@@ -1,9 +1,9 @@
 //! Chunks that go out on the seats' channels.
 
-ghost use Rattle.std.specs.Prelude.{◌≡◌, ◌<◌, MatchOption, true, false};
+ghost use Rattle.std.specs.Prelude.{◌≡◌, ◌<◌, MatchOption, true};
 ghost use Rattle.pp_terms.specs.disk.Disk.{moment_of};
 ghost use Rattle.pp_tree.specs.Book.{entry};
-ghost use Rattle.pp_seats.specs.Serving.{CanServe, HasNothing, IsReadied, PassesOver, Launches, Serving, is_committed};
+ghost use Rattle.pp_seats.specs.Serving.{CanServe, HasNothing, IsReadied, Launches, Serving, is_committed};
 
 use crate::seats::Seats;
 use pp_desk::{CommittedChunks, Service, deliver_chunk};
@@ -51,19 +51,6 @@ impl Seats {
             },
             chunk,
         })
-    }
-
-    // Chunks from one on that aren't committed leave the list, up to the next that is.
-    fn pass_over(&mut self, seat: u8, next: &Next, chunks: &CommittedChunks)
-        requires seat { seat < 64 }
-        requires readied { IsReadied self.old seat next.now }
-        requires can { CanServe self.old.descriptor chunks.now.store.now (entry chunks.now.book.now) }
-        requires absent { is_committed chunks.now.store.now next.now.chunk ≡ false }
-        ensures { PassesOver seat chunks.now.store.now self.old self.new }
-    {
-        let first = chunks.store.committed().first_from(next.chunk);
-        let end = first.unwrap_or(self.descriptor.chunks());
-        self.seats[seat as usize].drop_below(end);
     }
 
     // Sends a chunk that may go.
@@ -130,8 +117,10 @@ impl Seats {
         let Some(next) = self.next_on(seat) else {
             return Served::Done;
         };
-        if !chunks.store.committed().contains(next.chunk) {
-            self.pass_over(seat, &next, chunks);
+        let committed = chunks.store.committed().first_from(next.chunk);
+        let first = committed.unwrap_or(self.descriptor.chunks());
+        if next.chunk < first {
+            self.seats[seat as usize].drop_below(first);
             return Served::Passed;
         }
         self.launch(seat, &next, chunks, disk, link)
