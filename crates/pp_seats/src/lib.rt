@@ -8,6 +8,8 @@ mod greeting;
 mod seats;
 mod sending;
 mod serving;
+#[cfg(test)]
+mod tests;
 
 pub use seats::Seats;
 pub use serving::Served;

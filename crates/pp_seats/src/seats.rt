@@ -7,7 +7,7 @@ ghost use Rattle.pp_terms.specs.format.Messages.{Data};
 ghost use Rattle.pp_terms.specs.format.Traffic.{Record, Received, Quiet};
 ghost use Rattle.pp_outside.specs.Outside.{address_of};
 ghost use Rattle.pp_channels.specs.Seats.{IsUsedSeat, closed};
-ghost use Rattle.pp_lives.specs.Arriving.{IsSeated, IsBehind};
+ghost use Rattle.pp_lives.specs.Arriving.{Arrives, IsSeated, IsBehind};
 ghost use Rattle.pp_wire.specs.Views.{message_of};
 ghost use Rattle.pp_desk.specs.Hearing.{IsNoData, Hears};
 ghost use Rattle.pp_seats.specs.Standing.{Setting, AllHold, StandsFor};
@@ -139,6 +139,8 @@ impl Seats {
         ensures stands { (x : Setting) (most : ℕ) (past : List Record) → StandsFor x most self.old past
             → OnceRead self.old.descriptor bytes.now result (λ q. Ready x most q (Received at (address_of from.now) bytes.now) past) self.new }
         ensures makes { Prepares self.old.descriptor slot result (record self.new { seats = self.old.seats }) self.new }
+        ensures arrives { Arrives self.old.descriptor self.old.table from.now self.new.moment bytes.now result self.new.table }
+        ensures swarm { self.new.descriptor ≡ self.old.descriptor }
         ensures now { self.new.moment ≡ max at self.old.moment }
         ensures seated { IsSeated result self.new.table }
         ensures behind { IsBehind self.old.descriptor bytes.now result }

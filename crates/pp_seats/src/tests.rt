@@ -1,0 +1,217 @@
+//! Seats by datagrams. The swarm is that of the content `abc`, of one chunk; with a seed of zeros the first channels have the numbers
+//! ade0b876 and 903df1a0, by the first test vector of ChaCha20 (RFC 8439, appendix A.1).
+ghost use Rattle.std.specs.Prelude.{◌≡◌};
+
+use crate::{Seats, Served};
+use pp_counts::Note;
+use pp_desk::CommittedChunks;
+use pp_draft::Note as Sent;
+use pp_lives::Arrival;
+use pp_outside::{Address, Call, MemoryDisk, MemoryLink, NullDisk};
+use pp_store::Store;
+use pp_tree::{Book, Descriptor, Digest, Method};
+use pp_wire::{Message, Span};
+use std::alloc::Global;
+use std::test::*;
+
+const SECOND: u64 = 1_000_000;
+
+const OURS: u32 = 0xade0_b876;
+
+const THEIRS: u32 = 0x0a0b_0c0d;
+
+const PEER: Address = Address::V4([10, 0, 0, 2], 7000);
+
+// SHA-256 of `abc`.
+const ROOT: [u8; 32] = [
+    0xba, 0x78, 0x16, 0xbf, 0x8f, 0x01, 0xcf, 0xea, 0x41, 0x41, 0x40, 0xde, 0x5d, 0xae, 0x22, 0x23,
+    0xb0, 0x03, 0x61, 0xa3, 0x96, 0x17, 0x7a, 0x9c, 0xb4, 0x10, 0xff, 0x61, 0xf2, 0x00, 0x15, 0xad,
+];
+
+fn swarm() -> Result<Descriptor, Fail> {
+    Ok(Descriptor::new(
+        Digest::new(ROOT),
+        1024,
+        3,
+        Method::Range32,
+    )?)
+}
+
+// A handshake for a channel and from one, with the swarm's options.
+fn handshake(channel: u32, source: u32) -> [u8; 64] {
+    let mut bytes = [0; 64];
+    bytes[..4].copy_from_slice(&channel.to_be_bytes());
+    bytes[5..9].copy_from_slice(&source.to_be_bytes());
+    bytes[9..16].copy_from_slice(&[0, 1, 1, 1, 2, 0, 32]);
+    bytes[16..48].copy_from_slice(&ROOT);
+    bytes[48..].copy_from_slice(&[3, 1, 4, 2, 6, 2, 8, 2, 0xfe, 0xf8, 9, 0, 0, 4, 0, 255]);
+    bytes
+}
+
+// Seats to which a peer opened a channel, with a slot.
+fn opened(alloc: Global) -> Result<Seats, Fail> {
+    let mut seats = Seats::new(alloc, &swarm()?, [0; 32])?;
+    seats.arrive(&PEER, &handshake(0, THEIRS), 5, true);
+    seats.taken();
+    Ok(seats)
+}
+
+#[test]
+fn a_channel_is_opened_and_greeted(rt: HostRuntime) -> Result<(), Fail> {
+    let mut seats = Seats::new(rt.alloc(), &swarm()?, [0; 32])?;
+    let mut link = MemoryLink::new(rt.alloc())?;
+    assert_eq!(rt;
+        seats.arrive(&PEER, &handshake(0, THEIRS), 5, true),
+        Arrival::Opened { seat: 0, next: 64 }
+    );
+    seats.taken();
+    // Nothing can be said before the reply.
+    assert_eq!(rt;
+        seats.speak(0, &[Sent::KeepAlive], &NullDisk::new(), &mut link),
+        None
+    );
+    assert!(rt; seats.greet(0, &NullDisk::new(), &mut link));
+    assert!(rt; !seats.greet(1, &NullDisk::new(), &mut link));
+    assert_eq!(rt; link.sent(), 1);
+    assert_eq!(rt; link.sent_bytes(0)[..], handshake(THEIRS, OURS)[..]);
+    Ok(())
+}
+
+#[test]
+fn what_is_said_goes_to_the_peer(rt: HostRuntime) -> Result<(), Fail> {
+    let mut seats = opened(rt.alloc())?;
+    let mut link = MemoryLink::new(rt.alloc())?;
+    assert!(rt; seats.greet(0, &NullDisk::new(), &mut link));
+    let Some(delivered) = seats.speak(0, &[Sent::Choke], &NullDisk::new(), &mut link) else {
+        assert!(rt; false);
+        return Ok(());
+    };
+    assert_eq!(rt; (delivered.sent, delivered.refused), (1, 0));
+    assert_eq!(rt; link.sent_bytes(1)[..], [0x0a, 0x0b, 0x0c, 0x0d, 10][..]);
+    link.fail_next(Call::Send);
+    let Some(refused) = seats.speak(0, &[Sent::Unchoke], &NullDisk::new(), &mut link) else {
+        assert!(rt; false);
+        return Ok(());
+    };
+    assert_eq!(rt; (refused.sent, refused.refused), (0, 1));
+    Ok(())
+}
+
+#[test]
+fn a_dial_is_there_once_its_handshake_was_sent(rt: HostRuntime) -> Result<(), Fail> {
+    let mut seats = Seats::new(rt.alloc(), &swarm()?, [0; 32])?;
+    let mut link = MemoryLink::new(rt.alloc())?;
+    link.fail_next(Call::Send);
+    assert_eq!(rt; seats.dial(&PEER, &NullDisk::new(), &mut link), Some(false));
+    assert_eq!(rt; seats.dial(&PEER, &NullDisk::new(), &mut link), Some(true));
+    assert_eq!(rt; seats.dial(&PEER, &NullDisk::new(), &mut link), None);
+    // The second number was drawn for it.
+    assert_eq!(rt; link.sent_bytes(0)[..], handshake(0, 0x903d_f1a0)[..]);
+    assert_eq!(rt;
+        seats.arrive(&PEER, &handshake(0x903d_f1a0, THEIRS), 7, true),
+        Arrival::Replied { seat: 0 }
+    );
+    seats.taken();
+    assert!(rt; seats.part(0, &NullDisk::new(), &mut link));
+    assert_eq!(rt;
+        link.sent_bytes(1)[..],
+        [0x0a, 0x0b, 0x0c, 0x0d, 0, 0, 0, 0, 0, 255][..]
+    );
+    Ok(())
+}
+
+#[test]
+fn an_unproven_channel_ends_after_10_seconds(rt: HostRuntime) -> Result<(), Fail> {
+    let mut seats = opened(rt.alloc())?;
+    let mut link = MemoryLink::new(rt.alloc())?;
+    assert!(rt; !seats.part(0, &NullDisk::new(), &mut link));
+    seats.quiet(10 * SECOND + 4);
+    seats.taken();
+    assert_eq!(rt; seats.expire(), None);
+    seats.quiet(10 * SECOND + 5);
+    seats.taken();
+    assert_eq!(rt; (seats.expire(), seats.expire()), (Some(0), None));
+    Ok(())
+}
+
+#[test]
+fn a_request_outside_the_content_is_counted(rt: HostRuntime) -> Result<(), Fail> {
+    let mut seats = opened(rt.alloc())?;
+    let inside = Message::Request {
+        span: Span { first: 0, last: 0 },
+    };
+    let outside = Message::Request {
+        span: Span { first: 1, last: 1 },
+    };
+    assert_eq!(rt; seats.hear(0, &inside), None);
+    assert_eq!(rt; seats.hear(0, &outside), Some(Note::Outside));
+    assert_eq!(rt; seats.heard_data(0, 0), false);
+    Ok(())
+}
+
+// The store of `abc`: its header, the chunk, zeros and an open gate.
+fn store_of_abc() -> [u8; 1153] {
+    let mut image = [0u8; 1153];
+    image[..8].copy_from_slice(b"PPSTORE2");
+    image[10] = 4;
+    image[19] = 3;
+    image[20..52].copy_from_slice(&ROOT);
+    image[64..67].copy_from_slice(b"abc");
+    image[1152] = 0x4f;
+    image
+}
+
+// A peer writes to the channel and asks for the chunk.
+fn asks(seats: &mut Seats, link: &mut MemoryLink)
+    ensures { seats.new.descriptor ≡ seats.old.descriptor }
+{
+    seats.greet(0, &NullDisk::new(), link);
+    seats.arrive(&PEER, &OURS.to_be_bytes(), 6, true);
+    let request = Message::Request {
+        span: Span { first: 0, last: 0 },
+    };
+    seats.hear(0, &request);
+    seats.taken();
+}
+
+// Serves the first seat twice, from the store of `abc`.
+fn serves_twice(alloc: Global, link: &mut MemoryLink) -> Result<Option<[Served; 2]>, Fail> {
+    let descriptor = swarm()?;
+    let mut seats = Seats::new(alloc, &descriptor, [0; 32])?;
+    seats.arrive(&PEER, &handshake(0, THEIRS), 5, true);
+    seats.taken();
+    asks(&mut seats, link);
+    let mut disk = MemoryDisk::new(alloc, &store_of_abc())?;
+    let mut book = Book::empty(alloc);
+    book.prepare(alloc, &descriptor)?;
+    let Ok(store) = Store::open(alloc, &descriptor, &mut disk, &mut book) else {
+        return Ok(None);
+    };
+    let chunks = CommittedChunks {
+        store: &store,
+        book: &book,
+    };
+    let first = seats.serve(0, &chunks, &mut disk, link);
+    let second = seats.serve(0, &chunks, &mut disk, link);
+    Ok(Some([first, second]))
+}
+
+#[test]
+fn a_chunk_that_is_asked_for_is_sent_once(rt: HostRuntime) -> Result<(), Fail> {
+    let mut link = MemoryLink::new(rt.alloc())?;
+    let served = serves_twice(rt.alloc(), &mut link)?;
+    assert_eq!(rt; served, Some([Served::Sent, Served::Done]));
+    // The hash of the one leaf, which is the root, and the chunk behind it, at moment 6.
+    let bytes = link.sent_bytes(1);
+    assert_eq!(rt; bytes.len(), 65);
+    assert_eq!(rt;
+        bytes[..13],
+        [0x0a, 0x0b, 0x0c, 0x0d, 4, 0, 0, 0, 0, 0, 0, 0, 0][..]
+    );
+    assert_eq!(rt; bytes[13..45], ROOT[..]);
+    assert_eq!(rt;
+        bytes[45..],
+        [1, 0, 0, 0, 0, 0, 0, 0, 0, 0, 0, 0, 0, 0, 0, 0, 6, b'a', b'b', b'c'][..]
+    );
+    Ok(())
+}
