@@ -1,8 +1,10 @@
+pub mod Among
 pub mod Least
 pub mod Marks
-pub mod Places
+pub mod Over
+pub mod Parts
 pub mod Plans
+pub mod Ranges
 pub mod Stories
 pub mod Telling
-pub mod Ranges
-pub mod Ancestors
+pub mod Words

@@ -1,5 +1,5 @@
 -- What a story's messages tell is all peaks or nothing.
-use Rattle.std.proofs.Common.{◌≡◌, inl, inr, ⊎_elim, ℕ, Bool, true, false, nat_le, nat_lt, ◌&&◌, ◌||◌, List, [], ◌∷◌, refl}
+use Rattle.std.proofs.Common.{◌≡◌, inl, inr, ⊎_elim, ℕ, Bool, true, nat_le, nat_lt, ◌&&◌, ◌||◌, List, [], ◌∷◌, refl}
 use Rattle.std.proofs.lemmas.Bool.{cases_Bool, and_parts, and_from, or_right, or_left, or_from, and_left}
 use Rattle.std.specs.List.{list_any, list_all}
 use Rattle.pp_terms.specs.tree.Tree.{Node, height, peaks, same_node, is_peak}

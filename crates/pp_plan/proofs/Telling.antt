@@ -1,67 +1,68 @@
 -- What one span more makes known.
-use Rattle.std.proofs.Common.{◌≡◌, ⊎_elim, ℕ, ◌+◌, ◌/◌, ◌^◌, ◌<◌, ◌≤◌, ◌==◌, nat_le, nat_lt, Bool, true, false, ◌&&◌, ◌||◌, List, ◌∷◌, refl, sym, ◌∙◌, ap, arith}
-use Rattle.std.proofs.lemmas.Bool.{cases_eq, eq-eqb, ne_eqb}
+use Rattle.std.proofs.Common.{◌≡◌, ℕ, ◌+◌, ◌-◌, ◌*◌, ◌^◌, ◌<◌, ◌≤◌, nat_le, nat_lt, Bool, true, false, ◌&&◌, ◌||◌, List, ◌∷◌, refl, sym, ◌∙◌, ap, arith}
+use Rattle.std.proofs.lemmas.Nat.{pow_pos}
 use Rattle.std.proofs.lemmas.Bool.Decides.{nat_tests}
 use Rattle.pp_terms.specs.tree.Tree.{Node, height, is_peak}
-use Rattle.std.proofs.Math.Bool.{or-false}
 use Rattle.pp_terms.specs.tree.Bins.{parent_of}
 use Rattle.pp_terms.specs.tree.Range.{Span}
 use Rattle.pp_traffic.specs.Hashes.{meets, tells}
-use Rattle.pp_plan.specs.Told.{ToldNodes, knows, is_marked, lies, is_over, is_over_below, tells_any, IsToldBy}
-use Rattle.pp_plan.proofs.Places.{meets_is}
+use Rattle.pp_tree.specs.Bits.{bit_of}
+use Rattle.pp_plan.specs.Told.{ToldNodes, knows, is_marked, some_among, tells_any, IsToldBy}
+use Rattle.pp_plan.proofs.Among.{among_same, among_either, among_none, among_between}
 
--- below the first layer nothing has a mark
-pub none_below : (b : Bool) (span : Span) (n : Node) → b ≡ (b || is_over_below 1 span n)
-none_below b span n =
-    let no : (nat_lt 0 n.layer && nat_lt n.layer 1) ≡ false = grind (arith, nat_tests) in
-    rw no (sym (or-false b))
-
--- one layer more
-pub one_layer : (k : ℕ) (span : Span) (n : Node) (before now next : Bool) → 0 < k
-    → now ≡ (before || is_over_below k span n)
-    → next ≡ (now || lies k (span.first / 2 ^ k) (span.last / 2 ^ k) n)
-    → next ≡ (before || is_over_below (k + 1) span n)
-one_layer k span n before now next some here more = ⊎_elim
-    (λ e.
-    let low : (nat_lt 0 n.layer && nat_lt n.layer k) ≡ false = grind (arith, nat_tests) in
-    let high : (nat_lt 0 n.layer && nat_lt n.layer (k + 1)) ≡ true = grind (arith, nat_tests) in
-    let same : lies k (span.first / 2 ^ k) (span.last / 2 ^ k) n ≡ is_over span n = at_layer e in
-    more ∙ ap (λ (b : Bool). b || lies k (span.first / 2 ^ k) (span.last / 2 ^ k) n) here ∙ rw (low, high, same) (joins before (is_over span n)))
-    (λ other.
-    let same : nat_lt n.layer k ≡ nat_lt n.layer (k + 1) = grind (arith, nat_tests) in
-    let no : (n.layer == k) ≡ false = ne_eqb n.layer k other in
-    more ∙ ap (λ (b : Bool). b || lies k (span.first / 2 ^ k) (span.last / 2 ^ k) n) here ∙ rw (no, sym same) (or-false (before || is_over_below k span n)))
-    (cases_eq n.layer k)
+-- the chunks of a span that lie under a node
+between_leaves : (chunks first last offset width : ℕ) → last < chunks → 0 < width
+    → (nat_lt 0 width && (nat_le (offset * width) last && nat_lt first (offset * width + width)))
+    ≡ (nat_lt (offset * width) chunks && nat_le (offset * width) last && nat_le first ((offset + 1) * width - 1))
+between_leaves chunks first last offset width inside some =
+    let end : (offset + 1) * width ≡ offset * width + width = omega arith in
+    rw end (by_numbers (offset * width))
   where
-    joins : (a b : Bool) → ((a || false) || b) ≡ (a || b)
-    joins true b = refl
-    joins false b = refl
+    by_numbers : (start : ℕ) → (nat_lt 0 width && (nat_le start last && nat_lt first (start + width)))
+        ≡ (nat_lt start chunks && nat_le start last && nat_le first (start + width - 1))
+    by_numbers start = grind (arith, nat_tests)
 
-    at_layer : n.layer ≡ k → lies k (span.first / 2 ^ k) (span.last / 2 ^ k) n ≡ is_over span n
-    at_layer e =
-        let yes : (n.layer == k) ≡ true = eq-eqb n.layer k e in
-        rw yes (ap (λ (l : ℕ). nat_le (span.first / 2 ^ l) n.offset && nat_le n.offset (span.last / 2 ^ l)) (sym e))
+-- some chunk under a node is told of once a span more is
+under_more : (old new : ℕ → Bool) (chunks : ℕ) (span : Span) (n : Node) → span.first ≤ span.last → span.last < chunks
+    → ((i : ℕ) → new i ≡ (old i || (nat_le span.first i && nat_le i span.last)))
+    → some_among new (n.offset * 2 ^ n.layer) (2 ^ n.layer) ≡ (some_among old (n.offset * 2 ^ n.layer) (2 ^ n.layer) || meets chunks span n)
+under_more old new chunks span n order inside more =
+    let start : ℕ = n.offset * 2 ^ n.layer in
+    among_same new (λ i. old i || (nat_le span.first i && nat_le i span.last)) start (2 ^ n.layer) more
+    ∙ among_either old (λ i. nat_le span.first i && nat_le i span.last) start (2 ^ n.layer)
+    ∙ ap (λ (b : Bool). some_among old start (2 ^ n.layer) || b)
+    (among_between span.first span.last start (2 ^ n.layer) order
+    ∙ between_leaves chunks span.first span.last n.offset (2 ^ n.layer) inside (pow_pos n.layer))
 
-either : (p s m o : Bool) → (p || ((s && m) || o)) ≡ ((s && (p || m)) || (p || o))
-either true true m o = refl
-either true false m o = refl
-either false true m o = refl
-either false false m o = refl
+joined : (s p l u m : Bool) → (s ≡ false → u ≡ false) → (true && (p || (l && (u || m)))) ≡ ((s && (p || (l && u))) || (p || (l && m)))
+joined true true l u m none = refl
+joined true false true true m none = refl
+joined true false true false m none = refl
+joined true false false u m none = refl
+joined false true l u m none = refl
+joined false false false u m none = refl
+joined false false true u m none = ap (λ (b : Bool). b || m) (none refl)
 
--- the marks of all layers
+-- so the peer knows what it knew, and what the span tells
 pub told_more : (old new : ToldNodes) (span : Span) → new.chunks ≡ old.chunks → new.some ≡ true → span.first ≤ span.last → span.last < old.chunks
-    → ((n : Node) → is_marked new n ≡ ((old.some && is_marked old n) || is_over_below (height old.chunks + 1) span n))
+    → (old.some ≡ false → (i : ℕ) → bit_of old.told i ≡ false)
+    → ((i : ℕ) → bit_of new.told i ≡ (bit_of old.told i || (nat_le span.first i && nat_le i span.last)))
     → (n : Node) → knows new n ≡ (knows old n || tells old.chunks span n)
-told_more old new span same is_some order inside marks n =
+told_more old new span same is_some order inside none more n =
+    let before : ℕ → Bool = bit_of old.told in
+    let after : ℕ → Bool = bit_of new.told in
+    let above : Node = parent_of n in
+    let start : ℕ = above.offset * 2 ^ above.layer in
+    let width : ℕ = 2 ^ above.layer in
     let begins : (nat_lt span.first old.chunks && nat_le span.first span.last) ≡ true = grind (arith, nat_tests) in
-    let layers : (nat_lt 0 (n.layer + 1) && nat_lt (n.layer + 1) (height old.chunks + 1)) ≡ nat_lt n.layer (height old.chunks) = grind (arith, nat_tests) in
-    let over : meets old.chunks span (parent_of n) ≡ is_over span (parent_of n) = meets_is old.chunks span (parent_of n) inside in
-    ap (λ (b : Bool). b && (is_peak new.chunks n || is_marked new (parent_of n))) is_some
-    ∙ ap (λ (c : ℕ). is_peak c n || is_marked new (parent_of n)) same
-    ∙ ap (λ (b : Bool). is_peak old.chunks n || b) (marks (parent_of n) ∙ ap (λ (b : Bool). (old.some && is_marked old (parent_of n)) || (b && is_over span (parent_of n))) layers)
-    ∙ either (is_peak old.chunks n) old.some (is_marked old (parent_of n)) (nat_lt n.layer (height old.chunks) && is_over span (parent_of n))
-    ∙ sym (ap (λ (b : Bool). knows old n || (b && (is_peak old.chunks n || (nat_lt n.layer (height old.chunks) && meets old.chunks span (parent_of n))))) begins
-    ∙ ap (λ (b : Bool). knows old n || (is_peak old.chunks n || (nat_lt n.layer (height old.chunks) && b))) over)
+    let layers : nat_le (n.layer + 1) (height old.chunks) ≡ nat_lt n.layer (height old.chunks) = grind (arith, nat_tests) in
+    ap (λ (b : Bool). b && (is_peak new.chunks n || is_marked new above)) is_some
+    ∙ ap (λ (c : ℕ). true && (is_peak c n || (nat_le above.layer (height c) && some_among after start width))) same
+    ∙ ap (λ (b : Bool). true && (is_peak old.chunks n || (nat_le above.layer (height old.chunks) && b))) (under_more before after old.chunks span above order inside more)
+    ∙ joined old.some (is_peak old.chunks n) (nat_le above.layer (height old.chunks)) (some_among before start width) (meets old.chunks span above)
+    (λ e. among_none before start width (λ i low high. none e i))
+    ∙ sym (ap (λ (b : Bool). knows old n || (b && (is_peak old.chunks n || (nat_lt n.layer (height old.chunks) && meets old.chunks span above)))) begins
+    ∙ ap (λ (b : Bool). knows old n || (is_peak old.chunks n || (b && meets old.chunks span above))) (sym layers))
 
 -- and of all ranges so far
 pub told_by_more : (old new : ToldNodes) (span : Span) (ranges : List Span) → new.chunks ≡ old.chunks

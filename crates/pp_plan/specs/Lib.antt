@@ -1,3 +1,4 @@
 pub mod Law
 pub mod Told
+pub mod Tiers
 pub mod Examples

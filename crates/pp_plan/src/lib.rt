@@ -10,6 +10,8 @@ mod plain;
 mod planning;
 #[cfg(test)]
 mod tests;
+mod tier;
+mod tiers;
 mod told;
 
 pub use planning::plan;

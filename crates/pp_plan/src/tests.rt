@@ -38,6 +38,73 @@ fn cuts_what_is_told_to_the_content(rt: HostRuntime) -> Result<(), Fail> {
     Ok(())
 }
 
+// Whether each of some nodes is known, and no other one of them is.
+fn knows(told: &Told, all: &[Node], none: &[Node]) -> bool {
+    all.iter().all(|node| told.has(*node)) && !none.iter().any(|node| told.has(*node))
+}
+
+fn tell(told: &mut Told, first: u32, last: u32) {
+    if last < told.chunks() {
+        if let Some(range) = ChunkRange::new(first, last) {
+            told.told(range);
+        }
+    }
+}
+
+#[test]
+fn knows_what_chunks_of_many_tell(rt: HostRuntime) -> Result<(), Fail> {
+    let mut told = Told::none(rt.alloc(), 1 << 20)?;
+    tell(&mut told, 262_144, 262_144);
+    let low = [
+        node(0, 262_145),
+        node(5, 8_193),
+        node(6, 4_097),
+        node(11, 128),
+    ];
+    let high = [node(17, 3), node(18, 0), node(19, 1), node(20, 0)];
+    let beside = [
+        node(0, 262_146),
+        node(5, 8_194),
+        node(6, 4_098),
+        node(11, 127),
+    ];
+    let far = [node(17, 1), node(17, 4), node(18, 2), node(20, 1)];
+    assert!(rt; knows(&told, &low, &beside));
+    assert!(rt; knows(&told, &high, &far));
+    tell(&mut told, 63, 64);
+    let over = [node(0, 62), node(0, 65), node(5, 3), node(17, 1)];
+    let past = [node(0, 61), node(0, 66), node(5, 4), node(7, 2)];
+    assert!(rt; knows(&told, &over, &past));
+    Ok(())
+}
+
+#[test]
+fn forgets_many_chunks(rt: HostRuntime) -> Result<(), Fail> {
+    let mut told = Told::none(rt.alloc(), 1 << 20)?;
+    tell(&mut told, 0, 1_048_573);
+    tell(&mut told, 0, 1_048_573);
+    let most = [
+        node(0, 64),
+        node(0, 1_048_573),
+        node(1, 524_287),
+        node(12, 255),
+    ];
+    assert!(rt; knows(&told, &most, &[node(0, 1_048_574)]));
+    told.forget();
+    assert!(rt; knows(&told, &[], &most));
+    tell(&mut told, 5, 5);
+    assert!(rt;
+        knows(
+            &told,
+            &[node(0, 4), node(12, 1)],
+            &[node(0, 6), node(0, 64), node(12, 2), node(18, 2)]
+        )
+    );
+    tell(&mut told, 0, 1_048_573);
+    assert!(rt; knows(&told, &most, &[node(0, 1_048_574)]));
+    Ok(())
+}
+
 // Whether the nodes on a chunk's way up are known as they are plainly, and their siblings too.
 fn knows_alike(told: &Told, plain: &Plain, i: u32) -> bool {
     for layer in 0..22u8 {

@@ -1,15 +1,15 @@
 // What a peer has told that it knows.
-ghost use Rattle.std.specs.Prelude.{◌≡◌, ℕ, ◌+◌, ◌^◌, ◌<◌, ◌≤◌, ◌&&◌, ◌||◌, nat_le, true, false, List, [], ◌∷◌, length, slice_index_or, IfOk};
-ghost use Rattle.std.specs.List.{list_all};
+ghost use Rattle.std.specs.Prelude.{◌≡◌, ℕ, ◌*◌, ◌^◌, ◌<◌, ◌≤◌, ◌&&◌, ◌||◌, true, false, List, [], ◌∷◌, length, IfOk};
 ghost use Rattle.pp_terms.specs.tree.Tree as terms;
 ghost use Rattle.pp_terms.specs.tree.Bins.{parent_of};
 ghost use Rattle.pp_traffic.specs.Hashes.{tells};
 ghost use Rattle.pp_tree.specs.Node.{node_of};
 ghost use Rattle.pp_terms.specs.tree.Range.{Span};
-ghost use Rattle.pp_plan.specs.Told.{knows, has_mark, is_marked, is_over_below, span_of, AreClosed, IsToldBy};
+ghost use Rattle.pp_plan.specs.Told.{knows, is_marked, span_of, IsToldBy};
 
+use crate::tiers::Tiers;
 use pp_ranges::ChunkRange;
-use pp_tree::{Bits, Node, height};
+use pp_tree::{Node, height};
 use std::alloc::{AllocError, Global};
 use std::marker::Model;
 
@@ -20,54 +20,23 @@ pub struct Told {
     chunks: u32,
     height: u8,
     some: bool,
-    // For each node above the leaves, whether a chunk under it was told of.
-    marks: Bits,
+    // The chunks that were told of.
+    tiers: Tiers,
 }
 
 impl Model for Told {
-    ghost use Rattle.std.specs.Prelude.{◌≡◌, ℕ, ◌^◌, ◌<◌, ◌≤◌, false, length, slice_index_or};
+    ghost use Rattle.std.specs.Prelude.{◌≡◌, ℕ, ◌*◌, ◌^◌, ◌<◌, ◌≤◌, false, length};
     ghost use Rattle.pp_terms.specs.tree.Tree as terms;
-    ghost use Rattle.pp_plan.specs.Told.{ToldNodes, AreClosed};
+    ghost use Rattle.pp_tree.specs.Bits.{bit_of};
+    ghost use Rattle.pp_plan.specs.Told.{ToldNodes};
 
     ghost Value = { ToldNodes };
 
-    ghost view = { λ t. record { chunks = t.chunks; some = t.some; marks = t.marks } };
+    ghost view = { λ t. record { chunks = t.chunks; some = t.some; told = t.tiers } };
 
     ghost invariant = { λ t. (0 < t.chunks) × (t.chunks ≤ 2 ^ 20) × (t.height ≡ terms.height t.chunks) × (t.height ≤ 20)
-        × (t.chunks ≤ 2 ^ t.height) × (length t.marks ≡ 2 ^ t.height)
-        × (t.some ≡ false → (i : ℕ) → slice_index_or t.marks i false ≡ false) × (AreClosed t.height t.marks) };
-}
-
-// How many nodes a layer has, by its distance from the root.
-fn width(down: u8) -> usize
-    requires { down ≤ 20 }
-    ensures value { result ≡ 2 ^ down }
-    ensures range { result ≤ 2 ^ 20 }
-{
-    1 << down
-}
-
-// Marks the nodes over a row of chunks in a tree of that height, layer by layer from the lowest, as far as one node that is marked
-// is over all of them: then what lies over it is marked too.
-fn mark_over(marks: &mut Bits, height: u8, first: u32, last: u32)
-    requires tall { height ≤ 20 }
-    requires size { length marks.old ≡ 2 ^ height }
-    requires order { first ≤ last }
-    requires inside { last < 2 ^ height }
-    requires closed { AreClosed height marks.old }
-    ensures size { length marks.new ≡ length marks.old }
-    ensures marks { (n : terms.Node) → has_mark height marks.new n
-        ≡ (has_mark height marks.old n || is_over_below (height + 1) (record { first = first; last = last }) n) }
-{
-    for layer in 1..height + 1 {
-        let base = width(height - layer);
-        let low = base + (first >> layer) as usize;
-        let high = base + (last >> layer) as usize;
-        if low == high && marks.has(low) {
-            return;
-        }
-        marks.fill(low, high);
-    }
+        × (t.chunks ≤ 64 * length t.tiers)
+        × (t.some ≡ false → (i : ℕ) → bit_of t.tiers i ≡ false) };
 }
 
 impl Told {
@@ -85,7 +54,7 @@ impl Told {
             chunks,
             height,
             some: false,
-            marks: Bits::new(alloc, width(height))?,
+            tiers: Tiers::none(alloc, chunks)?,
         })
     }
 
@@ -97,16 +66,7 @@ impl Told {
         ensures some { self.new.some ≡ true }
         ensures calls { (ranges : List Span) → IsToldBy ranges self.old → IsToldBy (span_of range ∷ ranges) self.new }
     {
-        self.begin();
-        mark_over(&mut self.marks, self.height, range.first(), range.last());
-    }
-
-    // The peaks are told from now on.
-    fn begin(&mut self)
-        ensures chunks { self.new.chunks ≡ self.old.chunks }
-        ensures some { self.new.some ≡ true }
-        ensures marks { (n : terms.Node) → is_marked self.new n ≡ (self.old.some && is_marked self.old n) }
-    {
+        self.tiers.fill(range.first(), range.last());
         self.some = true;
     }
 
@@ -152,12 +112,10 @@ impl Told {
         if node.layer >= self.height {
             return false;
         }
-        let base = width(self.height - node.layer - 1);
-        let offset = (node.offset / 2) as usize;
-        offset < base && self.marks.has(base + offset)
+        self.tiers.has_under(node.layer + 1, node.offset / 2)
     }
 
-    /// Nothing is told any more. Where nothing was told this touches no mark.
+    /// Nothing is told any more. Words of chunks that were not told of are passed over, 64 at once.
     pub fn forget(&mut self)
         ensures chunks { self.new.chunks ≡ self.old.chunks }
         ensures nothing { (n : terms.Node) → knows self.new n ≡ false }
@@ -165,7 +123,7 @@ impl Told {
         ensures calls { IsToldBy [] self.new }
     {
         if self.some {
-            self.marks.clear();
+            self.tiers.clear();
             self.some = false;
         }
     }

@@ -1,5 +1,5 @@
 -- Which node an INTEGRITY names.
-use Rattle.std.proofs.Common.{◌≡◌, ⊎_elim, ℕ, zero, suc, ◌+◌, ◌-◌, ◌*◌, ◌/◌, ◌^◌, ◌<◌, ◌≤◌, min, nat_lt, nat_le, Bool, true, false, cond, ◌&&◌, Option, Some, None, List, ◌∷◌, take, refl, sym, ◌∙◌, ap, arith}
+use Rattle.std.proofs.Common.{◌≡◌, ⊎_elim, ℕ, zero, suc, ◌+◌, ◌-◌, ◌*◌, ◌/◌, ◌^◌, ◌<◌, ◌≤◌, min, nat_lt, nat_le, Bool, true, false, cond, ◌&&◌, Option, Some, None, List, ◌∷◌, take, refl, sym, ◌∙◌, ap, arith, pow-suc}
 use Rattle.std.proofs.lemmas.Bool.{cases_lt, cond-true, false_from_ne_true, lt-ltb, le-leb}
 use Rattle.std.proofs.lemmas.Bool.Decides.{nat_tests}
 use Rattle.std.proofs.lemmas.List.{take-take}
@@ -13,7 +13,6 @@ use Rattle.pp_terms.specs.format.Messages.{Message}
 use Rattle.pp_traffic.specs.Story.{Line, Heard}
 use Rattle.pp_traffic.specs.Hashes.{is_span_of}
 use Rattle.pp_traffic.specs.Claims.{node_over, node_below, cut_to, named, with_claim, with_claims_of, claims_in}
-use Rattle.pp_plan.proofs.Places.{halves}
 use Rattle.pp_seat.specs.Lines.{inside, with_proven}
 use Rattle.pp_seat.proofs.Spans.{IsPart}
 
@@ -33,6 +32,13 @@ over_is n span e = record { first = grind (arith, nat_tests); last = grind (arit
 
 is_over : (n : Node) (span : Span) → IsOver n span → is_span_of n span ≡ true
 is_over n span o = let first = o.first in let last = o.last in grind (arith, nat_tests)
+
+-- a power of two is at most half of a greater one
+halves : (i j : ℕ) → i < j → 2 ^ i * 2 ≤ 2 ^ j
+halves i j lt =
+    let twice : 2 ^ suc i ≡ 2 ^ i * 2 = pow-suc 2 i in
+    let more : 2 ^ suc i ≤ 2 ^ j = pow_mono {i = suc i} {j = j} (omega arith) in
+    omega (arith, twice, more)
 
 -- two nodes over a span are of one layer
 same_layer : (n m : Node) (span : Span) → IsOver n span → IsOver m span → n.layer < m.layer → ⊥
