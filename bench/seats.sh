@@ -1,7 +1,7 @@
 #!/usr/bin/env bash
 # How long a message takes at one of 64 seats: a million of each kind, at contents of 2^10 and of 2^20 chunks. A message is to take
 # about 100 nanoseconds. At 2^10 chunks each seat is asked for 16 of them, at 2^20 for so many that its list is full, and most are
-# refused. A HAVE marks the nodes above its chunk, up to the first that is marked already; so does an ACK. The ACKs come to seats of new
+# refused. A HAVE changes at most four words of bits, whatever the number of chunks; so does an ACK. The ACKs come to seats of new
 # channels: in each round a seat is asked for two chunks and sends what its window has room for, and only the ACKs are timed.
 # The program is proved and built in a repository of its own, from copies of the crates that it stands on, by `rt run`; the
 # first time that takes some minutes.
