@@ -1,0 +1,10 @@
+pub mod Tickets
+pub mod Images
+pub mod Advancing
+pub mod Waitings
+pub mod Puts
+pub mod Tying
+pub mod Lefts
+pub mod Settling
+pub mod Begins
+pub mod Events

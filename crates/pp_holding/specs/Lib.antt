@@ -1,0 +1,6 @@
+pub mod Queue
+pub mod Stock
+pub mod Holding
+pub mod Answers
+pub mod Opening
+pub mod Laws

@@ -1,0 +1,51 @@
+-- Chunks that wait for a commit, and whom those came from that were committed.
+use Rattle.std.specs.Prelude.{ℕ, ◌+◌, nat_le, Bool, List, [], ◌∷◌, ◌++◌, map, reverse, take}
+use Rattle.std.specs.List.{list_any}
+use Rattle.pp_promises.specs.Batches.{Pending, longest_wait}
+use Rattle.pp_holding.specs.declared.queue.Ticket.{Ticket}
+use Rattle.pp_holding.specs.declared.queue.Waiting.{Waiting}
+
+-- The chunks that are pending, the newest first, each with its ticket and the moment at which it was put; and the tickets that are to
+-- be acknowledged, the oldest first.
+pub record QueueState : Type 0 where
+  pub waiting : List Waiting
+  pub tickets : List Ticket
+
+abbrev pub empty_queue : QueueState
+empty_queue = record { waiting = []; tickets = [] }
+
+abbrev pub waiting_at : Ticket → ℕ → Waiting
+waiting_at ticket at = record { ticket = ticket; put_at = at }
+
+-- There is room for so many tickets: a datagram of 65,535 bytes has 243 DATA of 256 bytes at the most, and fewer than 64 chunks
+-- were pending before it.
+abbrev pub most_tickets : ℕ
+most_tickets = 307
+
+-- these tickets more; what finds no room is dropped
+abbrev pub with_tickets : List Ticket → List Ticket → List Ticket
+with_tickets tickets more = take most_tickets (tickets ++ more)
+
+-- those of what waits, in the order in which it was put
+abbrev pub tickets_of : List Waiting → List Ticket
+tickets_of waiting = map (λ w. w.ticket) (reverse waiting)
+
+-- What waits was committed.
+abbrev pub released : QueueState → QueueState
+released q = record { waiting = []; tickets = with_tickets q.tickets (tickets_of q.waiting) }
+
+-- One chunk more waits.
+abbrev pub with_waiting : Waiting → QueueState → QueueState
+with_waiting w q = record q { waiting = w ∷ q.waiting }
+
+-- One sender more is to be acknowledged.
+abbrev pub with_ticket : Ticket → QueueState → QueueState
+with_ticket ticket q = record q { tickets = with_tickets q.tickets (ticket ∷ []) }
+
+-- some chunk waits for long
+abbrev pub is_any_late : (now : ℕ) → List Waiting → Bool
+is_any_late now waiting = list_any (λ w. nat_le (w.put_at + longest_wait) now) waiting
+
+-- as the promises of a run see it
+abbrev pub pending_of : Waiting → Pending
+pending_of w = record { chunk = w.ticket.chunk; put_at = w.put_at }
