@@ -15,10 +15,10 @@ use Rattle.pp_store.specs.declared.admitting.Put.TheVariants.{Stored}
 use Rattle.pp_store.specs.Store.{StoreState, is_held, HasCommitted, after_put}
 use Rattle.pp_holding.specs.declared.queue.Waiting.{Waiting}
 use Rattle.pp_holding.specs.Queue.{pending_of}
-use Rattle.pp_holding.specs.Holding.{batch_from, is_waiting, HasWaiting}
+use Rattle.pp_holding.specs.Holding.{batch_from, is_queued, HasWaiting}
 
 is_pending-map : (committed : List Bool) (waiting : List Waiting) (i : ℕ)
-    → is_pending (record { committed = committed; pending = map pending_of waiting }) i ≡ is_waiting waiting i
+    → is_pending (record { committed = committed; pending = map pending_of waiting }) i ≡ is_queued waiting i
 is_pending-map committed [] i = refl
 is_pending-map committed (w ∷ waiting) i = ap (λ (b : Bool). eqb w.ticket.chunk i || b) (is_pending-map committed waiting i)
 
@@ -43,10 +43,10 @@ waiting_put s waiting w has absent within = record {
       (cases_eq l w.ticket.chunk);
   each = λ l. ⊎_elim
       (λ same.
-      or_left (eqb w.ticket.chunk l) (is_waiting waiting l) (eq-eqb w.ticket.chunk l (sym same))
+      or_left (eqb w.ticket.chunk l) (is_queued waiting l) (eq-eqb w.ticket.chunk l (sym same))
       ∙ sym (ap (λ (m : ℕ). get_or (set s.pending w.ticket.chunk true) m false) same ∙ get_or-set_same s.pending w.ticket.chunk true false low))
       (λ other.
-      ap (λ (b : Bool). b || is_waiting waiting l) (apart_eqb l other) ∙ has.each l
+      ap (λ (b : Bool). b || is_queued waiting l) (apart_eqb l other) ∙ has.each l
       ∙ sym (get_or-set_other s.pending w.ticket.chunk l true false other))
       (cases_eq l w.ticket.chunk);
   as_many = ap suc has.as_many ∙ sym (count-set s.pending w.ticket.chunk low parts.1);

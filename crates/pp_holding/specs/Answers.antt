@@ -38,7 +38,7 @@ stored_by (Missing node) i = []
 stored_by (Wrong node found kept) i = []
 stored_by (Length found want) i = []
 
--- what waits then
+-- what waits after an answer
 abbrev pub waiting_with : Put → Ticket → (at : ℕ) → List Waiting → List Waiting
 waiting_with Stored ticket at waiting = waiting_at ticket at ∷ waiting
 waiting_with Held ticket at waiting = waiting
@@ -46,7 +46,7 @@ waiting_with (Missing node) ticket at waiting = waiting
 waiting_with (Wrong node found kept) ticket at waiting = waiting
 waiting_with (Length found want) ticket at waiting = waiting
 
--- and whether a chunk was stored with which so many wait that all are committed
+-- whether an answer stored a chunk with which so many wait that all are committed
 abbrev pub is_filled_by : Put → List Waiting → Bool
 is_filled_by Stored waiting = nat_le most_pending (suc (length waiting))
 is_filled_by Held waiting = false
@@ -63,6 +63,7 @@ after_stored ticket at q =
 abbrev pub after_held : (is_committed : Bool) → Ticket → QueueState → QueueState
 after_held is_committed ticket q = if is_committed then with_ticket ticket q else q
 
+-- what an answer does to the queue
 abbrev pub queue_after : Put → (is_committed : Bool) → Ticket → (at : ℕ) → QueueState → QueueState
 queue_after Stored is_committed ticket at q = after_stored ticket at q
 queue_after Held is_committed ticket at q = after_held is_committed ticket q

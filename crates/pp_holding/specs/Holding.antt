@@ -16,26 +16,27 @@ pub record HoldingState : Type 0 where
   pub book : BookState
   pub queue : QueueState
 
--- the chunks that are committed and those that are pending, as the promises of a run see them
+-- The chunks that are committed and those that are pending, as the promises of a run see them.
 abbrev pub batch_from : StoreState → List Waiting → Batch
 batch_from s waiting = record { committed = s.committed; pending = map pending_of waiting }
 
 abbrev pub batch_of : HoldingState → Batch
 batch_of s = batch_from s.store s.queue.waiting
 
--- with the disk under it
+-- a holding's store and book, with the disk under them
 abbrev pub stock_of : HoldingState → DiskState → Stock
 stock_of s disk = record { store = s.store; book = entry s.book; disk = disk }
 
-abbrev pub is_waiting : List Waiting → ℕ → Bool
-is_waiting waiting i = list_any (λ w. w.ticket.chunk == i) waiting
+-- chunk i is among what waits
+abbrev pub is_queued : List Waiting → ℕ → Bool
+is_queued waiting i = list_any (λ w. w.ticket.chunk == i) waiting
 
 -- What waits is exactly what is pending, each chunk once, and nothing of that is committed.
 pub record HasWaiting (s : StoreState) (waiting : List Waiting) : Type 0 where
   pub committed_size : length s.committed ≡ chunks_of s.descriptor
   pub pending_size : length s.pending ≡ chunks_of s.descriptor
   pub apart : (i : ℕ) → slice_index_or s.pending i false ≡ true → slice_index_or s.committed i false ≡ false
-  pub each : (i : ℕ) → is_waiting waiting i ≡ slice_index_or s.pending i false
+  pub each : (i : ℕ) → is_queued waiting i ≡ slice_index_or s.pending i false
   pub as_many : length waiting ≡ count_by (λ b. b) s.pending
 
 -- The book is the store's; fewer than 64 chunks wait while the store may be written to; and there is no ticket more than there is

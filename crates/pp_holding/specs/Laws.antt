@@ -17,11 +17,11 @@ pub record AdvancesCompose : Type 0 where
   pub twice : (a b c : Stock) → Advances a b → Advances b c → Advances a c
   pub reading : (s : Stock) (disk : DiskState) → KeepsAll s.disk disk → Advances s (record s { disk = disk })
 
--- Each image is sound, so that what a crash leaves may be opened again;
+-- While a holding is kept each image is sound, so that what a crash leaves may be opened again.
 abbrev pub KeptIsSound : Type 0
 KeptIsSound = (since : ℕ) (s : Stock) → IsKept since s → Throughout s.disk.history since (IsSound s.store.descriptor)
 
--- and each chunk that is committed stands in every image from then on, whatever calls follow.
+-- Each chunk that is committed stands in every image from then on, whatever calls follow.
 abbrev pub CommittedStays : Type 0
 CommittedStays = (since : ℕ) (old new : Stock) → IsKept since old → Advances old new → (i : ℕ) → is_committed old.store i ≡ true
     → Throughout new.disk.history (moment_of old.disk.history) (λ image. StandsIn old.store.descriptor image i)

@@ -11,9 +11,11 @@ pub record QueueState : Type 0 where
   pub waiting : List Waiting
   pub tickets : List Ticket
 
+-- nothing waits, and nobody is to be acknowledged
 abbrev pub empty_queue : QueueState
 empty_queue = record { waiting = []; tickets = [] }
 
+-- a chunk that was put at a moment
 abbrev pub waiting_at : Ticket → ℕ → Waiting
 waiting_at ticket at = record { ticket = ticket; put_at = at }
 
@@ -22,11 +24,11 @@ waiting_at ticket at = record { ticket = ticket; put_at = at }
 abbrev pub most_tickets : ℕ
 most_tickets = 307
 
--- these tickets more; what finds no room is dropped
+-- Tickets with others behind them; what finds no room is dropped.
 abbrev pub with_tickets : List Ticket → List Ticket → List Ticket
 with_tickets tickets more = take most_tickets (tickets ++ more)
 
--- those of what waits, in the order in which it was put
+-- the tickets of what waits, in the order in which it was put
 abbrev pub tickets_of : List Waiting → List Ticket
 tickets_of waiting = map (λ w. w.ticket) (reverse waiting)
 
@@ -46,6 +48,6 @@ with_ticket ticket q = record q { tickets = with_tickets q.tickets (ticket ∷ [
 abbrev pub is_any_late : (now : ℕ) → List Waiting → Bool
 is_any_late now waiting = list_any (λ w. nat_le (w.put_at + longest_wait) now) waiting
 
--- as the promises of a run see it
+-- a chunk that waits, as the promises of a run see it
 abbrev pub pending_of : Waiting → Pending
 pending_of w = record { chunk = w.ticket.chunk; put_at = w.put_at }

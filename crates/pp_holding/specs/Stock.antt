@@ -23,7 +23,7 @@ pub record IsKept (since : ℕ) (s : Stock) : Type 0 where
   pub known : IsKnown s.disk
   pub past : since ≤ moment_of s.disk.history
   pub agrees : AgreesWith s.store s.book s.disk.history.reads
-  -- while it may be written to, each chunk that is committed or pending is there
+  -- while the store may be written to, each chunk that is committed or pending is there
   pub holds : s.store.live ≡ true → HoldsAll s.store s.disk.history.reads
   pub gated : Throughout s.disk.history since (IsGated s.store.descriptor (may_be_open s.store))
   -- each committed chunk stands in whatever a crash may leave
@@ -41,5 +41,5 @@ pub record Advances (old new : Stock) : Type 0 where
   pub goes_on : IsKnown old.disk → (i : ℕ) → is_committed old.store i ≡ true
       → GoesOnSince old.store.descriptor i old.disk.history new.disk.history
   pub kept : (since : ℕ) → IsKept since old → IsKept since new
-  -- and images that were sound stay so
+  -- images that were sound stay so
   pub sound : (since : ℕ) → IsKept since old → StaysSound old.store.descriptor old.disk.history new.disk.history

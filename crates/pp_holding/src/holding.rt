@@ -31,6 +31,7 @@ use std::alloc::{AllocError, Global};
 use std::marker::Model;
 
 /// What came as a chunk: the bytes, whom from and when, in microseconds.
+#[derive(Clone, Copy)]
 pub struct Parcel<'a> {
     pub ticket: Ticket,
     pub bytes: &'a [u8],
@@ -56,7 +57,8 @@ impl Model for Holding {
 
     ghost view = { λ h. record { store = h.store; book = h.book; queue = h.queue } };
 
-    ghost invariant = { λ h. (h.chunks ≡ chunks_of h.store.descriptor) × AreTied (record { store = h.store; book = h.book; queue = h.queue }) };
+    ghost invariant = { λ h.
+        (h.chunks ≡ chunks_of h.store.descriptor) × AreTied (record { store = h.store; book = h.book; queue = h.queue }) };
 }
 
 // Commits all that is pending, where that is due.
@@ -99,7 +101,7 @@ fn commit_if<D: Disk>(
 
 // What an answer of the store leads to: a chunk that was stored waits, or is committed with the others at once where they are so many;
 // the sender of one that is committed already is to be acknowledged again.
-fn follow<D: Disk>(
+fn heed<D: Disk>(
     put: Put,
     parcel: &Parcel<'_>,
     store: &mut Store,
@@ -112,7 +114,8 @@ fn follow<D: Disk>(
     requires within { parcel.now.ticket.chunk < length store.old.committed }
 
     ensures same { IfOk result (λ answer. answer ≡ put) }
-    ensures idle { is_filled_by put queue.old.waiting ≡ false → IsOk result × (store.new ≡ store.old) × (D.state disk.new ≡ D.state disk.old) }
+    ensures idle { is_filled_by put queue.old.waiting ≡ false
+        → IsOk result × (store.new ≡ store.old) × (D.state disk.new ≡ D.state disk.old) }
     ensures queue { OnOk result (queue.new
         ≡ queue_after put (is_committed store.old parcel.now.ticket.chunk) parcel.now.ticket parcel.now.at queue.old) }
     ensures batch { OnOk result (let more = batch_from store.old (waiting_with put parcel.now.ticket parcel.now.at queue.old.waiting) in
@@ -228,13 +231,15 @@ impl Holding {
         ensures dead { self.old.store.live ≡ false → IsErr result × (self.new ≡ self.old) × (D.state disk.new ≡ D.state disk.old) }
 
         // What is committed and pending afterwards, and who is to be acknowledged.
-        ensures batch { IfOk result (λ put. batch_of self.new ≡ after_puts (stored_by put parcel.now.ticket.chunk) parcel.now.at (batch_of self.old)) }
+        ensures batch { IfOk result (λ put. batch_of self.new
+            ≡ after_puts (stored_by put parcel.now.ticket.chunk) parcel.now.at (batch_of self.old)) }
         ensures queue { IfOk result (λ put. self.new.queue
             ≡ queue_after put (is_committed self.old.store parcel.now.ticket.chunk) parcel.now.ticket parcel.now.at self.old.queue) }
         ensures failed { OnErr result ((self.new.store.live ≡ false) × (self.new.store.committed ≡ self.old.store.committed)
             × (self.new.queue.tickets ≡ self.old.queue.tickets)) }
         ensures live { OnOk result (self.new.store.live ≡ true) }
-        ensures untouched { (result ≡ Ok Put.Stored → ⊥) → IsOk result → (self.new.store ≡ self.old.store) × (D.state disk.new ≡ D.state disk.old) }
+        ensures untouched { (result ≡ Ok Put.Stored → ⊥) → IsOk result
+            → (self.new.store ≡ self.old.store) × (D.state disk.new ≡ D.state disk.old) }
         // A chunk that fits and wasn't held is held, unless the disk refused a call that wasn't a reading.
         ensures held { self.old.store.live ≡ true → FitsUnheld self.old (latest claims.now) parcel.now.ticket.chunk parcel.now.bytes.now
             → (is_held self.new.store parcel.now.ticket.chunk ≡ true) ⊎ HasRisen (D.state disk.old).hard (D.state disk.new).hard }
@@ -243,6 +248,7 @@ impl Holding {
         ensures room { length self.new.queue.tickets + length self.new.queue.waiting
             ≤ length self.old.queue.tickets + length self.old.queue.waiting + 1 }
 
+        ensures descriptor { self.new.store.descriptor ≡ self.old.store.descriptor }
         ensures advances { Advances (stock_of self.old (D.state disk.old)) (stock_of self.new (D.state disk.new)) }
     {
         if !self.store.is_live() {
@@ -255,7 +261,7 @@ impl Holding {
             &mut self.book,
             disk,
         )?;
-        follow(put, parcel, &mut self.store, &mut self.queue, disk)
+        heed(put, parcel, &mut self.store, &mut self.queue, disk)
     }
     // Whether what is pending is to be committed at the end of an event.
     fn is_due(&self, is_quiet: bool, now: u64) -> bool
@@ -289,6 +295,7 @@ impl Holding {
         ensures live { OnOk result (self.new.store.live ≡ true) }
         ensures book { self.new.book ≡ self.old.book }
 
+        ensures descriptor { self.new.store.descriptor ≡ self.old.store.descriptor }
         ensures advances { Advances (stock_of self.old (D.state disk.old)) (stock_of self.new (D.state disk.new)) }
     {
         if !self.store.is_live() {
@@ -317,6 +324,13 @@ impl Holding {
         ensures { result.now ≡ self.now.store.committed }
     {
         self.store.committed()
+    }
+
+    /// How many chunks the content has.
+    pub fn chunks(&self) -> u32
+        ensures { result ≡ chunks_of self.now.store.descriptor }
+    {
+        self.chunks
     }
 
     /// How many chunks are stored and not yet committed.

@@ -9,3 +9,6 @@ mod queue;
 pub use holding::{Holding, Parcel};
 pub use laws::laws_of_holdings;
 pub use queue::Ticket;
+
+#[cfg(test)]
+mod tests;

@@ -29,33 +29,33 @@ returns-in_err-put-clause-advances g c =
     (held_on c.put.result c.args.parcel.now.ticket.chunk c.self.inside.store c.put.new.self c.put.ensures.store c.put.ensures.dead)
     c.put.ensures.kept c.put.ensures.behind c.put.ensures.goes_on c.put.ensures.gated c.put.ensures.agrees c.put.ensures.holds)
 
-pub follow-requires-clause-live : goal.follow-requires-clause-live
-follow-requires-clause-live g c =
+pub heed-requires-clause-live : goal.heed-requires-clause-live
+heed-requires-clause-live g c =
     live_after c.in_ok-put.put c.args.parcel.now.ticket.chunk c.self.inside.store c.put.new.self c.in_ok-put.ensures.store (sym c.is_live.ensures ∙ c.if-not-is_live.false)
 
-pub follow-requires-clause-waits : goal.follow-requires-clause-waits
-follow-requires-clause-waits g c =
+pub heed-requires-clause-waits : goal.heed-requires-clause-waits
+heed-requires-clause-waits g c =
     waiting_after c.in_ok-put.put c.args.parcel.now.ticket c.args.parcel.now.at c.self.inside.store c.put.new.self c.self.inside.queue.waiting (entry c.self.inside.book)
     (latest c.args.claims.now) c.args.parcel.now.bytes.now c.self.invariant.1.waits
     (let same = ap (λ (s : HoldingState). chunks_of s.store.descriptor) c.self.view_is in omega (arith, same, c.requires)) c.in_ok-put.ensures.answer c.in_ok-put.ensures.store
 
-pub follow-requires-clause-within : goal.follow-requires-clause-within
-follow-requires-clause-within g c =
+pub heed-requires-clause-within : goal.heed-requires-clause-within
+heed-requires-clause-within g c =
     let same = ap (λ (s : HoldingState). chunks_of s.store.descriptor) c.self.view_is in
     let size = c.self.invariant.1.waits.committed_size in
     subst (λ (xs : List Bool). c.args.parcel.now.ticket.chunk < length xs)
     (sym (same_committed c.put.result c.args.parcel.now.ticket.chunk c.self.inside.store c.put.new.self c.put.ensures.store c.put.ensures.dead))
     (omega (arith, same, size, c.requires))
 
-done : (g : _) (c : goal.After-follow g)
-    → PutDone c.args.self.now (record { store = c.follow.new.store; book = c.put.new.book; queue = c.follow.new.queue }) (latest c.args.claims.now) c.args.parcel.now.ticket
-    c.args.parcel.now.at c.args.parcel.now.bytes.now c.follow.result (g.D.Disk.state c.args.disk.now) (g.D.Disk.state c.follow.new.disk)
+done : (g : _) (c : goal.After-heed g)
+    → PutDone c.args.self.now (record { store = c.heed.new.store; book = c.put.new.book; queue = c.heed.new.queue }) (latest c.args.claims.now) c.args.parcel.now.ticket
+    c.args.parcel.now.at c.args.parcel.now.bytes.now c.heed.result (g.D.Disk.state c.args.disk.now) (g.D.Disk.state c.heed.new.disk)
 done g c =
-    subst (λ (s : HoldingState). PutDone s (record { store = c.follow.new.store; book = c.put.new.book; queue = c.follow.new.queue }) (latest c.args.claims.now)
-    c.args.parcel.now.ticket c.args.parcel.now.at c.args.parcel.now.bytes.now c.follow.result (g.D.Disk.state c.args.disk.now) (g.D.Disk.state c.follow.new.disk)) c.self.view_is
-    (put_done c.self.inside.store c.put.new.self c.follow.new.store c.self.inside.book c.put.new.book c.self.inside.queue c.follow.new.queue
-    (g.D.Disk.state c.args.disk.now) (g.D.Disk.state c.put.new.disk) (g.D.Disk.state c.follow.new.disk) c.self.invariant.1 c.in_ok-put.put c.args.parcel.now.ticket
-    c.args.parcel.now.at c.args.parcel.now.bytes.now (latest c.args.claims.now) c.follow.result
+    subst (λ (s : HoldingState). PutDone s (record { store = c.heed.new.store; book = c.put.new.book; queue = c.heed.new.queue }) (latest c.args.claims.now)
+    c.args.parcel.now.ticket c.args.parcel.now.at c.args.parcel.now.bytes.now c.heed.result (g.D.Disk.state c.args.disk.now) (g.D.Disk.state c.heed.new.disk)) c.self.view_is
+    (put_done c.self.inside.store c.put.new.self c.heed.new.store c.self.inside.book c.put.new.book c.self.inside.queue c.heed.new.queue
+    (g.D.Disk.state c.args.disk.now) (g.D.Disk.state c.put.new.disk) (g.D.Disk.state c.heed.new.disk) c.self.invariant.1 c.in_ok-put.put c.args.parcel.now.ticket
+    c.args.parcel.now.at c.args.parcel.now.bytes.now (latest c.args.claims.now) c.heed.result
     (let same = ap (λ (s : HoldingState). chunks_of s.store.descriptor) c.self.view_is in omega (arith, same, c.requires))
     c.in_ok-put.ensures.answer c.in_ok-put.ensures.store c.in_ok-put.ensures.untouched c.put.ensures.learned
     (put_advances c.self.inside.store c.put.new.self (entry c.self.inside.book) (entry c.put.new.book) (g.D.Disk.state c.args.disk.now) (g.D.Disk.state c.put.new.disk)
@@ -63,8 +63,8 @@ done g c =
     (same_committed c.put.result c.args.parcel.now.ticket.chunk c.self.inside.store c.put.new.self c.put.ensures.store c.put.ensures.dead)
     (held_on c.put.result c.args.parcel.now.ticket.chunk c.self.inside.store c.put.new.self c.put.ensures.store c.put.ensures.dead)
     c.put.ensures.kept c.put.ensures.behind c.put.ensures.goes_on c.put.ensures.gated c.put.ensures.agrees c.put.ensures.holds)
-    c.follow.ensures.same c.follow.ensures.idle c.follow.ensures.queue c.follow.ensures.batch c.follow.ensures.dead
-    (c.follow.ensures.advances (entry c.put.new.book) (subst (λ (d : Descriptor). IsRooted d (entry c.put.new.book)) (sym c.put.ensures.descriptor) c.put.ensures.rooted)))
+    c.heed.ensures.same c.heed.ensures.idle c.heed.ensures.queue c.heed.ensures.batch c.heed.ensures.dead
+    (c.heed.ensures.advances (entry c.put.new.book) (subst (λ (d : Descriptor). IsRooted d (entry c.put.new.book)) (sym c.put.ensures.descriptor) c.put.ensures.rooted)))
 
 pub returns-clause-answer : goal.returns-clause-answer
 returns-clause-answer g c = (done g c).answer
@@ -98,12 +98,12 @@ returns-clause-advances g c = (done g c).advances
 
 pub invariant_of-self-2 : goal.invariant_of-self-2
 invariant_of-self-2 g c = (
-  c.self.invariant.0 ∙ ap (λ (d : Descriptor). chunks_of d) (sym (c.follow.ensures.descriptor ∙ c.put.ensures.descriptor)),
-  tied_after c.follow.new.store c.put.new.book c.follow.new.queue c.follow.result
+  c.self.invariant.0 ∙ ap (λ (d : Descriptor). chunks_of d) (sym (c.heed.ensures.descriptor ∙ c.put.ensures.descriptor)),
+  tied_after c.heed.new.store c.put.new.book c.heed.new.queue c.heed.result
       (let is = book_on c.self.inside.store.descriptor c.put.new.self.descriptor c.self.inside.book c.put.new.book c.self.invariant.1.book_is c.put.ensures.descriptor
-      c.put.ensures.book c.put.ensures.rooted in subst (λ (d : Descriptor). IsBookOf d c.put.new.book) (sym c.follow.ensures.descriptor) is)
-      (c.follow.ensures.knows (entry c.put.new.book) (c.put.ensures.knows c.self.invariant.1.knows)) c.follow.ensures.waits c.follow.ensures.few
-      (dead_after c.follow.result c.put.new.self c.follow.new.store _ c.follow.new.queue c.follow.ensures.dead) (few_tickets c.follow.result c.in_ok-put.put _ c.args.parcel.now.ticket c.args.parcel.now.at c.put.new.self c.follow.new.store
-      c.self.inside.queue c.follow.new.queue c.self.invariant.1.room
-      c.follow.ensures.queue c.follow.ensures.dead),
+      c.put.ensures.book c.put.ensures.rooted in subst (λ (d : Descriptor). IsBookOf d c.put.new.book) (sym c.heed.ensures.descriptor) is)
+      (c.heed.ensures.knows (entry c.put.new.book) (c.put.ensures.knows c.self.invariant.1.knows)) c.heed.ensures.waits c.heed.ensures.few
+      (dead_after c.heed.result c.put.new.self c.heed.new.store _ c.heed.new.queue c.heed.ensures.dead) (few_tickets c.heed.result c.in_ok-put.put _ c.args.parcel.now.ticket c.args.parcel.now.at c.put.new.self c.heed.new.store
+      c.self.inside.queue c.heed.new.queue c.self.invariant.1.room
+      c.heed.ensures.queue c.heed.ensures.dead),
 )
