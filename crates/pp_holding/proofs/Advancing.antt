@@ -13,17 +13,17 @@ use Rattle.pp_store.specs.Behind.{KeepsBehind}
 use Rattle.pp_store.specs.Pairs.{GoesOnSince}
 use Rattle.pp_store.specs.Sound.{IsGated, StaysGated, StaysSound}
 use Rattle.pp_store.specs.Store.{StoreState, is_committed, is_held, AgreesWith, HoldsIn, HoldsAll, AllStand, HasCommitted}
+use Rattle.pp_terms.proofs.Knowing.{known_on}
+use Rattle.pp_store.proofs.Ends.{disk_more}
+use Rattle.pp_store.proofs.Writings.{behind_keeps}
 use Rattle.pp_store.proofs.Gated.{gated_more}
 use Rattle.pp_store.proofs.Committing.{held_after}
 use Rattle.pp_store.proofs.Sealing.{throughout_later}
 use Rattle.pp_holding.specs.Stock.{Stock, may_be_open, IsKept, Advances}
 use Rattle.pp_holding.proofs.Images.{Lengthens, same_lengthens, stays_sound}
 
-known_after : (old new : DiskState) → new.tells ≡ old.tells → new.honest ≡ old.honest → IsKnown old → IsKnown new
-known_after old new tells honest known = subst (λ (b : Bool). IsTrue b) (sym (λ t. tells t && honest t)) known
-
 pub known_kept : (old new : DiskState) → KeepsDisk old new → IsKnown old → IsKnown new
-known_kept old new keeps known = known_after old new keeps.tells keeps.honest known
+known_kept old new keeps known = known_on old new keeps.tells keeps.honest known
 
 keeps_none : (disk : DiskState) → KeepsDisk disk disk
 keeps_none disk = record {
@@ -33,29 +33,6 @@ keeps_none disk = record {
   attachment = λ known. record { start = refl; first = refl; found = refl; names = refl };
   faults = omega arith;
   hard = omega arith;
-}
-
-keeps_twice : (a b c : DiskState) → KeepsDisk a b → KeepsDisk b c → KeepsDisk a c
-keeps_twice a b c one two = record {
-  tells = two.tells ∙ one.tells;
-  honest = two.honest ∙ one.honest;
-  later = omega (arith, one.later, two.later);
-  attachment = λ known.
-      let x = one.attachment known in
-      let y = two.attachment (known_after a b one.tells one.honest known) in
-      record { start = y.start ∙ x.start; first = y.first ∙ x.first; found = y.found ∙ x.found; names = y.names ∙ x.names };
-  faults = omega (arith, one.faults, two.faults);
-  hard = omega (arith, one.hard, two.hard);
-}
-
-pub behind_keeps : (old new : DiskState) → KeepsBehind old new → KeepsDisk old new
-behind_keeps old new behind = record {
-  tells = behind.tells;
-  honest = behind.honest;
-  later = behind.later;
-  attachment = λ known. (behind.behind known).attachment;
-  faults = behind.faults;
-  hard = behind.hard;
 }
 
 pub advances_none : (s : Stock) → Advances s s
@@ -76,7 +53,7 @@ advances_twice a b c one two = record {
   committed = λ i at. two.committed i (one.committed i at);
   held = λ i at. two.held i (one.held i at);
   entries = λ k j digest at. two.entries k j digest (one.entries k j digest at);
-  disk = keeps_twice a.disk b.disk c.disk one.disk two.disk;
+  disk = disk_more a.disk b.disk c.disk one.disk two.disk;
   goes_on = λ known i at moment le all.
       subst (λ (d : Descriptor). GoesOnSince d i b.disk.history c.disk.history) one.descriptor
       (two.goes_on (known_after a.disk b.disk one.disk.tells one.disk.honest known) i (one.committed i at)) moment (omega (arith, le, one.disk.later))

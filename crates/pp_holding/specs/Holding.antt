@@ -48,6 +48,6 @@ pub record AreTied (s : HoldingState) : Type 0 where
   pub few : s.store.live ≡ true → length s.queue.waiting < most_pending
   pub room : length s.queue.tickets ≤ most_tickets
 
--- So many chunks are neither committed nor pending.
+-- The number is how many chunks are neither committed nor pending.
 abbrev pub IsLeft : HoldingState → ℕ → Type 0
 IsLeft s n = n + count_by (λ b. b) s.store.committed + length s.queue.waiting ≡ chunks_of s.store.descriptor

@@ -27,18 +27,20 @@ pub record WasThere (t : Seats) (lives : ℕ → Option Life) (past : List Recor
   pub living : lives seat ≡ Some life
   pub begun : life.opening < length past
 
--- It was, and the record isn't on it.
-pub record IsPassed (d : Descriptor) (t : Seats) (lives : ℕ → Option Life) (r : Record) (past : List Record) (seat : ℕ) (life : Life) : Type 0 where
+-- The channel of a seat was there before, and the record isn't on it.
+pub record IsPassed (d : Descriptor) (t : Seats) (lives : ℕ → Option Life) (r : Record) (past : List Record)
+    (seat : ℕ) (life : Life) : Type 0 where
   pub there : WasThere t lives past seat life
   pub apart : comes_on d life r ≡ false
 
--- So it is with the channel of a seat, if there is one and its peer's number is known.
+-- Where a seat has a channel afterwards and its peer's number is known, the channel was there before, and the record isn't on it.
 abbrev pub PassesAt : Descriptor → (t new : Seats) → (lives later : ℕ → Option Life) → Record → List Record → ℕ → Type 0
-PassesAt d t new lives later r past seat = (c : Channel) (life : Life) → channel_at new seat ≡ Some c → is_waiting c ≡ false → later seat ≡ Some life
-    → IsPassed d t lives r past seat life
+PassesAt d t new lives later r past seat = (c : Channel) (life : Life) → channel_at new seat ≡ Some c → is_waiting c ≡ false
+    → later seat ≡ Some life → IsPassed d t lives r past seat life
 
--- It was there, and the record is on it and is read.
-pub record IsHeardOn (d : Descriptor) (t : Seats) (lives : ℕ → Option Life) (r : Record) (past : List Record) (seat : ℕ) (life : Life) : Type 0 where
+-- The channel of a seat was there before, and the record is on it and is read.
+pub record IsHeardOn (d : Descriptor) (t : Seats) (lives : ℕ → Option Life) (r : Record) (past : List Record)
+    (seat : ℕ) (life : Life) : Type 0 where
   pub there : WasThere t lives past seat life
   pub on : comes_on d life r ≡ true
   pub reads : is_read d life (r ∷ past) ≡ true
@@ -68,7 +70,8 @@ pub record Stays (d : Descriptor) (now : ℕ) (t new : Seats) (lives : ℕ → O
   pub begun : AllBegun t → AllBegun new
 
 -- A seat was dropped.
-pub record GivesUp (d : Descriptor) (now seat : ℕ) (t new : Seats) (lives lives' : ℕ → Option Life) (r : Record) (past : List Record) : Type 0 where
+pub record GivesUp (d : Descriptor) (now seat : ℕ) (t new : Seats) (lives lives' : ℕ → Option Life) (r : Record) (past : List Record)
+    : Type 0 where
   pub standing : Standing d new lives' (r ∷ past)
   pub free : channel_at new seat ≡ None
   pub passes : (other : ℕ) → other ≢ seat → PassesAt d t new lives lives' r past other
@@ -77,8 +80,8 @@ pub record GivesUp (d : Descriptor) (now seat : ℕ) (t new : Seats) (lives live
   pub begun : AllBegun t → AllBegun new
 
 -- Messages are read on a seat, unless they close its channel; then the seat is to be dropped. The life of its channel is so.
-pub record Reads (d : Descriptor) (now seat : ℕ) (ms : List Message) (Tells : ℕ → ℕ → List Message → Told → Told → Type 0) (IsOn : Life → Type 0)
-    (t new : Seats) (lives : ℕ → Option Life) (r : Record) (past : List Record) : Type 0 where
+pub record Reads (d : Descriptor) (now seat : ℕ) (ms : List Message) (Tells : ℕ → ℕ → List Message → Told → Told → Type 0)
+    (IsOn : Life → Type 0) (t new : Seats) (lives : ℕ → Option Life) (r : Record) (past : List Record) : Type 0 where
   pub living : ℕ → Option Life
   pub life : Life
   pub lives_there : living seat ≡ Some life
@@ -92,9 +95,12 @@ pub record Reads (d : Descriptor) (now seat : ℕ) (ms : List Message) (Tells : 
 abbrev pub Arrived : Descriptor → Seats → (ℕ → Option Life) → Record → List Record → ℕ → List ℕ → Arrival → Seats → Type 0
 Arrived d t lives r past now bytes (arrivals.Differs seat) new = GivesUp d now seat t new lives lives r past
 Arrived d t lives r past now bytes (arrivals.Given seat) new = GivesUp d now seat t new lives lives r past
-Arrived d t lives r past now bytes (arrivals.Opened seat next) new = Reads d now seat (drop 1 (contents d bytes).read) TellsFirst (IsOpenedBy d r past) t new lives r past
-Arrived d t lives r past now bytes (arrivals.Replied seat) new = Reads d now seat (contents d bytes).read TellsFirst (IsRepliedBy d r past) t new lives r past
-Arrived d t lives r past now bytes (arrivals.Heard seat) new = Reads d now seat (contents d bytes).read TellsOne (IsHeardOn d t lives r past seat) t new lives r past
+Arrived d t lives r past now bytes (arrivals.Opened seat next) new =
+    Reads d now seat (drop 1 (contents d bytes).read) TellsFirst (IsOpenedBy d r past) t new lives r past
+Arrived d t lives r past now bytes (arrivals.Replied seat) new =
+    Reads d now seat (contents d bytes).read TellsFirst (IsRepliedBy d r past) t new lives r past
+Arrived d t lives r past now bytes (arrivals.Heard seat) new =
+    Reads d now seat (contents d bytes).read TellsOne (IsHeardOn d t lives r past seat) t new lives r past
 Arrived d t lives r past now bytes result new = Stays d now t new lives r past
 
 -- Whatever traffic the seats stood for, where each dial had begun: they stand for it with this datagram.

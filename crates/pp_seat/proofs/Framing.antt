@@ -321,7 +321,7 @@ same_tales f lost s t other e h =
       exchange = h.exchange;
     }))
 
-said_story : (now : ℕ) (ms : List Message) (p : Bool) (t : Tale) → (with_said now ms p t).story ≡ say now ms t.story
+pub said_story : (now : ℕ) (ms : List Message) (p : Bool) (t : Tale) → (with_said now ms p t).story ≡ say now ms t.story
 said_story now [] p t = refl
 said_story now (m ∷ ms) p t = said_story now ms p (with_line (Said now m) p t)
 
@@ -342,7 +342,7 @@ said_told now (m ∷ ms) p t i = said_told now ms p (with_line (Said now m) p t)
     turned false true false o = refl
     turned false false c o = refl
 
-heard_story : (now : ℕ) (ms : List Message) (p : Bool) (t : Tale) → (with_heard now ms p t).story ≡ hear now ms t.story
+pub heard_story : (now : ℕ) (ms : List Message) (p : Bool) (t : Tale) → (with_heard now ms p t).story ≡ hear now ms t.story
 heard_story now [] p t = refl
 heard_story now (m ∷ ms) p t = heard_story now ms p (with_line (Heard now m) p t)
 

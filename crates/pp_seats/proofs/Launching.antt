@@ -67,7 +67,7 @@ use Rattle.pp_seat.specs.Laws.{IsLater, with_since}
 use Rattle.pp_seat.specs.Awaited.{AreAwaited, AllPassSaid}
 use Rattle.pp_seat.proofs.Answering.{answers}
 use Rattle.pp_seat.proofs.Awaited.{lines_keep_awaited}
-use Rattle.pp_seat.proofs.Framing.{same_tales, tales_grow, frames_grow, read_longer, since_none}
+use Rattle.pp_seat.proofs.Framing.{same_tales, tales_grow, frames_grow, read_longer, since_none, said_story}
 use Rattle.pp_seat.proofs.Passing.{announced_stays}
 use Rattle.pp_seats.specs.declared.serving.Next.{Next}
 use Rattle.pp_seats.specs.Standing.{SeatsState, Setting, frame_in, IsFollowed, StandsFor}
@@ -127,10 +127,6 @@ passed_over x most p k c before after i end held past h there known seated holds
 later_low : (place more : ℕ) (a b : ℕ → Option ℕ) → place ≤ more → IsLater more a b → IsLater place a b
 later_low place more a b le later i = ⊎_elim (λ same. inl same) (λ new. inr (new.0, new.1, new.2, (let low = new.3 in omega (arith, low, le)))) (later i)
 
-story_said : (n : ℕ) (ms : List Message) (p : Bool) (t : Tale) → (with_said n ms p t).story ≡ say n ms t.story
-story_said n [] p t = refl
-story_said n (m ∷ ms) p t = story_said n ms p (with_line (Said n m) p t)
-
 -- a seat that follows what was said on its channel in one datagram
 pub own_said : (x : Setting) (most : ℕ) (s new : SeatState) (life : Life) (moment : ℕ) (receiver : traffic.Address) (bytes : List ℕ) (ms : List Message) (past : List Record)
     → IsFollowed x most s life past → life.opening < length past → said_in x.d life (Sent moment receiver bytes) ≡ ms
@@ -153,7 +149,7 @@ own_said x most s new life moment receiver bytes ms past h lt said_is says pass 
       haves = h.haves;
       follows = subst (λ (p : Bool). Follows (record (frame_in x life (r ∷ past)) { proven = p }) h.lost new (tale_of x.d life (r ∷ past)))
           (sym (since_same (comes_on x.d life) life.opening r past refl)) told;
-      awaited = subst (λ (xs : List Line). AreAwaited (chunks_of x.d) new.own xs) (sym (grown.story ∙ story_said (now past) ms (is_heard x.d life past) (tale_of x.d life past)))
+      awaited = subst (λ (xs : List Line). AreAwaited (chunks_of x.d) new.own xs) (sym (grown.story ∙ said_story (now past) ms (is_heard x.d life past) (tale_of x.d life past)))
           (subst (λ (own : _). AreAwaited (chunks_of x.d) own (say (now past) ms (read_story x.d life past))) (sym same)
           ((lines_keep_awaited.passed (now past) ms s.own pass).stays (chunks_of x.d) (read_story x.d life past) h.awaited));
       marked = omega (arith, h.marked, longer);

@@ -52,7 +52,7 @@ use Rattle.pp_seat.specs.Follows.{Frame, Lost, Follows}
 use Rattle.pp_seat.specs.Frames.{since_of, tale_of, IsSameTale}
 use Rattle.pp_seat.specs.Laws.{IsLater, with_since}
 use Rattle.pp_seat.specs.Awaited.{AreAwaited}
-use Rattle.pp_seat.proofs.Framing.{same_tales, tales_grow, frames_grow, read_longer, since_none}
+use Rattle.pp_seat.proofs.Framing.{same_tales, tales_grow, frames_grow, read_longer, since_none, said_story}
 use Rattle.pp_seat.proofs.Passing.{announced_stays}
 use Rattle.pp_seats.specs.Standing.{SeatsState, Setting, frame_in, IsFollowed, EachKnown, StandsFor}
 use Rattle.pp_seats.specs.Sending.{HoldsAnnounced, Announces, PassesOne, PassesAll, requested, AsksFirst, FitAll, MaySay, with_sent}
@@ -312,14 +312,10 @@ own_followed d found turn most c channel moment at bs old new life past held eac
       haves = (let few = h.haves in let backs = counts.backs in omega (arith, few, backs, none));
       follows = subst (λ (p : Bool). Follows (record (frame_in x life after) { proven = p }) (set_back (backs_of bs) h.lost) new.seat (tale_of d life after))
           (sym (heard_after d life w bs past)) told;
-      awaited = subst (λ (xs : List Line). AreAwaited (chunks_of d) new.seat.own xs) (sym (grown.story ∙ story_said w.now (said_by bs) (is_heard d life past) (tale_of d life past)))
+      awaited = subst (λ (xs : List Line). AreAwaited (chunks_of d) new.seat.own xs) (sym (grown.story ∙ said_story w.now (said_by bs) (is_heard d life past) (tale_of d life past)))
           ((delivery_keeps w bs old new each may.first may.fit).stays (chunks_of d) (read_story d life past) h.awaited);
       marked = (let low = later.1 in omega (arith, h.marked, low));
     }
-  where
-    story_said : (n : ℕ) (ms : List Message) (p : Bool) (t : Tale) → (with_said n ms p t).story ≡ say n ms t.story
-    story_said n [] p t = refl
-    story_said n (m ∷ ms) p t = story_said n ms p (with_line (Said n m) p t)
 
 -- ---- all seats
 

@@ -23,7 +23,7 @@ use Rattle.pp_seat.specs.Frames.{since_of, tale_of, no_tale, IsSameTale, with_he
 use Rattle.pp_seat.specs.Laws.{with_since}
 use Rattle.pp_seat.specs.Awaited.{AreAwaited}
 use Rattle.pp_seat.proofs.Awaited.{lines_keep_awaited, none_awaited}
-use Rattle.pp_seat.proofs.Framing.{same_tales, tales_grow, none_begins, frames_grow, read_longer}
+use Rattle.pp_seat.proofs.Framing.{same_tales, tales_grow, none_begins, frames_grow, read_longer, heard_story}
 use Rattle.pp_seat.proofs.Passing.{announced_stays}
 use Rattle.pp_seats.specs.Standing.{Setting, frame_in, IsFollowed}
 use Rattle.pp_seats.specs.Hearing.{HearsAll, Begins, IsShown, BeginsShown, with_proven, IsReady}
@@ -66,15 +66,10 @@ quiet_ready x most at s life past h lt = record {
 
 -- ---- records that are read
 
--- with the messages the story is theirs
-story_heard : (n : ℕ) (ms : List Message) (p : Bool) (t : Tale) → (with_heard n ms p t).story ≡ hear n ms t.story
-story_heard n [] p t = refl
-story_heard n (m ∷ ms) p t = story_heard n ms p (with_line (Rattle.pp_traffic.specs.Story.Heard n m) p t)
-
 awaited_story : (x : Setting) (n : ℕ) (ms : List Message) (p : Bool) (old new : SeatState) (t : Tale) → HearsAll n ms old new
     → AreAwaited (chunks_of x.d) old.own t.story → AreAwaited (chunks_of x.d) new.own (with_heard n ms p t).story
 awaited_story x n ms p old new t h a =
-    subst (λ (xs : List Line). AreAwaited (chunks_of x.d) new.own xs) (sym (story_heard n ms p t)) (h.awaited (chunks_of x.d) t.story a)
+    subst (λ (xs : List Line). AreAwaited (chunks_of x.d) new.own xs) (sym (heard_story n ms p t)) (h.awaited (chunks_of x.d) t.story a)
 
 now_heard : (d : Descriptor) (life : Life) (r : Record) (past : List Record) → life.opening ≤ length past → comes_on d life r ≡ true → is_heard d life (r ∷ past) ≡ true
 now_heard d life r past le on = or_left (leb life.opening (length past) && comes_on d life r) (some_since (comes_on d life) life.opening past)
