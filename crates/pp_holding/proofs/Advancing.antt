@@ -1,6 +1,5 @@
 -- A store, its book and its disk go on.
 use Rattle.std.proofs.Common.{◌≡◌, inl, ℕ, ◌≤◌, Bool, true, false, List, get_or, refl, sym, ◌∙◌, ap, subst, arith}
-use Rattle.std.specs.Prelude.{◌&&◌, IsTrue}
 use Rattle.std.proofs.lemmas.Bool.{or_left}
 use Rattle.pp_terms.specs.tree.Book.{LookUp, IsRooted}
 use Rattle.pp_terms.specs.format.Descriptor.{Descriptor}
@@ -56,7 +55,7 @@ advances_twice a b c one two = record {
   disk = disk_more a.disk b.disk c.disk one.disk two.disk;
   goes_on = λ known i at moment le all.
       subst (λ (d : Descriptor). GoesOnSince d i b.disk.history c.disk.history) one.descriptor
-      (two.goes_on (known_after a.disk b.disk one.disk.tells one.disk.honest known) i (one.committed i at)) moment (omega (arith, le, one.disk.later))
+      (two.goes_on (known_on a.disk b.disk one.disk.tells one.disk.honest known) i (one.committed i at)) moment (omega (arith, le, one.disk.later))
       (one.goes_on known i at moment le all);
   kept = λ since kept. two.kept since (one.kept since kept);
   sound = λ since kept moment le all.
@@ -89,7 +88,7 @@ advances_reading s disk looks = record {
   disk = looks_keep s.disk disk looks;
   goes_on = λ known i at. subst (λ (h : History). GoesOnSince s.store.descriptor i s.disk.history h) (sym looks.same) (λ moment le all. all);
   kept = λ since kept. record {
-    known = known_after s.disk disk looks.tells looks.honest kept.known;
+    known = known_on s.disk disk looks.tells looks.honest kept.known;
     past = subst (λ (h : History). since ≤ moment_of h) (sym looks.same) kept.past;
     agrees = subst (λ (h : History). AgreesWith s.store s.book h.reads) (sym looks.same) kept.agrees;
     holds = subst (λ (h : History). s.store.live ≡ true → HoldsAll s.store h.reads) (sym looks.same) kept.holds;
@@ -128,7 +127,7 @@ module _ (s s' : StoreState) (book book' : LookUp) (disk disk' : DiskState) (liv
 
   put_kept : (since : ℕ) → IsKept since (record { store = s; book = book; disk = disk }) → IsKept since (record { store = s'; book = book'; disk = disk' })
   put_kept since kept = record {
-    known = known_after disk disk' behind.tells behind.honest kept.known;
+    known = known_on disk disk' behind.tells behind.honest kept.known;
     past = omega (arith, kept.past, behind.later);
     agrees = agrees kept.known kept.agrees;
     holds = λ _. holds kept.known kept.agrees;
@@ -199,7 +198,7 @@ module _ (s s' : StoreState) (book : LookUp) (disk disk' : DiskState) (live : s.
         disk = keeps;
         goes_on = on;
         kept = λ since kept. record {
-          known = known_after disk disk' keeps.tells keeps.honest kept.known;
+          known = known_on disk disk' keeps.tells keeps.honest kept.known;
           past = omega (arith, kept.past, keeps.later);
           agrees = agrees kept.known book rooted kept.agrees;
           holds = λ is. let no : s'.live ≡ false = ap (λ (x : StoreState). x.live) dead in absurd cc;
@@ -235,7 +234,7 @@ module _ (s s' : StoreState) (book : LookUp) (disk disk' : DiskState) (live : s.
       disk = keeps;
       goes_on = on;
       kept = λ since kept.
-          let known' = known_after disk disk' keeps.tells keeps.honest kept.known in
+          let known' = known_on disk disk' keeps.tells keeps.honest kept.known in
           record {
             known = known';
             past = omega (arith, kept.past, keeps.later);
