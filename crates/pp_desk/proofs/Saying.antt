@@ -213,7 +213,7 @@ have_again now range s = one_said now true (Have range) s s refl (λ d ms names 
     subst (λ (x : List Message). Follows f lost s (with_said now x f.proven t)) (sym names.messages)
     (alike_follows f lost s t (with_said now (map plain.Have names.spans) f.proven t) s.cursor s.answer s.question
     (said_alike f now (map plain.Have names.spans) t (haves_light names.spans)) h
-    (λ i place lt is early. haves_keep i now f.proven names.spans t (h.haves i place lt is early))
+    (λ i lt known. haves_keep i now f.proven names.spans t (h.haves i lt known))
     (record { early = fresh.early; above = λ none i above. absurd (omega (arith, may, none)) })
     (haves_exchange s.answer s.question now f.proven names.spans t h.exchange)))
 

@@ -69,9 +69,10 @@ abbrev pub AreAfter : ℕ → Bool → List Note → SeatState → SeatState →
 AreAfter now back [] old new = new ≡ old
 AreAfter now back (note ∷ notes) old new = (mid : SeatState) × IsAfter now back note old mid × AreAfter now back notes mid new
 
--- Between the cursor and each HAVE no chunk was announced: each tells of the next ones, or of chunks below the cursor.
+-- Between the cursor and each HAVE lies no chunk of which the other peer is to know: each tells of the next ones, or of chunks below
+-- the cursor.
 abbrev pub Passes : ℕ → Note → Frame → Type 0
-Passes cursor (Have range) f = (i : ℕ) → cursor ≤ i → i < range.first → f.since i ≡ None
+Passes cursor (Have range) f = (i : ℕ) → cursor ≤ i → i < range.first → f.known_of i ≡ false
 Passes cursor _ f = Unit {0}
 
 abbrev pub PassesAll : ℕ → List Note → Frame → Type 0

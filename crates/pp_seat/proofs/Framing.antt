@@ -26,7 +26,7 @@ use Rattle.pp_promises.proofs.Growth.{reads_grow}
 use Rattle.pp_seat.proofs.Moments.{say_clock}
 use Rattle.pp_seat.specs.Lines.{asked_since, Tale, with_line, with_said}
 use Rattle.pp_seat.specs.Laws.{IsLater}
-use Rattle.pp_seat.specs.Frames.{since_of, tale_of, IsSameTale, SameTales, with_heard, TalesGrow, OwedIsKept, FramesGrow, ReadsComeToNow, no_tale, NoneBegins, OwedIsGiven, frame_of, HeldIsTold}
+use Rattle.pp_seat.specs.Frames.{since_of, tale_of, IsSameTale, SameTales, with_heard, TalesGrow, OwedIsKept, FramesGrow, ReadsComeToNow, no_tale, NoneBegins, OwedIsGiven, frame_of}
 use Rattle.pp_seat.specs.Follows.{Follows}
 
 -- ---- lengths
@@ -581,8 +581,8 @@ none_begins f unproven = record { unsaid = tt; unproven = unproven; unclaimed = 
 -- ---- what is left
 
 pub owed_is_given : OwedIsGiven
-owed_is_given d h life is_found past lost s plain follows slot none few found content =
-    let left = none_left (frame_of d life is_found past) lost s (tale_of d life past) follows slot none in (
+owed_is_given d h life is_found known_of past lost s plain follows slot none few found content =
+    let left = none_left (frame_of d life is_found known_of past) lost s (tale_of d life past) follows slot none in (
       left.0,
       left.1,
       λ i owed.
@@ -596,71 +596,5 @@ owed_is_given d h life is_found past lost s plain follows slot none few found co
     by i (inl owed) = owed_is_kept.announced d life is_found i past owed
     by i (inr (asks, stood)) = owed_is_kept.found d life is_found i past (found i stood) asks
 
--- ---- turns
-
-mark_past : (d : Descriptor) (life : Life) (past : List Record) → some_since is_event life.opening past ≡ true
-    → length (read_story d life (earlier past)) < length (read_story d life past)
-mark_past d life [] e = absurd (false≢true e)
-mark_past d life (Received at sender bytes ∷ b) e =
-    by (nat_le life.opening (length b)) (is_read d life (Received at sender bytes ∷ b)) (in_past d life (Received at sender bytes) b e)
-  where
-    by : (x y : Bool) → x ≡ true
-        → length (read_story d life b)
-        < length (cond x (cond y (told d life (eqb life.opening (length b)) (now (Received at sender bytes ∷ b)) (Received at sender bytes) (read_story d life b))
-        (with_unread d life (eqb life.opening (length b)) (now (Received at sender bytes ∷ b)) (Received at sender bytes) (read_story d life b))) [])
-    by true true is =
-        let more = hear_length (now (Received at sender bytes ∷ b)) (heard_in d life (eqb life.opening (length b)) (Received at sender bytes)) (read_story d life b) in
-        omega arith
-    by true false is = omega arith
-    by false y is = absurd (false≢true is)
-mark_past d life (Quiet at ∷ b) e = by (nat_le life.opening (length b)) (is_read d life (Quiet at ∷ b)) (in_past d life (Quiet at) b e)
-  where
-    by : (x y : Bool) → x ≡ true
-        → length (read_story d life b)
-        < length (cond x (cond y (told d life (eqb life.opening (length b)) (now (Quiet at ∷ b)) (Quiet at) (read_story d life b))
-        (with_unread d life (eqb life.opening (length b)) (now (Quiet at ∷ b)) (Quiet at) (read_story d life b))) [])
-    by true true is = omega arith
-    by true false is = omega arith
-    by false y is = absurd (false≢true is)
-mark_past d life (Sent moment receiver bytes ∷ b) e =
-    let more = read_longer d life (Sent moment receiver bytes) b in
-    let before = mark_past d life b (later (nat_le life.opening (length b)) e) in
-    omega arith
-  where
-    later : (x : Bool) → ((x && false) || some_since is_event life.opening b) ≡ true → some_since is_event life.opening b ≡ true
-    later true e = e
-    later false e = e
-
 pub frames_grow : FramesGrow
-frames_grow = record { since = since_later; mark = mark_past }
-
--- a chunk's place stays
-since_on : (d : Descriptor) (life : Life) (is_found : ℕ → Bool) (i : ℕ) (r : Record) (b : List Record) (place : ℕ) → since_of d life is_found i b ≡ Some place
-    → since_of d life is_found i (r ∷ b) ≡ Some place
-since_on d life is_found i r b place is = by (since_later d life is_found r b i)
-  where
-    none_some : None ≡ Some place → ⊥
-    none_some e = cc
-
-    by : (since_of d life is_found i (r ∷ b) ≡ since_of d life is_found i b)
-        ⊎ ((since_of d life is_found i b ≡ None) × (at : ℕ) × (since_of d life is_found i (r ∷ b) ≡ Some at) × (length (read_story d life (r ∷ b)) ≤ at))
-        → since_of d life is_found i (r ∷ b) ≡ Some place
-    by (inl same) = same ∙ is
-    by (inr (none, at, later, low)) = absurd (none_some (sym none ∙ is))
-
-since_earlier : (d : Descriptor) (life : Life) (is_found : ℕ → Bool) (i : ℕ) (past : List Record) (place : ℕ) → since_of d life is_found i (earlier past) ≡ Some place
-    → since_of d life is_found i past ≡ Some place
-since_earlier d life is_found i [] place is = is
-since_earlier d life is_found i (Received at sender bytes ∷ b) place is = since_on d life is_found i (Received at sender bytes) b place is
-since_earlier d life is_found i (Quiet at ∷ b) place is = since_on d life is_found i (Quiet at) b place is
-since_earlier d life is_found i (Sent moment receiver bytes ∷ b) place is =
-    since_on d life is_found i (Sent moment receiver bytes) b place (since_earlier d life is_found i b place is)
-
-pub held_is_told : HeldIsTold
-held_is_told d h life is_found past lost s i follows found known below = by known
-  where
-    by : IsKnownOf d h past i → is_told_of i (read_story d life past) ≡ true
-    by (inl announced) =
-        let some = since_some d life is_found i (earlier past) announced in
-        follows.haves i some.0 below (since_earlier d life is_found i past some.0 some.1) (since_low d life is_found i (earlier past) some.0 some.1)
-    by (inr stood) = follows.haves i 0 below (since_found d life is_found i past (found stood)) (omega arith)
+frames_grow = since_later

@@ -20,7 +20,6 @@ use Rattle.pp_seat.specs.Lines.{Tale}
 use Rattle.pp_seat.specs.Seats.{SeatState}
 use Rattle.pp_seat.specs.Follows.{Frame, Lost, Follows}
 use Rattle.pp_seat.specs.Frames.{frame_of, tale_of, TellsFrom, NewsAreCounted}
-use Rattle.pp_seat.proofs.Framing.{held_is_told}
 
 -- what lies in a range or elsewhere lies in one that begins lower
 wider : (low high last i : ℕ) (rest : Bool) → low ≤ high → ((nat_le high i && nat_le i last) || rest) ≡ true → ((nat_le low i && nat_le i last) || rest) ≡ true
@@ -87,15 +86,15 @@ begun d life i (Received at sender bytes ∷ before) none = refl
 begun d life i (Quiet at ∷ before) none = refl
 begun d life i (Sent moment receiver bytes ∷ before) none = absurd (cc)
 
-enough_told : (d : Descriptor) (h : History) (life : Life) (is_found : ℕ → Bool) (past : List Record) (lost : Lost) (s : SeatState)
-    → IsPlainNow d life past → Follows (frame_of d life is_found past) lost s (tale_of d life past)
-    → ((i : ℕ) → StoodThroughout d h i → is_found i ≡ true)
+enough_told : (d : Descriptor) (h : History) (life : Life) (is_found known_of : ℕ → Bool) (past : List Record) (lost : Lost) (s : SeatState)
+    → IsPlainNow d life past → Follows (frame_of d life is_found known_of past) lost s (tale_of d life past)
+    → ((i : ℕ) → IsKnownOf d h past i → known_of i ≡ true)
     → (fewest_new ≤ new_count d life past) ⊎ ((i : ℕ) → IsKnownOf d h past i → i < s.cursor)
     → (i : ℕ) → IsKnownOf d h past i → (is_told_of i (story d life past) ≡ true) ⊎ (fewest_new ≤ new_count d life past)
-enough_told d h life is_found past lost s plain follows found (inl many) i known = inr many
-enough_told d h life is_found past lost s plain follows found (inr all) i known =
+enough_told d h life is_found known_of past lost s plain follows knows (inl many) i known = inr many
+enough_told d h life is_found known_of past lost s plain follows knows (inr all) i known =
     inl (subst (λ (x : List Line). is_told_of i x ≡ true) (plains_are_read d life past plain)
-    (held_is_told d h life is_found past lost s i follows (found i) known (all i known)))
+    (follows.haves i (all i known) (knows i known)))
 
 pub news_are_counted : NewsAreCounted
 news_are_counted = record { begun = begun; counted = news_counted; enough = enough_told }

@@ -97,7 +97,7 @@ opens f size told slot t nothing content size_is begins = record {
   claims = ap (take 128) (sym begins.unclaimed);
   proven = sym begins.unproven;
   own = record { named = λ i moment e. absurd (none_some moment e); expired = λ e. absurd (false≢true e); choked = λ e. absurd (false≢true e) };
-  haves = λ i place lt. absurd (omega arith);
+  haves = λ i lt. absurd (omega arith);
   fresh = record { early = λ e i. begins.untold i; above = λ e i above. begins.untold i };
   exchange = record { answered = sym (none_answered t.story begins.unsaid); asked = sym (none_asked t.story begins.unsaid) };
 }

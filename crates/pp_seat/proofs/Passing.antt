@@ -22,7 +22,7 @@ use Rattle.pp_seat.specs.Lines.{inside, asked_since, names_at, is_named_at, last
 use Rattle.pp_seat.specs.Aspects.{Lacks, Haves, Fresh, Exchanges}
 use Rattle.pp_seat.specs.Seats.{SeatState}
 use Rattle.pp_seat.specs.Follows.{Frame, Lost, Follows, IsIdleSaid}
-use Rattle.pp_seat.specs.Laws.{IsIdleHeard, IdleStays, AnnouncedStays, MarkStays, IdleSays, CutsNameAlike, OffersGrow}
+use Rattle.pp_seat.specs.Laws.{IsIdleHeard, IdleStays, AnnouncedStays, KnownStays, IdleSays, CutsNameAlike, OffersGrow}
 use Rattle.pp_seat.proofs.Spans.{out_within, part_of, part_within, ordered}
 use Rattle.pp_seat.proofs.Naming.{unclaimed, named_out}
 use Rattle.pp_seat.proofs.Moments.{old_stays}
@@ -85,7 +85,7 @@ pub record Alike (f : Frame) (t later : Tale) : Type 0 where
   pub chokes_same : is_choked_by_peer later.story ≡ is_choked_by_peer t.story
 
 pub alike_follows : (f : Frame) (lost : Lost) (s : SeatState) (t later : Tale) (cursor : ℕ) (answer question : Option ℕ) → Alike f t later → Follows f lost s t
-    → Haves cursor f.since f.mark (λ i. is_told_of i later.story) → Fresh cursor f.proven later.told lost.haves
+    → Haves cursor f.known_of (λ i. is_told_of i later.story) → Fresh cursor f.proven later.told lost.haves
     → Exchanges answer question (last_answer later.story) (last_question later.story)
     → Follows f lost (record s { cursor = cursor; answer = answer; question = question }) later
 alike_follows f lost s t later cursor answer question a h haves fresh exchange =
@@ -490,7 +490,7 @@ offers_grow = record {
 -- ---- frames
 
 pub announced_stays : AnnouncedStays
-announced_stays f lost since s t mark each h = record {
+announced_stays f lost since s t each h = record {
   lists = h.lists;
   lacks = λ slot. lacks_by (h.lacks slot);
   slot = h.slot;
@@ -499,11 +499,7 @@ announced_stays f lost since s t mark each h = record {
   claims = h.claims;
   proven = h.proven;
   own = h.own;
-  haves = λ i place lt is early. ⊎_elim
-      (λ (same : since i ≡ f.since i). h.haves i place lt (sym same ∙ is) early)
-      (λ (new : (f.since i ≡ None) × (at : ℕ) × (since i ≡ Some at) × (length t.story ≤ at)).
-      absurd (let same = one_place i place new.1 is new.2 in let low = new.3 in omega arith))
-      (each i);
+  haves = h.haves;
   fresh = h.fresh;
   exchange = h.exchange;
 }
@@ -524,8 +520,8 @@ announced_stays f lost since s t mark each h = record {
           (each i);
     }
 
-pub mark_stays : MarkStays
-mark_stays f lost mark s t haves h = record {
+pub known_stays : KnownStays
+known_stays f lost known_of s t new h = record {
   lists = h.lists;
   lacks = h.lacks;
   slot = h.slot;
@@ -534,7 +530,7 @@ mark_stays f lost mark s t haves h = record {
   claims = h.claims;
   proven = h.proven;
   own = h.own;
-  haves = haves;
+  haves = λ i below known. ⊎_elim (λ was. h.haves i below was) (λ told. told) (new i below known);
   fresh = h.fresh;
   exchange = h.exchange;
 }

@@ -285,7 +285,7 @@ requests_say s range now own spans inside split named = record {
   follows = λ f lost t so h.
       let a = said_alike f now (map Request spans) t (requests_light spans) in
       let k = alike_follows f lost s t (with_said now (map Request spans) f.proven t) s.cursor s.answer s.question a h
-      (λ i place lt is early. requests_tell i now f.proven spans t (h.haves i place lt is early))
+      (λ i lt known. requests_tell i now f.proven spans t (h.haves i lt known))
       (requests_fresh s.cursor now f.proven spans t lost.haves h.fresh)
       (requests_exchange s.answer s.question now f.proven spans t h.exchange) in
       record {
@@ -325,7 +325,7 @@ have_says s range now cursor spans split order is = record {
       subst (λ (c : ℕ). Follows f lost (record s { cursor = c }) (with_said now (map Have spans) f.proven t)) (sym is)
       (alike_follows f lost s t (with_said now (map Have spans) f.proven t) (max s.cursor (range.last + 1)) s.answer s.question
       (said_alike f now (map Have spans) t (haves_light spans)) h
-      (λ i place lt is early. by_place f t passed h.haves i place lt is early (cases_lt i s.cursor) (cases_lt i range.first))
+      (λ i lt known. by_place f t passed h.haves i lt known (cases_lt i s.cursor) (cases_lt i range.first))
       (haves_fresh s.cursor range now f.proven spans t lost.haves split h.fresh)
       (haves_exchange s.answer s.question now f.proven spans t h.exchange));
 }
@@ -336,12 +336,12 @@ have_says s range now cursor spans split order is = record {
     none_some : (x : ℕ) → None ≡ Some x → ⊥
     none_some x e = cc
 
-    by_place : (f : Frame) (t : Tale) → IsPassed s.cursor range.first f t → Haves s.cursor f.since f.mark (λ i. is_told_of i t.story)
-        → (i place : ℕ) → i < max s.cursor (range.last + 1) → f.since i ≡ Some place → place ≤ f.mark → (i < s.cursor) ⊎ (s.cursor ≤ i)
+    by_place : (f : Frame) (t : Tale) → IsPassed s.cursor range.first f t → Haves s.cursor f.known_of (λ i. is_told_of i t.story)
+        → (i : ℕ) → i < max s.cursor (range.last + 1) → f.known_of i ≡ true → (i < s.cursor) ⊎ (s.cursor ≤ i)
         → (i < range.first) ⊎ (range.first ≤ i) → is_told_of i (with_said now (map Have spans) f.proven t).story ≡ true
-    by_place f t passed haves i place lt is early (inl below) other = haves_keep i now f.proven spans t (haves i place below is early)
-    by_place f t passed haves i place lt is early (inr above) (inl before) = absurd (none_some place (sym (passed i above before) ∙ is))
-    by_place f t passed haves i place lt is early (inr above) (inr from) =
+    by_place f t passed haves i lt known (inl below) other = haves_keep i now f.proven spans t (haves i below known)
+    by_place f t passed haves i lt known (inr above) (inl before) = absurd (both_ways (f.known_of i) (passed i above before) known)
+    by_place f t passed haves i lt known (inr above) (inr from) =
         haves_tell i now f.proven spans t (inl (split i ∙ here i from (omega arith)))
 
 cursor_follows : (f : Frame) (lost back : Lost) (s : SeatState) (cursor : ℕ) (t : Tale) → lost.chunks ≡ back.chunks → cursor ≤ s.cursor
@@ -355,7 +355,7 @@ cursor_follows f lost back s cursor t same le fresh h = record {
   claims = h.claims;
   proven = h.proven;
   own = h.own;
-  haves = λ i place lt is early. h.haves i place (omega arith) is early;
+  haves = λ i lt known. h.haves i (omega arith) known;
   fresh = fresh;
   exchange = h.exchange;
 }
@@ -378,7 +378,7 @@ pub addresses_say : (s : SeatState) (now : ℕ) (ms : List Message) → AreAddre
 addresses_say s now ms all = record {
   follows = λ f lost t so h.
       alike_follows f lost s t (with_said now ms f.proven t) s.cursor (Some now) s.question (said_alike f now ms t (addresses_light ms all.1)) h
-      (λ i place lt is early. addresses_keep i now f.proven ms t all.1 (h.haves i place lt is early))
+      (λ i lt known. addresses_keep i now f.proven ms t all.1 (h.haves i lt known))
       (addresses_fresh s.cursor now f.proven ms t lost.haves all.1 h.fresh)
       (record { answered = sym (addresses_answer now f.proven ms t all); asked = h.exchange.asked ∙ sym (addresses_question now f.proven ms t all.1) });
 }

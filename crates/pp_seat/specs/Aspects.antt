@@ -49,9 +49,9 @@ pub record Asks (own : List Asking) (stopped chokes : Bool) (were : (i moment : 
   pub expired : stopped ≡ true → is_old ≡ true
   pub choked : chokes ≡ true → is_choked ≡ true
 
--- Each chunk below the cursor that had been announced when the story had so many lines was told of on the channel too.
-abbrev pub Haves : (cursor : ℕ) → (since : ℕ → Option ℕ) → (mark : ℕ) → (are_told : ℕ → Bool) → Type 0
-Haves cursor since mark are_told = (i place : ℕ) → i < cursor → since i ≡ Some place → place ≤ mark → are_told i ≡ true
+-- Each chunk below the cursor of which the other peer is to know was told of on the channel.
+abbrev pub Haves : (cursor : ℕ) → (known_of are_told : ℕ → Bool) → Type 0
+Haves cursor known_of are_told = (i : ℕ) → i < cursor → known_of i ≡ true → are_told i ≡ true
 
 -- Of no chunk from the cursor on was a HAVE sent since the channel was proven, where none was refused; and of no chunk at all
 -- before that.

@@ -17,12 +17,12 @@ use Rattle.pp_seat.specs.Aspects.{Lists, Lacks, HasSlot, Sends, Knows, Asks, Hav
 use Rattle.pp_seat.specs.Seats.{SeatState}
 
 -- What is settled around a seat: how many chunks the content has, and the bytes of one; how many lines the story had when
--- each chunk was first announced; how many it had at the end of the last turn; and whether the channel is proven.
+-- each chunk was first announced; of which chunks the other peer is to know; and whether the channel is proven.
 pub record Frame : Type 0 where
   pub chunks : ℕ
   pub size : ℕ
   pub since : ℕ → Option ℕ
-  pub mark : ℕ
+  pub known_of : ℕ → Bool
   pub proven : Bool
 
 -- What was lost: how many chunks were given up, and how many times the cursor was set back.
@@ -42,7 +42,7 @@ pub record Follows (f : Frame) (lost : Lost) (s : SeatState) (t : Tale) : Type 0
   pub claims : s.claims ≡ take 128 (claims_in f.chunks t.proven)
   pub proven : s.proven ≡ f.proven
   pub own : Asks s.own s.stopped s.chokes (λ i moment. is_asked_at f.chunks i moment t.story) (has_old_request (clock t.story) t.story) (is_choked_by_peer t.story)
-  pub haves : Haves s.cursor f.since f.mark (λ i. is_told_of i t.story)
+  pub haves : Haves s.cursor f.known_of (λ i. is_told_of i t.story)
   pub fresh : Fresh s.cursor f.proven t.told lost.haves
   pub exchange : Exchanges s.answer s.question (last_answer t.story) (last_question t.story)
 
@@ -69,7 +69,7 @@ pub record Says (P : Frame → Tale → Type 0) (now : ℕ) (ms : List Message) 
 
 -- and one by which the channel is proven
 abbrev pub proved : Frame → Frame
-proved f = record { chunks = f.chunks; size = f.size; since = f.since; mark = f.mark; proven = true }
+proved f = record { chunks = f.chunks; size = f.size; since = f.since; known_of = f.known_of; proven = true }
 
 pub record IsProved (old new : SeatState) : Type 0 where
   pub follows : (f : Frame) (lost : Lost) (t : Tale) → Follows f lost old t → Follows (proved f) lost new t
@@ -92,9 +92,9 @@ IsUnannounced i f t = f.since i ≡ None
 abbrev pub AreUnannounced : List Span → ℕ → Frame → Tale → Type 0
 AreUnannounced list i f t = (j : ℕ) → j < i → has list j ≡ true → f.since j ≡ None
 
--- nor was any chunk from one on that is below another
+-- the other peer is to know of no chunk from one on that is below another
 abbrev pub IsPassed : (cursor first : ℕ) → Frame → Tale → Type 0
-IsPassed cursor first f t = (i : ℕ) → cursor ≤ i → i < first → f.since i ≡ None
+IsPassed cursor first f t = (i : ℕ) → cursor ≤ i → i < first → f.known_of i ≡ false
 
 -- the channel isn't proven
 abbrev pub IsUnproven : Frame → Tale → Type 0

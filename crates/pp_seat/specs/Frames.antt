@@ -31,12 +31,12 @@ since_of d life is_found i (r ∷ before) =
     if is_found i || is_announced d i before then since_of d life is_found i before else
     (if is_announced d i (r ∷ before) then Some (length (read_story d life (r ∷ before))) else None)
 
-abbrev pub frame_of : Descriptor → Life → (is_found : ℕ → Bool) → List Record → Frame
-frame_of d life is_found past = record {
+abbrev pub frame_of : Descriptor → Life → (is_found known_of : ℕ → Bool) → List Record → Frame
+frame_of d life is_found known_of past = record {
   chunks = chunks_of d;
   size = d.chunk;
   since = λ i. since_of d life is_found i past;
-  mark = length (read_story d life (earlier past));
+  known_of = known_of;
   proven = is_heard d life past;
 }
 
@@ -99,13 +99,10 @@ pub record OwedIsKept : Type 0 where
   pub found : (d : Descriptor) (life : Life) (is_found : ℕ → Bool) (i : ℕ) (past : List Record) → is_found i ≡ true → asked i (story d life past) ≡ true
       → (place : ℕ) × (since_of d life is_found i past ≡ Some place) × (asked_since place i (story d life past) ≡ true)
 
--- One record more: what it announces, and nothing else, was announced when the tale is as long as it is then; and the last turn
--- ended before, once the life had begun.
-pub record FramesGrow : Type 0 where
-  pub since : (d : Descriptor) (life : Life) (is_found : ℕ → Bool) (r : Record) (past : List Record)
-      → IsLater (length (read_story d life (r ∷ past))) (λ i. since_of d life is_found i past) (λ i. since_of d life is_found i (r ∷ past))
-  pub mark : (d : Descriptor) (life : Life) (past : List Record) → some_since is_event life.opening past ≡ true
-      → length (read_story d life (earlier past)) < length (read_story d life past)
+-- One record more: what it announces, and nothing else, was announced when the tale is as long as it is then.
+abbrev pub FramesGrow : Type 0
+FramesGrow = (d : Descriptor) (life : Life) (is_found : ℕ → Bool) (r : Record) (past : List Record)
+    → IsLater (length (read_story d life (r ∷ past))) (λ i. since_of d life is_found i past) (λ i. since_of d life is_found i (r ∷ past))
 
 -- Once the link handed in something since a life's opening, what is read has come to the moment now.
 abbrev pub ReadsComeToNow : Type 0
@@ -114,16 +111,10 @@ ReadsComeToNow = (d : Descriptor) (life : Life) (past : List Record) → some_si
 
 -- On a plain channel with a slot no chunk of which is listed, at most so many chunks that are owed are left as were given up.
 abbrev pub OwedIsGiven : Type 0
-OwedIsGiven = (d : Descriptor) (h : History) (life : Life) (is_found : ℕ → Bool) (past : List Record) (lost : Lost) (s : SeatState)
-    → IsPlainNow d life past → Follows (frame_of d life is_found past) lost s (tale_of d life past) → s.slot ≡ true → HasNone s
+OwedIsGiven = (d : Descriptor) (h : History) (life : Life) (is_found known_of : ℕ → Bool) (past : List Record) (lost : Lost) (s : SeatState)
+    → IsPlainNow d life past → Follows (frame_of d life is_found known_of past) lost s (tale_of d life past) → s.slot ≡ true → HasNone s
     → asks_in (story d life past) ≤ most_asks → ((i : ℕ) → StoodThroughout d h i → is_found i ≡ true)
     → ((i : ℕ) → IsOwed d h life past i → i < chunks_of d) → AtMost lost.chunks (IsOwed d h life past)
-
--- What was announced in an earlier turn, or was found at the start, was told of on the channel, if it is below the cursor.
-abbrev pub HeldIsTold : Type 0
-HeldIsTold = (d : Descriptor) (h : History) (life : Life) (is_found : ℕ → Bool) (past : List Record) (lost : Lost) (s : SeatState) (i : ℕ)
-    → Follows (frame_of d life is_found past) lost s (tale_of d life past) → (StoodThroughout d h i → is_found i ≡ true) → IsKnownOf d h past i
-    → i < s.cursor → is_told_of i (read_story d life past) ≡ true
 
 -- ---- what a turn tells that is new
 
@@ -141,8 +132,8 @@ pub record NewsAreCounted : Type 0 where
   pub counted : (d : Descriptor) (life : Life) (past : List Record) (f : Frame) (lost : Lost) (s : SeatState) (t : Tale) (spans : List Span)
       → Follows f lost s t → lost.haves ≡ 0 → ((i : ℕ) → t.told i ≡ was_told_of d life i (earlier past)) → TellsFrom d life past s.cursor spans
       → number_count spans ≤ new_count d life past
-  pub enough : (d : Descriptor) (h : History) (life : Life) (is_found : ℕ → Bool) (past : List Record) (lost : Lost) (s : SeatState)
-      → IsPlainNow d life past → Follows (frame_of d life is_found past) lost s (tale_of d life past)
-      → ((i : ℕ) → StoodThroughout d h i → is_found i ≡ true)
+  pub enough : (d : Descriptor) (h : History) (life : Life) (is_found known_of : ℕ → Bool) (past : List Record) (lost : Lost)
+      (s : SeatState) → IsPlainNow d life past → Follows (frame_of d life is_found known_of past) lost s (tale_of d life past)
+      → ((i : ℕ) → IsKnownOf d h past i → known_of i ≡ true)
       → (fewest_new ≤ new_count d life past) ⊎ ((i : ℕ) → IsKnownOf d h past i → i < s.cursor)
       → (i : ℕ) → IsKnownOf d h past i → (is_told_of i (story d life past) ≡ true) ⊎ (fewest_new ≤ new_count d life past)

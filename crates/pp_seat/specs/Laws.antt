@@ -1,5 +1,5 @@
 -- What stays of a seat while nothing is called, and what follows from the story that it follows.
-use Rattle.std.specs.Prelude.{◌≡◌, ◌⊎◌, ℕ, ◌<◌, ◌≤◌, ◌==◌, ◌||◌, true, false, Option, Some, None, List, [], ◌∷◌, length}
+use Rattle.std.specs.Prelude.{◌≡◌, ◌⊎◌, ℕ, ◌<◌, ◌≤◌, ◌==◌, ◌||◌, Bool, true, false, Option, Some, None, List, [], ◌∷◌, length}
 use Rattle.std.specs.List.{list_any}
 use Rattle.pp_terms.specs.format.Messages.{Message, Handshake, Data, Ack, Have, Integrity, Pex4, PexReq, Request, Cancel, Choke, Unchoke, Pex6}
 use Rattle.pp_terms.specs.tree.Range.{Span, within}
@@ -8,7 +8,6 @@ use Rattle.pp_traffic.specs.Asking.{choked, asks_in, most_asks}
 use Rattle.pp_promises.specs.Announced.{is_told_of}
 use Rattle.pp_promises.specs.OwnSide.{has_in, is_offered}
 use Rattle.pp_seat.specs.Lines.{inside, asked_since, Tale}
-use Rattle.pp_seat.specs.Aspects.{Haves}
 use Rattle.pp_seat.specs.Seats.{SeatState}
 use Rattle.pp_seat.specs.Follows.{Frame, Lost, Follows, Goes, Says, Always, IsIdleSaid, HasNone}
 
@@ -67,19 +66,20 @@ abbrev pub IsLater : ℕ → (since later : ℕ → Option ℕ) → Type 0
 IsLater place since later = (i : ℕ) → (later i ≡ since i) ⊎ ((since i ≡ None) × (at : ℕ) × (later i ≡ Some at) × (place ≤ at))
 
 abbrev pub with_since : (ℕ → Option ℕ) → Frame → Frame
-with_since since f = record { chunks = f.chunks; size = f.size; since = since; mark = f.mark; proven = f.proven }
+with_since since f = record { chunks = f.chunks; size = f.size; since = since; known_of = f.known_of; proven = f.proven }
 
 abbrev pub AnnouncedStays : Type 0
-AnnouncedStays = (f : Frame) (lost : Lost) (since : ℕ → Option ℕ) (s : SeatState) (t : Tale) → f.mark < length t.story
+AnnouncedStays = (f : Frame) (lost : Lost) (since : ℕ → Option ℕ) (s : SeatState) (t : Tale)
     → IsLater (length t.story) f.since since → Follows f lost s t → Follows (with_since since f) lost s t
 
--- A turn ended, and what had been announced below the cursor was told of on the channel.
-abbrev pub with_mark : ℕ → Frame → Frame
-with_mark mark f = record { chunks = f.chunks; size = f.size; since = f.since; mark = mark; proven = f.proven }
+-- The other peer is to know of other chunks, each of which, if it is new and below the cursor, was told of on the channel.
+abbrev pub with_known : (ℕ → Bool) → Frame → Frame
+with_known known_of f = record { chunks = f.chunks; size = f.size; since = f.since; known_of = known_of; proven = f.proven }
 
-abbrev pub MarkStays : Type 0
-MarkStays = (f : Frame) (lost : Lost) (mark : ℕ) (s : SeatState) (t : Tale) → Haves s.cursor f.since mark (λ i. is_told_of i t.story)
-    → Follows f lost s t → Follows (with_mark mark f) lost s t
+abbrev pub KnownStays : Type 0
+KnownStays = (f : Frame) (lost : Lost) (known_of : ℕ → Bool) (s : SeatState) (t : Tale)
+    → ((i : ℕ) → i < s.cursor → known_of i ≡ true → (f.known_of i ≡ true) ⊎ (is_told_of i t.story ≡ true))
+    → Follows f lost s t → Follows (with_known known_of f) lost s t
 
 -- ---- what follows
 

@@ -2,9 +2,9 @@
 //! what it asks for itself (RFC 7574, sections 3, 5 and 8). Moments are in microseconds. Only a new seat takes memory.
 #![tactic(auto)]
 
-ghost use Rattle.pp_seat.specs.Frames.{SameTales, TalesGrow, NoneBegins, OwedIsKept, OwedIsGiven, HeldIsTold, FramesGrow, ReadsComeToNow, NewsAreCounted};
+ghost use Rattle.pp_seat.specs.Frames.{SameTales, TalesGrow, NoneBegins, OwedIsKept, OwedIsGiven, FramesGrow, ReadsComeToNow, NewsAreCounted};
 ghost use Rattle.pp_seat.specs.Awaited.{LinesKeepAwaited, NoneAwaited, AskingIsAwaited, AskingIsChoked, OwnIsAsking, StopsAreTold};
-ghost use Rattle.pp_seat.specs.Laws.{IdleStays, IdleSays, CutsNameAlike, OffersGrow, AnnouncedStays, MarkStays, NoneLeft, ChokesAreDue};
+ghost use Rattle.pp_seat.specs.Laws.{IdleStays, IdleSays, CutsNameAlike, OffersGrow, AnnouncedStays, KnownStays, NoneLeft, ChokesAreDue};
 
 mod cursor;
 mod exchange;
@@ -26,7 +26,7 @@ pub fn laws_of_seats()
     ensures cuts { CutsNameAlike }
     ensures offers { OffersGrow }
     ensures announced { AnnouncedStays }
-    ensures marks { MarkStays }
+    ensures known { KnownStays }
     ensures none_left { NoneLeft }
     ensures chokes { ChokesAreDue }
 {}
@@ -35,7 +35,6 @@ pub fn laws_of_seats()
 pub fn laws_of_frames()
     ensures owed { OwedIsKept }
     ensures given { OwedIsGiven }
-    ensures held { HeldIsTold }
     ensures frames { FramesGrow }
     ensures same { SameTales }
     ensures tales { TalesGrow }

@@ -26,7 +26,7 @@ use Rattle.pp_lives.proofs.Own.{stands_of}
 use Rattle.pp_lives.proofs.Staying.{began}
 use Rattle.pp_lives.proofs.Wholes.{quiet_stays}
 use Rattle.pp_seat.specs.Seats.{SeatState}
-use Rattle.pp_seats.specs.Standing.{SeatsState, Setting, AllHold, IsFollowed, EachKnown, StandsFor}
+use Rattle.pp_seats.specs.Standing.{SeatsState, Setting, AllHold, IsFollowed, EachKnown, StandsFor, at_seat}
 use Rattle.pp_seats.specs.Hearing.{HearsAll, ChangesSeat, IsRead, Begins, IsShown, BeginsShown, Prepares, IsReady, Ready, OnceRead}
 use Rattle.pp_seats.proofs.Lists.{get_set_there, get_set_other, set_twice}
 use Rattle.pp_seats.proofs.Steps.{passed_ready, quiet_ready, heard_ready, opened_ready, replied_ready}
@@ -43,10 +43,10 @@ Between new p moment = record p { table = new; moment = moment }
 passed_at : (x : Setting) (most : ℕ) (p : SeatsState) (sender : Address) (at : ℕ) (bytes : List ℕ) (past : List Record) (h : StandsFor x most p past)
     → (new : Seats) (later : ℕ → Option Life) (n : ℕ) → PassesAt x.d p.table new h.lives later (Came at sender bytes) past n
     → (c : Channel) (life : Life) (s : SeatState) → channel_at new n ≡ Some c → is_waiting c ≡ false → later n ≡ Some life → slice_get p.seats n ≡ Some s
-    → IsReady x most (now (Came at sender bytes ∷ past)) s life (Came at sender bytes) past
+    → IsReady (at_seat x n) most (now (Came at sender bytes ∷ past)) s life (Came at sender bytes) past
 passed_at x most p sender at bytes past h new later n passes c life s there known living has =
     let w = passes c life there known living in
-    passed_ready x most at s life (address_of sender) bytes past
+    passed_ready (at_seat x n) most at s life (address_of sender) bytes past
     (h.follow n w.there.channel life s w.there.was w.there.known w.there.living has) w.there.begun w.apart
 
 -- ---- nothing is read
@@ -58,8 +58,6 @@ stays_ready x most p sender at bytes past h new s = record {
   event = refl;
   swarm = h.swarm;
   now_is = refl;
-  later = h.later;
-  is_later = h.is_later;
   lives = h.lives;
   standing = s.standing;
   begun = s.begun h.begun;
@@ -73,8 +71,6 @@ dropped_ready x most p sender at bytes past h new k g = record {
   event = refl;
   swarm = h.swarm;
   now_is = refl;
-  later = h.later;
-  is_later = h.is_later;
   lives = h.lives;
   standing = g.standing;
   begun = g.begun h.begun;
@@ -91,7 +87,7 @@ reads_ready : (x : Setting) (most : ℕ) (p q : SeatsState) (sender : Address) (
     → (reads : Reads x.d (now (Came at sender bytes ∷ past)) k ms Tells IsOn p.table new h.lives (Came at sender bytes) past)
     → (mid : List SeatState) → ((n : ℕ) → n ≢ k → slice_get mid n ≡ slice_get p.seats n)
     → (is : IsRead k ms (record p { table = new; seats = mid; moment = now (Came at sender bytes ∷ past) }) q)
-    → (closes ms ≡ false → IsReady x most (now (Came at sender bytes ∷ past)) is.after reads.life (Came at sender bytes) past)
+    → (closes ms ≡ false → IsReady (at_seat x k) most (now (Came at sender bytes ∷ past)) is.after reads.life (Came at sender bytes) past)
     → Ready x most q (Came at sender bytes) past
 reads_ready x most p q sender at bytes past h new k ms Tells IsOn reads mid same is own =
     subst (λ (o : SeatsState). Ready x most o r past) (sym is.is) (⊎_elim
@@ -101,8 +97,6 @@ reads_ready x most p q sender at bytes past h new k ms Tells IsOn reads mid same
       event = refl;
       swarm = h.swarm;
       now_is = refl;
-      later = h.later;
-      is_later = h.is_later;
       lives = gone.0;
       standing = gone.1.standing;
       begun = gone.1.begun h.begun;
@@ -116,8 +110,6 @@ reads_ready x most p q sender at bytes past h new k ms Tells IsOn reads mid same
       event = refl;
       swarm = h.swarm;
       now_is = refl;
-      later = h.later;
-      is_later = h.is_later;
       lives = reads.living;
       standing = reads.goes_on still;
       begun = reads.begun h.begun;
@@ -126,8 +118,9 @@ reads_ready x most p q sender at bytes past h new k ms Tells IsOn reads mid same
           let n_is = eqb-true n k here in
           let life_is : reads.life ≡ life = same_Some reads.life life (sym reads.lives_there ∙ ap reads.living (sym n_is) ∙ living) in
           let s_is : is.after ≡ s = same_Some is.after s (sym (get_set_there mid k is.after is.before is.there) ∙ ap (slice_get seats) (sym n_is) ∙ has) in
-          subst (λ (l : Life). IsReady x most (now (r ∷ past)) s l r past) life_is
-          (subst (λ (o : SeatState). IsReady x most (now (r ∷ past)) o reads.life r past) s_is (own still)))
+          subst (λ (m : ℕ). IsReady (at_seat x m) most (now (r ∷ past)) s life r past) (sym n_is)
+          (subst (λ (l : Life). IsReady (at_seat x k) most (now (r ∷ past)) s l r past) life_is
+          (subst (λ (o : SeatState). IsReady (at_seat x k) most (now (r ∷ past)) o reads.life r past) s_is (own still))))
           (λ apart. passed_at x most p sender at bytes past h new reads.living n (reads.passes n (eqb-false n k apart)) c life s there known living
           (sym (elsewhere n (eqb-false n k apart)) ∙ has))
           (cases_Bool (eqb n k));
@@ -178,7 +171,7 @@ opened x most p p1 sender at bytes past h room new slot k reads long ch q is0 =
     reads_ready x most p q sender at bytes past h new k (drop 1 (contents x.d bytes).read) TellsFirst (IsOpenedBy x.d r past) reads
     (set p.seats k ch.after)
     (λ n ne. get_set_other p.seats k n ch.after ne) is
-    (λ still. opened_ready x most at slot ch.before ch.after is.after reads.life (address_of sender) bytes past reads.is_on (room k ch.before ch.there) ch.changes
+    (λ still. opened_ready (at_seat x k) most at slot ch.before ch.after is.after reads.life (address_of sender) bytes past reads.is_on (room k ch.before ch.there) ch.changes
     (subst (λ (ms : List Message). HearsAll (now (r ∷ past)) (drop 1 ms) ch.after is.after) (sym (ap (λ (m : Messages). m.read) (contents_read x.d bytes long)))
     (subst (λ (o : SeatState). HearsAll (now (r ∷ past)) (drop 1 (contents x.d bytes).read) o is.after)
     (own_after k (drop 1 (contents x.d bytes).read) new p (now (r ∷ past)) ch.before ch.after q ch.there is) (is.hears still))))
@@ -195,7 +188,7 @@ replied x most p p1 sender at bytes past h room new slot k reads long ch q is0 =
     reads_ready x most p q sender at bytes past h new k (contents x.d bytes).read TellsFirst (IsRepliedBy x.d r past) reads
     (set p.seats k ch.after)
     (λ n ne. get_set_other p.seats k n ch.after ne) is
-    (λ still. replied_ready x most at slot ch.before ch.after is.after reads.life (address_of sender) bytes past reads.is_on (room k ch.before ch.there) ch.changes
+    (λ still. replied_ready (at_seat x k) most at slot ch.before ch.after is.after reads.life (address_of sender) bytes past reads.is_on (room k ch.before ch.there) ch.changes
     (subst (λ (ms : List Message). HearsAll (now (r ∷ past)) ms ch.after is.after) (sym (ap (λ (m : Messages). m.read) (contents_read x.d bytes long)))
     (subst (λ (o : SeatState). HearsAll (now (r ∷ past)) (contents x.d bytes).read o is.after)
     (own_after k (contents x.d bytes).read new p (now (r ∷ past)) ch.before ch.after q ch.there is) (is.hears still))))
@@ -212,7 +205,7 @@ heard x most p p1 sender at bytes past h new k reads long ch q is0 =
     reads_ready x most p q sender at bytes past h new k (contents x.d bytes).read TellsOne (IsHeardOn x.d p.table h.lives r past k) reads
     (set p.seats k ch.after)
     (λ n ne. get_set_other p.seats k n ch.after ne) is
-    (λ still. heard_ready x most at ch.before ch.after is.after reads.life (address_of sender) bytes past
+    (λ still. heard_ready (at_seat x k) most at ch.before ch.after is.after reads.life (address_of sender) bytes past
     (h.follow k on.there.channel reads.life ch.before on.there.was on.there.known on.there.living ch.there) on.there.begun on.on on.reads ch.changes
     (subst (λ (ms : List Message). HearsAll (now (r ∷ past)) ms ch.after is.after) (sym (ap (λ (m : Messages). m.read) (contents_read x.d bytes long)))
     (subst (λ (o : SeatState). HearsAll (now (r ∷ past)) (contents x.d bytes).read o is.after)
@@ -277,11 +270,9 @@ waited x most at p past h =
       event = refl;
       swarm = h.swarm;
       now_is = refl;
-      later = h.later;
-      is_later = h.is_later;
       lives = h.lives;
       standing = q.0;
       begun = h.begun;
-      follow = λ k c life s there known living has. quiet_ready x most at s life past (h.follow k c life s there known living has)
+      follow = λ k c life s there known living has. quiet_ready (at_seat x k) most at s life past (h.follow k c life s there known living has)
           (began x.d c life past (stands_of x.d (channel_at p.table k) (h.lives k) c life past (h.standing.seated.each k) there living));
     })

@@ -5,11 +5,9 @@ use Rattle.pp_lives.proofs.Wholes.{stands_at_first}
 use Rattle.pp_seats.specs.Laws.{NothingYet}
 
 pub nothing_yet : NothingYet
-nothing_yet x seats numbers none = record {
+nothing_yet x seats numbers = record {
   swarm = refl;
   now_is = refl;
-  later = [];
-  is_later = sym none;
   lives = λ n. None;
   standing = stands_at_first x.d numbers;
   begun = λ n c there waits. absurd (let none = none_there 64 n in cc);

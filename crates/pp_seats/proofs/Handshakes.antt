@@ -46,7 +46,7 @@ use Rattle.pp_seat.specs.Seats.{SeatState}
 use Rattle.pp_seat.specs.Awaited.{AllPassSaid}
 use Rattle.pp_seat.specs.Laws.{AreIdleSaid}
 use Rattle.pp_seat.proofs.Passing.{idle_says}
-use Rattle.pp_seats.specs.Standing.{SeatsState, Setting, IsFollowed, EachKnown, StandsFor}
+use Rattle.pp_seats.specs.Standing.{SeatsState, Setting, IsFollowed, EachKnown, StandsFor, at_seat}
 use Rattle.pp_seats.specs.Greeting.{Greets, IsGreeted, Parts, IsParted, Dials, Ends, EndsNone}
 use Rattle.pp_seats.proofs.Outgoing.{IsFar, far_is, unsaid_followed, unsaid_there, knows_of}
 use Rattle.pp_seats.proofs.Launching.{own_said}
@@ -93,8 +93,6 @@ greeted_known x most p k c m handshake moment bytes past h there known channel m
     record {
       swarm = h.swarm;
       now_is = h.now_is;
-      later = r ∷ h.later;
-      is_later = ap (λ (xs : List Record). r ∷ xs) h.is_later;
       lives = h.lives;
       standing = keeps.0;
       begun = begun_kept.sent t k c handshake p.moment there h.begun;
@@ -103,13 +101,14 @@ greeted_known x most p k c m handshake moment bytes past h there known channel m
           let n_is = eqb-true n k here in
           let l_is : life ≡ l = same_Some life l (sym knows.1 ∙ ap h.lives (sym n_is) ∙ living) in
           let seated : slice_get p.seats k ≡ Some s = ap (slice_get p.seats) (sym n_is) ∙ has in
-          subst (λ (y : Life). IsFollowed x most s y (r ∷ past)) l_is
-          (own_said x most s s life moment (address_of c.address) bytes ms past (h.follow k c life s there known knows.1 seated) knows.2.began said_is (idle_says (now past) ms s idle) pass refl))
+          subst (λ (j : ℕ). IsFollowed (at_seat x j) most s l (r ∷ past)) (sym n_is)
+          (subst (λ (y : Life). IsFollowed (at_seat x k) most s y (r ∷ past)) l_is
+          (own_said (at_seat x k) most s s life moment (address_of c.address) bytes ms past (h.follow k c life s there known knows.1 seated) knows.2.began said_is (idle_says (now past) ms s idle) pass refl)))
           (λ apart.
           let ne = eqb-false n k apart in
           let before = sym (marked.change.others n ne) ∙ at in
           let st = stands_of x.d (channel_at t n) (h.lives n) e l past (h.standing.seated.each n) before living in
-          unsaid_followed x most s l moment (address_of c.address) bytes past (h.follow n e l s before unwaits living has) (began x.d e l past st)
+          unsaid_followed (at_seat x n) most s l moment (address_of c.address) bytes past (h.follow n e l s before unwaits living has) (began x.d e l past st)
           (unsaid_there x.d t new h.lives h.lives n e l moment (address_of c.address) bytes past h.standing before unwaits living at living (keeps.1.others n ne)))
           (cases_Bool (eqb n k));
     }
@@ -128,8 +127,6 @@ greeted_again x most p k c life moment bytes past h there waits living is =
     record {
       swarm = h.swarm;
       now_is = h.now_is;
-      later = r ∷ h.later;
-      is_later = ap (λ (xs : List Record). r ∷ xs) h.is_later;
       lives = h.lives;
       standing = keeps.0;
       begun = begun_kept.sent t k c true p.moment there h.begun;
@@ -140,7 +137,7 @@ greeted_again x most p k c life moment bytes past h there waits living is =
           let ne = eqb-false n k apart in
           let before = sym (marked.change.others n ne) ∙ at in
           let st = stands_of x.d (channel_at t n) (h.lives n) e l past (h.standing.seated.each n) before lives_there in
-          unsaid_followed x most s l moment (address_of c.address) bytes past (h.follow n e l s before unwaits lives_there has) (began x.d e l past st)
+          unsaid_followed (at_seat x n) most s l moment (address_of c.address) bytes past (h.follow n e l s before unwaits lives_there has) (began x.d e l past st)
           (unsaid_there x.d t new h.lives h.lives n e l moment (address_of c.address) bytes past h.standing before unwaits lives_there at lives_there (keeps.1 n)))
           (cases_Bool (eqb n k));
     }
@@ -159,8 +156,6 @@ ended x most p k past h over =
     record {
       swarm = h.swarm;
       now_is = h.now_is;
-      later = h.later;
-      is_later = h.is_later;
       lives = h.lives;
       standing = stays.0;
       begun = begun_dropped t (closed t k) k c.0 drops h.begun;
@@ -198,8 +193,6 @@ dialled_sent x most p k to source moment options bytes past h free none there ch
     record {
       swarm = h.swarm;
       now_is = h.now_is;
-      later = r ∷ h.later;
-      is_later = ap (λ (xs : List Record). r ∷ xs) h.is_later;
       lives = lives;
       standing = two.0;
       begun = begun_kept.first t k c p.moment there (begun_kept.dial p.table to p.moment k h.standing.seated.are free h.begun);
@@ -213,7 +206,7 @@ dialled_sent x most p k to source moment options bytes past h free none there ch
           let lived : h.lives n ≡ Some l = sym (lives_else n ne) ∙ living in
           let lived_mid : with_life k None h.lives n ≡ Some l = cond-false (eqb n k) None (h.lives n) (ne_eqb n k ne) ∙ lived in
           let st = stands_of x.d (channel_at p.table n) (h.lives n) e l past (h.standing.seated.each n) before lived in
-          unsaid_followed x most s l moment (address_of to) bytes past (h.follow n e l s before unwaits lived has) (began x.d e l past st)
+          unsaid_followed (at_seat x n) most s l moment (address_of to) bytes past (h.follow n e l s before unwaits lived has) (began x.d e l past st)
           (unsaid_there x.d t (with_datagram t k true p.moment) (with_life k None h.lives) lives n e l moment (address_of to) bytes past one mid unwaits lived_mid at living (two.1 n)))
           (cases_Bool (eqb n k));
     }
@@ -233,8 +226,6 @@ dialled_refused x most p k to source past h free none there =
     record {
       swarm = h.swarm;
       now_is = h.now_is;
-      later = h.later;
-      is_later = h.is_later;
       lives = with_life k None h.lives;
       standing = two.0;
       begun = begun_kept.close t k c there (begun_kept.dial p.table to p.moment k h.standing.seated.are free h.begun);

@@ -70,7 +70,7 @@ use Rattle.pp_seat.proofs.Awaited.{lines_keep_awaited}
 use Rattle.pp_seat.proofs.Framing.{same_tales, tales_grow, frames_grow, read_longer, since_none, said_story}
 use Rattle.pp_seat.proofs.Passing.{announced_stays}
 use Rattle.pp_seats.specs.declared.serving.Next.{Next}
-use Rattle.pp_seats.specs.Standing.{SeatsState, Setting, frame_in, IsFollowed, StandsFor}
+use Rattle.pp_seats.specs.Standing.{SeatsState, Setting, frame_in, IsFollowed, StandsFor, SeatSetting, at_seat}
 use Rattle.pp_seats.specs.Sending.{HoldsAnnounced, with_sent}
 use Rattle.pp_seats.specs.Serving.{CanServe, is_committed, MayGo, IsReadied, PassesOver, Refuses, GivesUpChunk, SendsChunk}
 use Rattle.pp_seats.proofs.Outgoing.{IsFar, far_is, settled, knows_of, leaves_none, leaves_one}
@@ -91,9 +91,8 @@ given_up x most p k c before after past h there known has gives same =
       lost = record { chunks = old.lost.chunks + 1; haves = old.lost.haves };
       chunks = (let few = old.chunks in omega (arith, few));
       haves = (let few = old.haves in omega (arith, few));
-      follows = gives.follows (frame_in x life past) old.lost (tale_of x.d life past) old.follows;
+      follows = gives.follows (frame_in (at_seat x k) life past) old.lost (tale_of x.d life past) old.follows;
       awaited = subst (λ (own : _). AreAwaited (chunks_of x.d) own (read_story x.d life past)) (sym same) old.awaited;
-      marked = old.marked;
     })
 
 -- chunks leave the list that aren't announced
@@ -109,9 +108,8 @@ passed_over x most p k c before after i end held past h there known seated holds
       lost = old.lost;
       chunks = old.chunks;
       haves = old.haves;
-      follows = stays.follows (frame_in x life past) old.lost (tale_of x.d life past) (λ j lt listed. unannounced life j lt listed) old.follows;
+      follows = stays.follows (frame_in (at_seat x k) life past) old.lost (tale_of x.d life past) (λ j lt listed. unannounced life j lt listed) old.follows;
       awaited = subst (λ (own : _). AreAwaited (chunks_of x.d) own (read_story x.d life past)) (sym same) old.awaited;
-      marked = old.marked;
     })
   where
     unannounced : (life : Life) (j : ℕ) → j < end → has before.list j ≡ true → since_of x.d life x.is_found j past ≡ None
@@ -128,16 +126,16 @@ later_low : (place more : ℕ) (a b : ℕ → Option ℕ) → place ≤ more →
 later_low place more a b le later i = ⊎_elim (λ same. inl same) (λ new. inr (new.0, new.1, new.2, (let low = new.3 in omega (arith, low, le)))) (later i)
 
 -- a seat that follows what was said on its channel in one datagram
-pub own_said : (x : Setting) (most : ℕ) (s new : SeatState) (life : Life) (moment : ℕ) (receiver : traffic.Address) (bytes : List ℕ) (ms : List Message) (past : List Record)
+pub own_said : (x : SeatSetting) (most : ℕ) (s new : SeatState) (life : Life) (moment : ℕ) (receiver : traffic.Address) (bytes : List ℕ) (ms : List Message) (past : List Record)
     → IsFollowed x most s life past → life.opening < length past → said_in x.d life (Sent moment receiver bytes) ≡ ms
     → Says Always (now past) ms s new → AllPassSaid ms → new.own ≡ s.own → IsFollowed x most new life (Sent moment receiver bytes ∷ past)
 own_said x most s new life moment receiver bytes ms past h lt said_is says pass same =
     let r = Sent moment receiver bytes in
     let since : ℕ → Option ℕ = λ i. since_of x.d life x.is_found i (r ∷ past) in
     let longer = read_longer x.d life r past in
-    let first = announced_stays (frame_in x life past) h.lost since s (tale_of x.d life past) h.marked
+    let first = announced_stays (frame_in x life past) h.lost since s (tale_of x.d life past)
     (later_low (length (read_story x.d life past)) (length (read_story x.d life (r ∷ past))) (λ i. since_of x.d life x.is_found i past) since longer
-    (frames_grow.since x.d life x.is_found r past)) h.follows in
+    (frames_grow x.d life x.is_found r past)) h.follows in
     let f = with_since since (frame_in x life past) in
     let said = says.follows f h.lost (tale_of x.d life past) tt first in
     let grown = subst (λ (xs : List Message). IsSameTale (with_said (now past) xs (is_heard x.d life past) (tale_of x.d life past)) (tale_of x.d life (r ∷ past))) said_is
@@ -152,21 +150,20 @@ own_said x most s new life moment receiver bytes ms past h lt said_is says pass 
       awaited = subst (λ (xs : List Line). AreAwaited (chunks_of x.d) new.own xs) (sym (grown.story ∙ said_story (now past) ms (is_heard x.d life past) (tale_of x.d life past)))
           (subst (λ (own : _). AreAwaited (chunks_of x.d) own (say (now past) ms (read_story x.d life past))) (sym same)
           ((lines_keep_awaited.passed (now past) ms s.own pass).stays (chunks_of x.d) (read_story x.d life past) h.awaited));
-      marked = omega (arith, h.marked, longer);
     }
 
 -- it answers the peer, behind hashes that complete its path
-answered : (d : Descriptor) (found : ℕ → Bool) (turn : List Record) (most : ℕ) (p : SeatsState) (k : ℕ) (c : Channel) (life : Life) (before : SeatState) (i : ℕ) (front : List Message) (nodes : List Node) (past : List Record)
-    → let x : Setting = record { d = d; is_found = found; turn = turn } in
+answered : (d : Descriptor) (found : ℕ → Bool) (aware : ℕ → ℕ → Bool) (most : ℕ) (p : SeatsState) (k : ℕ) (c : Channel) (life : Life) (before : SeatState) (i : ℕ) (front : List Message) (nodes : List Node) (past : List Record)
+    → let x : Setting = record { d = d; is_found = found; known_of = aware } in
     (h : StandsFor x most p past) → channel_at p.table k ≡ Some c → is_waiting c ≡ false → is_begun c.opening ≡ true → h.lives k ≡ Some life → slice_get p.seats k ≡ Some before
     → before.proven ≡ true → IsNext before i
     → ((f : Frame) (lost : Lost) (t : Tale) (brought : Node → Bool) → Follows f lost before t → list_all brought nodes ≡ true → completes f.chunks brought (is_told f.chunks t.story) i ≡ true)
     → list_all (brings front) nodes ≡ true → AnswersOn d (lets_send d.chunk) past life i front
-answered d found turn most p k c life before i front nodes past h there known begun living seated proven next whole brought =
-    let x : Setting = record { d = d; is_found = found; turn = turn } in
+answered d found aware most p k c life before i front nodes past h there known begun living seated proven next whole brought =
+    let x : Setting = record { d = d; is_found = found; known_of = aware } in
     let old = h.follow k c life before there known living seated in
     let t = tale_of d life past in
-    let a = answers (frame_in x life past) old.lost i before t next old.follows in
+    let a = answers (frame_in (at_seat x k) life past) old.lost i before t next old.follows in
     let reads = seats_read d p.table h.lives k (read_story d life past) past h.standing (told_is d (channel_at p.table k) (h.lives k) c life past there living known) in
     let is : IsReadOf d life past (read_story d life past) = subst (λ (l : Life). IsReadOf d l past (read_story d life past)) (same_Some reads.0 life (sym reads.1 ∙ living)) reads.2 in
     record {
@@ -175,7 +172,7 @@ answered d found turn most p k c life before i front nodes past h there known be
       unchoked = sym is.chokes ∙ a.unchoked;
       heard = sym old.follows.proven ∙ proven;
       whole_path = paths_grow (chunks_of d) (brings front) (brings front) (is_told (chunks_of d) (read_story d life past)) (is_told (chunks_of d) (story d life past)) i
-          (λ n e. e) (λ n e. is.tells (chunks_of d) n e) (whole (frame_in x life past) old.lost t (brings front) old.follows brought);
+          (λ n e. e) (λ n e. is.tells (chunks_of d) n e) (whole (frame_in (at_seat x k) life past) old.lost t (brings front) old.follows brought);
       in_window = ap has_room (sym (is.window d.chunk)) ∙ a.in_window;
     }
 
@@ -197,12 +194,12 @@ pub record MaySend (p : SeatsState) (k : ℕ) (c : Channel) (before : SeatState)
   pub proven : before.proven ≡ true
   pub next : IsNext before i
 
-pub chunk_serves : (found : ℕ → Bool) (turn : List Record) (most : ℕ) (p : SeatsState) (k : ℕ) (c : Channel) (before : SeatState) (i at : ℕ) (book : LookUp) (nodes : List Node) (bytes datagram : List ℕ) (moment : ℕ) (past : List Record)
-    → StandsFor (record { d = p.descriptor; is_found = found; turn = turn }) most p past → MaySend p k c before i → IsChunk p.descriptor book c before i at nodes bytes datagram
+pub chunk_serves : (found : ℕ → Bool) (aware : ℕ → ℕ → Bool) (most : ℕ) (p : SeatsState) (k : ℕ) (c : Channel) (before : SeatState) (i at : ℕ) (book : LookUp) (nodes : List Node) (bytes datagram : List ℕ) (moment : ℕ) (past : List Record)
+    → StandsFor (record { d = p.descriptor; is_found = found; known_of = aware }) most p past → MaySend p k c before i → IsChunk p.descriptor book c before i at nodes bytes datagram
     → Serves p.descriptor book (lets_send p.descriptor.chunk) past (Sent moment (address_of c.address) datagram)
-chunk_serves found turn most p k c before i at book nodes bytes datagram moment past h may is =
+chunk_serves found aware most p k c before i at book nodes bytes datagram moment past h may is =
     let d = p.descriptor in
-    let knows_it = knows_of (record { d = d; is_found = found; turn = turn }) most p k c past h may.there may.known in
+    let knows_it = knows_of (record { d = d; is_found = found; known_of = aware }) most p k c past h may.there may.known in
     subst (λ (g : plain.Datagram). ServesFrom d book (lets_send d.chunk) past (address_of c.address) g.channel [] g.messages.read) (sym is.written.read)
     (serves_from d book (lets_send d.chunk) past (address_of c.address) (Some (unwrap_or c.remote 0)) [] nodes i at bytes (record {
       last = refl;
@@ -212,16 +209,16 @@ chunk_serves found turn most p k c before i at book nodes bytes datagram moment 
         life = knows_it.0;
         at = knows_it.2.address;
         by = ap (λ (n : ℕ). Some n) knows_it.2.number;
-        answers = answered d found turn most p k c knows_it.0 before i (map (hash_of book) nodes) nodes past h may.there may.known may.begun knows_it.1 may.seated may.proven may.next is.whole (all_brought book nodes);
+        answers = answered d found aware most p k c knows_it.0 before i (map (hash_of book) nodes) nodes past h may.there may.known may.begun knows_it.1 may.seated may.proven may.next is.whole (all_brought book nodes);
       };
     }))
 
-pub chunk_plans : (found : ℕ → Bool) (turn : List Record) (most : ℕ) (p : SeatsState) (k : ℕ) (c : Channel) (before : SeatState) (i at : ℕ) (book : LookUp) (nodes : List Node) (bytes datagram : List ℕ) (moment : ℕ) (past : List Record)
-    → StandsFor (record { d = p.descriptor; is_found = found; turn = turn }) most p past → MaySend p k c before i → IsChunk p.descriptor book c before i at nodes bytes datagram
+pub chunk_plans : (found : ℕ → Bool) (aware : ℕ → ℕ → Bool) (most : ℕ) (p : SeatsState) (k : ℕ) (c : Channel) (before : SeatState) (i at : ℕ) (book : LookUp) (nodes : List Node) (bytes datagram : List ℕ) (moment : ℕ) (past : List Record)
+    → StandsFor (record { d = p.descriptor; is_found = found; known_of = aware }) most p past → MaySend p k c before i → IsChunk p.descriptor book c before i at nodes bytes datagram
     → Plans p.descriptor (lets_send p.descriptor.chunk) past (Sent moment (address_of c.address) datagram)
-chunk_plans found turn most p k c before i at book nodes bytes datagram moment past h may is =
+chunk_plans found aware most p k c before i at book nodes bytes datagram moment past h may is =
     let d = p.descriptor in
-    let x : Setting = record { d = d; is_found = found; turn = turn } in
+    let x : Setting = record { d = d; is_found = found; known_of = aware } in
     let knows_it = knows_of x most p k c past h may.there may.known in
     let old = h.follow k c knows_it.0 before may.there may.known knows_it.1 may.seated in
     subst (λ (g : plain.Datagram). PlansFrom d (lets_send d.chunk) past (address_of c.address) g.channel [] g.messages.read) (sym is.written.read)
@@ -230,20 +227,20 @@ chunk_plans found turn most p k c before i at book nodes bytes datagram moment p
       at = knows_it.2.address;
       by = ap (λ (n : ℕ). Some n) knows_it.2.number;
       plans = record {
-        answers = answered d found turn most p k c knows_it.0 before i (map (hash_of book) nodes) nodes past h may.there may.known may.begun knows_it.1 may.seated may.proven may.next is.whole (all_brought book nodes);
+        answers = answered d found aware most p k c knows_it.0 before i (map (hash_of book) nodes) nodes past h may.there may.known may.begun knows_it.1 may.seated may.proven may.next is.whole (all_brought book nodes);
         exact = spans_are book nodes ∙ ap (map leaves_of) (is.planned ∙ ap (λ (n : ℕ). plan n (knows before.told) i) old.follows.told.content
             ∙ plan_same (chunks_of d) (knows before.told) (is_read_told d knows_it.0 past) i old.follows.told.known);
       };
     }))
 
 -- and the seats stand for it
-pub chunk_stands : (found : ℕ → Bool) (turn : List Record) (most : ℕ) (p : SeatsState) (k : ℕ) (c : Channel) (before after : SeatState) (i : ℕ) (book : LookUp) (nodes : List Node) (bytes datagram : List ℕ) (moment : ℕ) (past : List Record)
-    → StandsFor (record { d = p.descriptor; is_found = found; turn = turn }) most p past → MaySend p k c before i → IsChunk p.descriptor book c before i p.moment nodes bytes datagram
+pub chunk_stands : (found : ℕ → Bool) (aware : ℕ → ℕ → Bool) (most : ℕ) (p : SeatsState) (k : ℕ) (c : Channel) (before after : SeatState) (i : ℕ) (book : LookUp) (nodes : List Node) (bytes datagram : List ℕ) (moment : ℕ) (past : List Record)
+    → StandsFor (record { d = p.descriptor; is_found = found; known_of = aware }) most p past → MaySend p k c before i → IsChunk p.descriptor book c before i p.moment nodes bytes datagram
     → Says Always p.moment (delivery book nodes i p.moment bytes) before after → after.own ≡ before.own
-    → StandsFor (record { d = p.descriptor; is_found = found; turn = turn }) most (record p { table = with_sent p.table k 1 p.moment; seats = set p.seats k after }) (Sent moment (address_of c.address) datagram ∷ past)
-chunk_stands found turn most p k c before after i book nodes bytes datagram moment past h may is says same =
+    → StandsFor (record { d = p.descriptor; is_found = found; known_of = aware }) most (record p { table = with_sent p.table k 1 p.moment; seats = set p.seats k after }) (Sent moment (address_of c.address) datagram ∷ past)
+chunk_stands found aware most p k c before after i book nodes bytes datagram moment past h may is says same =
     let d = p.descriptor in
-    let x : Setting = record { d = d; is_found = found; turn = turn } in
+    let x : Setting = record { d = d; is_found = found; known_of = aware } in
     let ms = delivery book nodes i p.moment bytes in
     let knows_it = knows_of x most p k c past h may.there may.known in
     let life = knows_it.0 in
@@ -253,9 +250,9 @@ chunk_stands found turn most p k c before after i book nodes bytes datagram mome
     let goes : same_address (address_of c.address) life.address ≡ true = subst (λ (a : traffic.Address). same_address (address_of c.address) a ≡ true) (sym knows_it.2.address) (same_self (address_of c.address)) in
     let said_is = sent_is_said.own d life moment (address_of c.address) datagram goes (ap (is_number life.remote) channel ∙ eq-eqb life.remote life.remote refl) ∙ messages in
     settled x most most p k c 1 before after (Sent moment (address_of c.address) datagram ∷ []) past h may.there may.known may.seated (omega arith)
-    (leaves_one d found turn p.table h.lives k c life moment datagram ms past h.standing may.there knows_it.1 may.known channel messages (no_handshake book nodes i p.moment bytes))
-    (λ l lives_there. subst (λ (y : Life). IsFollowed x most after y (Sent moment (address_of c.address) datagram ∷ past)) (same_Some life l (sym knows_it.1 ∙ lives_there))
-    (own_said x most before after life moment (address_of c.address) datagram ms past (h.follow k c life before may.there may.known knows_it.1 may.seated) knows_it.2.began said_is
+    (leaves_one d found aware p.table h.lives k c life moment datagram ms past h.standing may.there knows_it.1 may.known channel messages (no_handshake book nodes i p.moment bytes))
+    (λ l lives_there. subst (λ (y : Life). IsFollowed (at_seat x k) most after y (Sent moment (address_of c.address) datagram ∷ past)) (same_Some life l (sym knows_it.1 ∙ lives_there))
+    (own_said (at_seat x k) most before after life moment (address_of c.address) datagram ms past (h.follow k c life before may.there may.known knows_it.1 may.seated) knows_it.2.began said_is
     (subst (λ (n : ℕ). Says Always n ms before after) h.now_is says) (waits_for_none book nodes i p.moment bytes) same))
 
 -- ---- in the words of the calls
@@ -272,7 +269,7 @@ may_send p k far before i f may = record {
 
 -- the setting of these seats
 abbrev In : SeatsState → Setting → Setting
-In p x = record { d = p.descriptor; is_found = x.is_found; turn = x.turn }
+In p x = record { d = p.descriptor; is_found = x.is_found; known_of = x.known_of }
 
 pub sends_chunk : (p q : SeatsState) (k : ℕ) (store : StoreState) (book : LookUp) (far : Far) (before after : SeatState) (i : ℕ) (nodes : List Node) (bytes datagram : List ℕ) (link later : LinkState) (disk left : DiskState)
     → MayGo p k far before i → is_committed store i ≡ true → nodes ≡ plan before.told.chunks (knows before.told) i → AllByRecursion (IsInBook p.descriptor book) nodes
@@ -301,17 +298,17 @@ sends_chunk p q k store book far before after i nodes bytes datagram link later 
   sends = sends;
   stands = λ x most past h. subst (λ (y : Far). StandsFor x most q (Sent m (address_of y.address) datagram ∷ past)) (sym f.is)
       (subst (λ (o : SeatsState). StandsFor x most o (Sent m (address_of f.channel.address) datagram ∷ past)) (sym is)
-      (subst (λ (d : Descriptor). StandsFor (record { d = d; is_found = x.is_found; turn = x.turn }) most p past
-      → StandsFor (record { d = d; is_found = x.is_found; turn = x.turn }) most (record p { table = with_sent p.table k 1 p.moment; seats = set p.seats k after }) (Sent m (address_of f.channel.address) datagram ∷ past))
-      h.swarm (λ g. chunk_stands x.is_found x.turn most p k f.channel before after i book nodes bytes datagram m past g can chunk says (ap (λ (o : SeatState). o.own) exact)) h));
+      (subst (λ (d : Descriptor). StandsFor (record { d = d; is_found = x.is_found; known_of = x.known_of }) most p past
+      → StandsFor (record { d = d; is_found = x.is_found; known_of = x.known_of }) most (record p { table = with_sent p.table k 1 p.moment; seats = set p.seats k after }) (Sent m (address_of f.channel.address) datagram ∷ past))
+      h.swarm (λ g. chunk_stands x.is_found x.known_of most p k f.channel before after i book nodes bytes datagram m past g can chunk says (ap (λ (o : SeatState). o.own) exact)) h));
   serves = λ x most past h. subst (λ (y : Far). Serves x.d book (lets_send x.d.chunk) past (Sent m (address_of y.address) datagram)) (sym f.is)
-      (subst (λ (d : Descriptor). StandsFor (record { d = d; is_found = x.is_found; turn = x.turn }) most p past
+      (subst (λ (d : Descriptor). StandsFor (record { d = d; is_found = x.is_found; known_of = x.known_of }) most p past
       → Serves d book (lets_send d.chunk) past (Sent m (address_of f.channel.address) datagram))
-      h.swarm (λ g. chunk_serves x.is_found x.turn most p k f.channel before i p.moment book nodes bytes datagram m past g can chunk) h);
+      h.swarm (λ g. chunk_serves x.is_found x.known_of most p k f.channel before i p.moment book nodes bytes datagram m past g can chunk) h);
   plans = λ x most past h. subst (λ (y : Far). Plans x.d (lets_send x.d.chunk) past (Sent m (address_of y.address) datagram)) (sym f.is)
-      (subst (λ (d : Descriptor). StandsFor (record { d = d; is_found = x.is_found; turn = x.turn }) most p past
+      (subst (λ (d : Descriptor). StandsFor (record { d = d; is_found = x.is_found; known_of = x.known_of }) most p past
       → Plans d (lets_send d.chunk) past (Sent m (address_of f.channel.address) datagram))
-      h.swarm (λ g. chunk_plans x.is_found x.turn most p k f.channel before i p.moment book nodes bytes datagram m past g can chunk) h);
+      h.swarm (λ g. chunk_plans x.is_found x.known_of most p k f.channel before i p.moment book nodes bytes datagram m past g can chunk) h);
 }
   where
     m : ℕ

@@ -54,7 +54,7 @@ use Rattle.pp_seat.specs.Laws.{IsLater, with_since}
 use Rattle.pp_seat.specs.Awaited.{AreAwaited}
 use Rattle.pp_seat.proofs.Framing.{same_tales, tales_grow, frames_grow, read_longer, since_none, said_story}
 use Rattle.pp_seat.proofs.Passing.{announced_stays}
-use Rattle.pp_seats.specs.Standing.{SeatsState, Setting, frame_in, IsFollowed, EachKnown, StandsFor}
+use Rattle.pp_seats.specs.Standing.{SeatsState, Setting, SeatSetting, at_seat, frame_in, IsFollowed, EachKnown, StandsFor}
 use Rattle.pp_seats.specs.Sending.{HoldsAnnounced, Announces, PassesOne, PassesAll, requested, AsksFirst, FitAll, MaySay, with_sent}
 use Rattle.pp_seats.proofs.Lists.{get_set_there, get_set_other}
 use Rattle.pp_seats.proofs.Waits.{delivery_keeps}
@@ -74,7 +74,7 @@ said_none at (m ∷ ms) story e = absurd (
     omega arith)
 
 -- a record on which nothing is said on a channel
-pub unsaid_followed : (x : Setting) (most : ℕ) (s : SeatState) (life : Life) (moment : ℕ) (receiver : traffic.Address) (bytes : List ℕ) (past : List Record)
+pub unsaid_followed : (x : SeatSetting) (most : ℕ) (s : SeatState) (life : Life) (moment : ℕ) (receiver : traffic.Address) (bytes : List ℕ) (past : List Record)
     → IsFollowed x most s life past → life.opening < length past → said_in x.d life (Sent moment receiver bytes) ≡ []
     → IsFollowed x most s life (Sent moment receiver bytes ∷ past)
 unsaid_followed x most s life moment receiver bytes past h lt none =
@@ -83,11 +83,9 @@ unsaid_followed x most s life moment receiver bytes past h lt none =
     let same : IsSameTale (tale_of x.d life past) (tale_of x.d life (r ∷ past)) =
     subst (λ (ms : List Message). IsSameTale (with_said (now past) ms (is_heard x.d life past) (tale_of x.d life past)) (tale_of x.d life (r ∷ past))) none
     (tales_grow.sent x.d life moment receiver bytes past lt) in
-    let longer = read_longer x.d life r past in
-    let marked : length (read_story x.d life x.turn) < length (read_story x.d life (r ∷ past)) = omega (arith, h.marked, longer) in
     let told = same_tales f h.lost s (tale_of x.d life past) (tale_of x.d life (r ∷ past)) same h.follows in
-    let with_later = announced_stays f h.lost (λ i. since_of x.d life x.is_found i (r ∷ past)) s (tale_of x.d life (r ∷ past)) marked
-    (frames_grow.since x.d life x.is_found r past) told in
+    let with_later = announced_stays f h.lost (λ i. since_of x.d life x.is_found i (r ∷ past)) s (tale_of x.d life (r ∷ past))
+    (frames_grow x.d life x.is_found r past) told in
     record {
       lost = h.lost;
       chunks = h.chunks;
@@ -95,18 +93,16 @@ unsaid_followed x most s life moment receiver bytes past h lt none =
       follows = subst (λ (p : Bool). Follows (record (frame_in x life (r ∷ past)) { proven = p }) h.lost s (tale_of x.d life (r ∷ past)))
           (sym (since_same (comes_on x.d life) life.opening r past refl)) with_later;
       awaited = subst (λ (xs : List Line). AreAwaited (chunks_of x.d) s.own xs) (sym same.story) h.awaited;
-      marked = marked;
     }
 
 -- more may be lost
-pub more_followed : (x : Setting) (most more : ℕ) (s : SeatState) (life : Life) (past : List Record) → most ≤ more → IsFollowed x most s life past → IsFollowed x more s life past
+pub more_followed : (x : SeatSetting) (most more : ℕ) (s : SeatState) (life : Life) (past : List Record) → most ≤ more → IsFollowed x most s life past → IsFollowed x more s life past
 more_followed x most more s life past le h = record {
   lost = h.lost;
   chunks = (let few = h.chunks in omega (arith, few, le));
   haves = (let few = h.haves in omega (arith, few, le));
   follows = h.follows;
   awaited = h.awaited;
-  marked = h.marked;
 }
 
 -- What was said elsewhere isn't said on a channel whose reading stays as it was.
@@ -228,7 +224,7 @@ announced_held d c channel moment at held i (b ∷ bs) old new past each a befor
         (or_cases (announces i (read d (Sent moment (address_of c.address) b.bytes)).messages.read) (is_announced d i past) e)
 
 -- the notes pass over nothing that was announced
-may_tell : (held : ℕ → Bool) (f : Frame) (lost : Lost) (cursor : ℕ) (ns : List Note) → ((i : ℕ) → held i ≡ false → f.since i ≡ None)
+may_tell : (held : ℕ → Bool) (f : Frame) (lost : Lost) (cursor : ℕ) (ns : List Note) → ((i : ℕ) → held i ≡ false → f.known_of i ≡ false)
     → PassesAll held cursor ns → steps.PassesAll cursor ns f
 may_tell held f lost cursor [] none p = tt
 may_tell held f lost cursor (note ∷ ns) none p = (one note p.0, may_tell held f lost (steps.cursor_behind cursor note) ns none p.1)
@@ -263,7 +259,7 @@ after_by P w [] past first more = first
 after_by P w (b ∷ bs) past first more = subst P (sym (after_more w b bs past))
     (after_by P w bs (First w b past) (first_by P w b past first (more b past first)) more)
 
-since_after : (x : Setting) (life : Life) (w : Way) (bs : List Batch) (past : List Record)
+since_after : (x : SeatSetting) (life : Life) (w : Way) (bs : List Batch) (past : List Record)
     → IsLater (length (read_story x.d life past)) (λ i. since_of x.d life x.is_found i past) (λ i. since_of x.d life x.is_found i (After w bs past))
     × (length (read_story x.d life past) ≤ length (read_story x.d life (After w bs past)))
 since_after x life w bs past = after_by (λ (xs : List Record).
@@ -274,7 +270,7 @@ since_after x life w bs past = after_by (λ (xs : List Record).
     let longer = read_longer x.d life (Sent w.moment w.receiver b.bytes) before in
     (later_twice (length (read_story x.d life past)) (length (read_story x.d life (Sent w.moment w.receiver b.bytes ∷ before)))
     (λ i. since_of x.d life x.is_found i past) (λ i. since_of x.d life x.is_found i before) (λ i. since_of x.d life x.is_found i (Sent w.moment w.receiver b.bytes ∷ before))
-    (let low = h.1 in omega (arith, low, longer)) h.0 (frames_grow.since x.d life x.is_found (Sent w.moment w.receiver b.bytes) before),
+    (let low = h.1 in omega (arith, low, longer)) h.0 (frames_grow x.d life x.is_found (Sent w.moment w.receiver b.bytes) before),
     (let low = h.1 in omega (arith, low, longer))))
 
 heard_after : (d : Descriptor) (life : Life) (w : Way) (bs : List Batch) (past : List Record) → is_heard d life (After w bs past) ≡ is_heard d life past
@@ -283,25 +279,22 @@ heard_after d life w bs past = after_by (λ (xs : List Record). is_heard d life 
 
 -- ---- the channel's own seat
 
-pub own_followed : (d : Descriptor) (found : ℕ → Bool) (turn : List Record) (most : ℕ) (c : Channel) (channel moment at : ℕ) (bs : List Batch) (old new : At) (life : Life) (past : List Record) (held : ℕ → Bool)
-    → let w = W d c channel moment at in let x : Setting = record { d = d; is_found = found; turn = turn } in
+pub own_followed : (d : Descriptor) (found aware : ℕ → Bool) (most : ℕ) (c : Channel) (channel moment at : ℕ) (bs : List Batch) (old new : At) (life : Life) (past : List Record) (held : ℕ → Bool)
+    → let w = W d c channel moment at in let x : SeatSetting = record { d = d; is_found = found; known_of = aware } in
     DeliversEach w bs old new → IsOn w life past → IsFollowed x most old.seat life past → old.so_far.set_back ≡ false → old.so_far.refused ≡ 0
-    → HoldsAnnounced x held past → MaySay held (notes_of bs) old.seat
+    → ((i : ℕ) → aware i ≡ true → held i ≡ true) → MaySay held (notes_of bs) old.seat
     → IsFollowed x (most + new.so_far.refused) new.seat life (After w bs past)
-own_followed d found turn most c channel moment at bs old new life past held each on h back none holds may =
+own_followed d found aware most c channel moment at bs old new life past held each on h back none inside may =
     let w = W d c channel moment at in
-    let x : Setting = record { d = d; is_found = found; turn = turn } in
+    let x : SeatSetting = record { d = d; is_found = found; known_of = aware } in
     let after = After w bs past in
     let later = since_after x life w bs past in
     let since : ℕ → Option ℕ = λ i. since_of d life found i after in
     let f = with_since since (frame_in x life past) in
-    let first = announced_stays (frame_in x life past) h.lost since old.seat (tale_of d life past) h.marked later.0 h.follows in
-    let unannounced : (i : ℕ) → held i ≡ false → since i ≡ None = λ i out.
-    since_none d life found i after
-    (false_from_ne_true (found i) (λ e. both_ways (held i) out (holds.found i e)))
-    (false_from_ne_true (is_announced d i after) (λ e. both_ways (held i) out (announced_held d c channel moment at held i bs old new past each may.announces (holds.announced i) e))) in
+    let first = announced_stays (frame_in x life past) h.lost since old.seat (tale_of d life past) later.0 h.follows in
+    let unknown : (i : ℕ) → held i ≡ false → aware i ≡ false = λ i out. false_from_ne_true (aware i) (λ e. both_ways (held i) out (inside i e)) in
     let tell = subst (λ (b : Bool). steps.MayTell b old.seat.cursor (notes_of bs) f h.lost) (sym back)
-    (may_tell held f h.lost old.seat.cursor (notes_of bs) unannounced may.passes) in
+    (may_tell held f h.lost old.seat.cursor (notes_of bs) unknown may.passes) in
     let said = seat_follows w bs old new each f h.lost (tale_of d life past) tell first in
     let grown = tale_grows w bs old new life past each on in
     let told = same_tales f (set_back (backs_of bs) h.lost) new.seat (with_said w.now (said_by bs) (is_heard d life past) (tale_of d life past)) (tale_of d life after) grown said in
@@ -314,7 +307,6 @@ own_followed d found turn most c channel moment at bs old new life past held eac
           (sym (heard_after d life w bs past)) told;
       awaited = subst (λ (xs : List Line). AreAwaited (chunks_of d) new.seat.own xs) (sym (grown.story ∙ said_story w.now (said_by bs) (is_heard d life past) (tale_of d life past)))
           ((delivery_keeps w bs old new each may.first may.fit).stays (chunks_of d) (read_story d life past) h.awaited);
-      marked = (let low = later.1 in omega (arith, h.marked, low));
     }
 
 -- ---- all seats
@@ -324,7 +316,7 @@ pub record Leaves (x : Setting) (t : Seats) (lives : ℕ → Option Life) (k : �
   pub standing : Standing x.d t lives after
   pub moment : now after ≡ now past
   pub others : (most n : ℕ) (e : Channel) (l : Life) (s : SeatState) → n ≢ k → channel_at t n ≡ Some e → is_waiting e ≡ false → lives n ≡ Some l
-      → IsFollowed x most s l past → IsFollowed x most s l after
+      → IsFollowed (at_seat x n) most s l past → IsFollowed (at_seat x n) most s l after
 
 pub leaves_none : (x : Setting) (t : Seats) (lives : ℕ → Option Life) (k : ℕ) (past : List Record) → Standing x.d t lives past → Leaves x t lives k past past
 leaves_none x t lives k past s = record { standing = s; moment = refl; others = λ most n e l o ne there known living h. h }
@@ -338,14 +330,14 @@ leaves_twice x t lives k past mid after one two = record {
 }
 
 -- one datagram without a handshake, to the channel's peer
-pub leaves_one : (d : Descriptor) (found : ℕ → Bool) (turn : List Record) (t : Seats) (lives : ℕ → Option Life) (k : ℕ) (c : Channel) (life : Life) (moment : ℕ) (bytes : List ℕ) (ms : List Message) (past : List Record)
+pub leaves_one : (d : Descriptor) (found : ℕ → Bool) (aware : ℕ → ℕ → Bool) (t : Seats) (lives : ℕ → Option Life) (k : ℕ) (c : Channel) (life : Life) (moment : ℕ) (bytes : List ℕ) (ms : List Message) (past : List Record)
     → Standing d t lives past → channel_at t k ≡ Some c → lives k ≡ Some life → is_waiting c ≡ false
     → (read d (Sent moment (address_of c.address) bytes)).channel ≡ Some life.remote → (read d (Sent moment (address_of c.address) bytes)).messages.read ≡ ms
     → ((number : ℕ) → begins_as number ms ≡ false)
-    → Leaves (record { d = d; is_found = found; turn = turn }) t lives k past (Sent moment (address_of c.address) bytes ∷ past)
-leaves_one d found turn t lives k c life moment bytes ms past s there living known number read_is plain_is =
+    → Leaves (record { d = d; is_found = found; known_of = aware }) t lives k past (Sent moment (address_of c.address) bytes ∷ past)
+leaves_one d found aware t lives k c life moment bytes ms past s there living known number read_is plain_is =
     let r = Sent moment (address_of c.address) bytes in
-    let x : Setting = record { d = d; is_found = found; turn = turn } in
+    let x : Setting = record { d = d; is_found = found; known_of = aware } in
     let begins : (n : ℕ) → begins_as n (read d r).messages.read ≡ false = λ n. ap (begins_as n) read_is ∙ plain_is n in
     let same : Steady c c = record { address = refl; local = refl; remote = refl; state = refl; dialled = refl; made = refl; heard = refl; shadowed = refl } in
     let unanswered : answers d life r ≡ false =
@@ -358,25 +350,25 @@ leaves_one d found turn t lives k c life moment bytes ms past s there living kno
       moment = refl;
       others = λ most n e l o ne at unwaits lives_there h.
           let st = stands_of d (channel_at t n) (lives n) e l past (s.seated.each n) at lives_there in
-          unsaid_followed x most o l moment (address_of c.address) bytes past h (began d e l past st)
+          unsaid_followed (at_seat x n) most o l moment (address_of c.address) bytes past h (began d e l past st)
           (unsaid_there d t t lives lives n e l moment (address_of c.address) bytes past s at unwaits lives_there at lives_there (stays.1.others n ne));
     }
 
-pub leaves_all : (d : Descriptor) (found : ℕ → Bool) (turn : List Record) (t : Seats) (lives : ℕ → Option Life) (k : ℕ) (c : Channel) (life : Life) (channel moment at : ℕ) (bs : List Batch) (old new : At) (past : List Record)
+pub leaves_all : (d : Descriptor) (found : ℕ → Bool) (aware : ℕ → ℕ → Bool) (t : Seats) (lives : ℕ → Option Life) (k : ℕ) (c : Channel) (life : Life) (channel moment at : ℕ) (bs : List Batch) (old new : At) (past : List Record)
     → Standing d t lives past → channel_at t k ≡ Some c → lives k ≡ Some life → is_waiting c ≡ false → channel ≡ life.remote
     → AllByRecursion steps.IsPlain (notes_of bs) → DeliversEach (W d c channel moment at) bs old new
-    → Leaves (record { d = d; is_found = found; turn = turn }) t lives k past (After (W d c channel moment at) bs past)
-leaves_all d found turn t lives k c life channel moment at [] old new past s there living known number plains each = leaves_none _ t lives k past s
-leaves_all d found turn t lives k c life channel moment at (b ∷ bs) old new past s there living known number plains each =
+    → Leaves (record { d = d; is_found = found; known_of = aware }) t lives k past (After (W d c channel moment at) bs past)
+leaves_all d found aware t lives k c life channel moment at [] old new past s there living known number plains each = leaves_none _ t lives k past s
+leaves_all d found aware t lives k c life channel moment at (b ∷ bs) old new past s there living known number plains each =
     let w = W d c channel moment at in
-    let x : Setting = record { d = d; is_found = found; turn = turn } in
+    let x : Setting = record { d = d; is_found = found; known_of = aware } in
     let parts = all_front steps.IsPlain b.notes (notes_of bs) plains in
     let is = records_are_read w b old each.0 parts.0 each.1 in
     let one : Leaves x t lives k past (First w b past) = first_by (λ (xs : List Record). Leaves x t lives k past xs) w b past (leaves_none x t lives k past s)
-    (leaves_one d found turn t lives k c life moment b.bytes b.messages past s there living known (is.channel ∙ ap (λ (n : ℕ). Some n) number) is.messages is.plain) in
+    (leaves_one d found aware t lives k c life moment b.bytes b.messages past s there living known (is.channel ∙ ap (λ (n : ℕ). Some n) number) is.messages is.plain) in
     subst (λ (xs : List Record). Leaves x t lives k past xs) (sym (after_more w b bs past))
     (leaves_twice x t lives k past (First w b past) (After w bs (First w b past)) one
-    (leaves_all d found turn t lives k c life channel moment at bs each.0 new (First w b past) one.standing there living known number parts.1 each.2))
+    (leaves_all d found aware t lives k c life channel moment at bs each.0 new (First w b past) one.standing there living known number parts.1 each.2))
 
 -- ---- notes on a seat
 
@@ -425,7 +417,7 @@ noted_sent t k c sent at there = by (nat_lt 0 sent)
 -- The seats stand for the traffic with records more, where these leave the others as they were and one of them follows.
 pub settled : (x : Setting) (most more : ℕ) (p : SeatsState) (k : ℕ) (c : Channel) (sent : ℕ) (before after : SeatState) (added past : List Record)
     → (h : StandsFor x most p past) → channel_at p.table k ≡ Some c → is_waiting c ≡ false → slice_get p.seats k ≡ Some before → most ≤ more
-    → Leaves x p.table h.lives k past (added ++ past) → ((life : Life) → h.lives k ≡ Some life → IsFollowed x more after life (added ++ past))
+    → Leaves x p.table h.lives k past (added ++ past) → ((life : Life) → h.lives k ≡ Some life → IsFollowed (at_seat x k) more after life (added ++ past))
     → StandsFor x more (record p { table = with_sent p.table k sent p.moment; seats = set p.seats k after }) (added ++ past)
 settled x most more p k c sent before after added past h there known has le leaves own =
     let t = p.table in
@@ -436,8 +428,6 @@ settled x most more p k c sent before after added past h there known has le leav
     record {
       swarm = h.swarm;
       now_is = h.now_is ∙ sym leaves.moment;
-      later = added ++ h.later;
-      is_later = ap (λ (xs : List Record). added ++ xs) h.is_later ∙ sym (append_assoc added h.later x.turn);
       lives = h.lives;
       standing = stays.0;
       begun = begun_changed t new k noted.channel noted.change (λ w. noted.begun ∙ h.begun k c there (sym waits ∙ w)) h.begun;
@@ -445,13 +435,14 @@ settled x most more p k c sent before after added past h there known has le leav
           (λ here.
           let n_is = eqb-true n k here in
           let s_is : after ≡ s = same_Some after s (sym (get_set_there p.seats k after before has) ∙ ap (slice_get (set p.seats k after)) (sym n_is) ∙ seat_there) in
-          subst (λ (o : SeatState). IsFollowed x more o l (added ++ past)) s_is (own l (ap h.lives (sym n_is) ∙ lives_there)))
+          subst (λ (m : ℕ). IsFollowed (at_seat x m) more s l (added ++ past)) (sym n_is)
+          (subst (λ (o : SeatState). IsFollowed (at_seat x k) more o l (added ++ past)) s_is (own l (ap h.lives (sym n_is) ∙ lives_there))))
           (λ apart.
           let ne = eqb-false n k apart in
           let at_before = sym (noted.change.others n ne) ∙ at in
           let seat_before = sym (get_set_other p.seats k n after ne) ∙ seat_there in
           leaves.others more n e l s ne at_before unwaits lives_there
-          (more_followed x most more s l past le (h.follow n e l s at_before unwaits lives_there seat_before)))
+          (more_followed (at_seat x n) most more s l past le (h.follow n e l s at_before unwaits lives_there seat_before)))
           (cases_Bool (eqb n k));
     }
 
@@ -469,17 +460,17 @@ knows_of x most p k c past h there known =
     (living.0, living.1, record { began = began x.d c living.0 past st; address = st.address; number = ap (λ (o : Option ℕ). unwrap_or o 0) (st.remote known).0 })
 
 -- the seats stand for the traffic with what was said on one of them
-pub spoken : (found : ℕ → Bool) (turn : List Record) (most : ℕ) (p : SeatsState) (k : ℕ) (c : Channel) (moment : ℕ) (bs : List Batch) (before after : SeatState) (link later : LinkState) (delivered : Delivered) (past : List Record) (held : ℕ → Bool)
-    → let x : Setting = record { d = p.descriptor; is_found = found; turn = turn } in
+pub spoken : (found : ℕ → Bool) (aware : ℕ → ℕ → Bool) (most : ℕ) (p : SeatsState) (k : ℕ) (c : Channel) (moment : ℕ) (bs : List Batch) (before after : SeatState) (link later : LinkState) (delivered : Delivered) (past : List Record) (held : ℕ → Bool)
+    → let x : Setting = record { d = p.descriptor; is_found = found; known_of = aware } in
     let w = W p.descriptor c (unwrap_or c.remote 0) moment p.moment in
     StandsFor x most p past → channel_at p.table k ≡ Some c → is_waiting c ≡ false → slice_get p.seats k ≡ Some before
     → AllByRecursion steps.IsPlain (notes_of bs)
     → DeliversEach w bs (record { seat = before; link = link; so_far = none_delivered }) (record { seat = after; link = later; so_far = delivered })
     → HoldsAnnounced x held past → MaySay held (notes_of bs) before
     → StandsFor x (most + delivered.refused) (record p { table = with_sent p.table k delivered.sent p.moment; seats = set p.seats k after }) (After w bs past)
-spoken found turn most p k c moment bs before after link later delivered past held h there known has plains each holds may =
+spoken found aware most p k c moment bs before after link later delivered past held h there known has plains each holds may =
     let d = p.descriptor in
-    let x : Setting = record { d = d; is_found = found; turn = turn } in
+    let x : Setting = record { d = d; is_found = found; known_of = aware } in
     let from : At = record { seat = before; link = link; so_far = none_delivered } in
     let to : At = record { seat = after; link = later; so_far = delivered } in
     let knows = knows_of x most p k c past h there known in
@@ -491,7 +482,7 @@ spoken found turn most p k c moment bs before after link later delivered past he
       moment = h.now_is;
     } in
     settled x most (most + delivered.refused) p k c delivered.sent before after (records_of (W d c (unwrap_or c.remote 0) moment p.moment) bs) past h there known has (omega arith)
-    (leaves_all d found turn p.table h.lives k c life (unwrap_or c.remote 0) moment p.moment bs from to past h.standing there knows.1 known knows.2.number plains each)
-    (λ l lives_there. subst (λ (y : Life). IsFollowed x (most + delivered.refused) after y (After (W d c (unwrap_or c.remote 0) moment p.moment) bs past))
+    (leaves_all d found aware p.table h.lives k c life (unwrap_or c.remote 0) moment p.moment bs from to past h.standing there knows.1 known knows.2.number plains each)
+    (λ l lives_there. subst (λ (y : Life). IsFollowed (at_seat x k) (most + delivered.refused) after y (After (W d c (unwrap_or c.remote 0) moment p.moment) bs past))
     (same_Some life l (sym knows.1 ∙ lives_there))
-    (own_followed d found turn most c (unwrap_or c.remote 0) moment p.moment bs from to life past held each on (h.follow k c life before there known knows.1 has) refl refl holds may))
+    (own_followed d found (aware k) most c (unwrap_or c.remote 0) moment p.moment bs from to life past held each on (h.follow k c life before there known knows.1 has) refl refl (holds.known k) may))

@@ -55,7 +55,7 @@ speaks p q k notes moment delivered link later far before after is_far begun has
   gained = (link_carries (way_of p far moment) delivers.batches from to delivers.each).gained;
   stands = λ x most past held h holds may. subst (λ (o : SeatsState). StandsFor x (most + delivered.refused) o (records_of (way_of p far moment) delivers.batches ++ past)) (sym is)
       (subst (λ (d : Descriptor). Stands p before notes (most + delivered.refused) (record p { table = with_sent p.table k delivered.sent p.moment; seats = set p.seats k after })
-      (records_of (way_of p far moment) delivers.batches) (record { d = d; is_found = x.is_found; turn = x.turn }) most past held) h.swarm (by x most past held) h holds may);
+      (records_of (way_of p far moment) delivers.batches) (record { d = d; is_found = x.is_found; known_of = x.known_of }) most past held) h.swarm (by x most past held) h holds may);
 }
   where
     from : At
@@ -64,14 +64,14 @@ speaks p q k notes moment delivered link later far before after is_far begun has
     to = record { seat = after; link = later; so_far = delivered }
     by : (x : Setting) (most : ℕ) (past : List Record) (held : ℕ → Bool)
         → Stands p before notes (most + delivered.refused) (record p { table = with_sent p.table k delivered.sent p.moment; seats = set p.seats k after })
-        (records_of (way_of p far moment) delivers.batches) (record { d = p.descriptor; is_found = x.is_found; turn = x.turn }) most past held
+        (records_of (way_of p far moment) delivers.batches) (record { d = p.descriptor; is_found = x.is_found; known_of = x.known_of }) most past held
     by x most past held h holds may =
         let f = far_is (channel_at p.table k) far is_far in
         subst (λ (y : Far). DeliversEach (way_of p y moment) delivers.batches from to
-            → StandsFor (record { d = p.descriptor; is_found = x.is_found; turn = x.turn }) (most + delivered.refused)
+            → StandsFor (record { d = p.descriptor; is_found = x.is_found; known_of = x.known_of }) (most + delivered.refused)
             (record p { table = with_sent p.table k delivered.sent p.moment; seats = set p.seats k after }) (records_of (way_of p y moment) delivers.batches ++ past))
         (sym f.is)
-        (λ each. spoken x.is_found x.turn most p k f.channel moment delivers.batches before after link later delivered past held h f.there f.known has
+        (λ each. spoken x.is_found x.known_of most p k f.channel moment delivers.batches before after link later delivered past held h f.there f.known has
         (subst (λ (ns : List Note). AllByRecursion IsPlain ns) (sym delivers.each_once) plains) each holds
         (subst (λ (ns : List Note). MaySay held ns before) (sym delivers.each_once) may))
         delivers.each

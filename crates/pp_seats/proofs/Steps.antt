@@ -25,14 +25,14 @@ use Rattle.pp_seat.specs.Awaited.{AreAwaited}
 use Rattle.pp_seat.proofs.Awaited.{lines_keep_awaited, none_awaited}
 use Rattle.pp_seat.proofs.Framing.{same_tales, tales_grow, none_begins, frames_grow, read_longer, heard_story}
 use Rattle.pp_seat.proofs.Passing.{announced_stays}
-use Rattle.pp_seats.specs.Standing.{Setting, frame_in, IsFollowed}
+use Rattle.pp_seats.specs.Standing.{SeatSetting, frame_in, IsFollowed}
 use Rattle.pp_seats.specs.Hearing.{HearsAll, Begins, IsShown, BeginsShown, with_proven, IsReady}
 use Rattle.pp_seats.proofs.Blank.{dial_begins}
 
 -- ---- records that are not read
 
 -- the record isn't on the channel
-pub passed_ready : (x : Setting) (most at : ℕ) (s : SeatState) (life : Life) (sender : traffic.Address) (bytes : List ℕ) (past : List Record)
+pub passed_ready : (x : SeatSetting) (most at : ℕ) (s : SeatState) (life : Life) (sender : traffic.Address) (bytes : List ℕ) (past : List Record)
     → IsFollowed x most s life past → life.opening < length past → comes_on x.d life (Received at sender bytes) ≡ false
     → IsReady x most (now (Received at sender bytes ∷ past)) s life (Received at sender bytes) past
 passed_ready x most at s life sender bytes past h lt apart = record {
@@ -49,7 +49,7 @@ passed_ready x most at s life sender bytes past h lt apart = record {
 }
 
 -- a wait brought nothing
-pub quiet_ready : (x : Setting) (most at : ℕ) (s : SeatState) (life : Life) (past : List Record) → IsFollowed x most s life past → life.opening < length past
+pub quiet_ready : (x : SeatSetting) (most at : ℕ) (s : SeatState) (life : Life) (past : List Record) → IsFollowed x most s life past → life.opening < length past
     → IsReady x most (now (Quiet at ∷ past)) s life (Quiet at) past
 quiet_ready x most at s life past h lt = record {
   lost = h.lost;
@@ -66,7 +66,7 @@ quiet_ready x most at s life past h lt = record {
 
 -- ---- records that are read
 
-awaited_story : (x : Setting) (n : ℕ) (ms : List Message) (p : Bool) (old new : SeatState) (t : Tale) → HearsAll n ms old new
+awaited_story : (x : SeatSetting) (n : ℕ) (ms : List Message) (p : Bool) (old new : SeatState) (t : Tale) → HearsAll n ms old new
     → AreAwaited (chunks_of x.d) old.own t.story → AreAwaited (chunks_of x.d) new.own (with_heard n ms p t).story
 awaited_story x n ms p old new t h a =
     subst (λ (xs : List Line). AreAwaited (chunks_of x.d) new.own xs) (sym (heard_story n ms p t)) (h.awaited (chunks_of x.d) t.story a)
@@ -80,7 +80,7 @@ all_heard : (d : Descriptor) (life : Life) (r : Record) → comes_on d life r �
 all_heard d life r on = cond-true (comes_on d life r) (read d r).messages.read [] on
 
 -- the channel was there
-pub heard_ready : (x : Setting) (most at : ℕ) (before mid s : SeatState) (life : Life) (sender : traffic.Address) (bytes : List ℕ) (past : List Record)
+pub heard_ready : (x : SeatSetting) (most at : ℕ) (before mid s : SeatState) (life : Life) (sender : traffic.Address) (bytes : List ℕ) (past : List Record)
     → IsFollowed x most before life past → life.opening < length past → let r = Received at sender bytes in
     comes_on x.d life r ≡ true → is_read x.d life (r ∷ past) ≡ true
     → IsShown before mid → HearsAll (now (r ∷ past)) (read x.d r).messages.read mid s → IsReady x most (now (r ∷ past)) s life r past
@@ -104,7 +104,7 @@ heard_ready x most at before mid s life sender bytes past h lt on reads shown he
     }
 
 -- a channel was opened
-pub opened_ready : (x : Setting) (most at : ℕ) (slot : Bool) (before mid s : SeatState) (life : Life) (sender : traffic.Address) (bytes : List ℕ) (past : List Record)
+pub opened_ready : (x : SeatSetting) (most at : ℕ) (slot : Bool) (before mid s : SeatState) (life : Life) (sender : traffic.Address) (bytes : List ℕ) (past : List Record)
     → let r = Received at sender bytes in IsOpenedBy x.d r past life → before.told.chunks ≡ chunks_of x.d
     → Begins x.d slot before mid → HearsAll (now (r ∷ past)) (drop 1 (read x.d r).messages.read) mid s → IsReady x most (now (r ∷ past)) s life r past
 opened_ready x most at slot before mid s life sender bytes past is room begins hears =
@@ -132,7 +132,7 @@ opened_ready x most at slot before mid s life sender bytes past is room begins h
         (and_from (not life.is_dialled) (greets d life r) (ap not answered) opens)
 
 -- the reply to a dial came
-pub replied_ready : (x : Setting) (most at : ℕ) (slot : Bool) (before mid s : SeatState) (life : Life) (sender : traffic.Address) (bytes : List ℕ) (past : List Record)
+pub replied_ready : (x : SeatSetting) (most at : ℕ) (slot : Bool) (before mid s : SeatState) (life : Life) (sender : traffic.Address) (bytes : List ℕ) (past : List Record)
     → let r = Received at sender bytes in IsRepliedBy x.d r past life → before.told.chunks ≡ chunks_of x.d
     → BeginsShown x.d slot before mid → HearsAll (now (r ∷ past)) (read x.d r).messages.read mid s → IsReady x most (now (r ∷ past)) s life r past
 replied_ready x most at slot before mid s life sender bytes past is room begins hears =
@@ -161,31 +161,17 @@ replied_ready x most at slot before mid s life sender bytes past is room begins 
 
 -- ---- the peer looks up
 
--- the story of the turns before is no longer
-suffix_shorter : (d : Descriptor) (life : Life) (later turn : List Record) → length (read_story d life turn) ≤ length (read_story d life (later ++ turn))
-suffix_shorter d life [] turn = omega arith
-suffix_shorter d life (r ∷ later) turn =
-    let shorter = suffix_shorter d life later turn in
-    let longer = read_longer d life r (later ++ turn) in
-    omega arith
-
-pub taken_followed : (x : Setting) (most : ℕ) (old new : SeatState) (life : Life) (r : Record) (past later : List Record) → past ≡ later ++ x.turn
-    → is_event r ≡ true → earlier (r ∷ past) ≡ past → IsReady x most (now (r ∷ past)) old life r past
+pub taken_followed : (x : SeatSetting) (most : ℕ) (old new : SeatState) (life : Life) (r : Record) (past : List Record)
+    → IsReady x most (now (r ∷ past)) old life r past
     → Goes Always (Taken (now (r ∷ past))) old new → new.own ≡ old.own → IsFollowed x most new life (r ∷ past)
-taken_followed x most old new life r past later is_later event turn h goes same =
+taken_followed x most old new life r past h goes same =
     let n = now (r ∷ past) in
     let f = with_proven h.is_proven (frame_in x life past) in
     let t = with_line (Taken n) h.is_proven h.tale in
     let gone = goes.follows f h.lost h.tale tt h.follows in
     let told = same_tales f h.lost new t (tale_of x.d life (r ∷ past)) h.becomes gone in
-    let event_since : some_since is_event life.opening (r ∷ past) ≡ true =
-    or_left (leb life.opening (length past) && is_event r) (some_since is_event life.opening past)
-    (and_from (leb life.opening (length past)) (is_event r) (le-leb life.opening (length past) h.begun) event) in
-    let grown = subst (λ (b : List Record). length (read_story x.d life b) < length (read_story x.d life (r ∷ past))) turn (frames_grow.mark x.d life (r ∷ past) event_since) in
-    let shorter = subst (λ (b : List Record). length (read_story x.d life x.turn) ≤ length (read_story x.d life b)) (sym is_later) (suffix_shorter x.d life later x.turn) in
-    let marked : length (read_story x.d life x.turn) < length (read_story x.d life (r ∷ past)) = omega (arith, grown, shorter) in
-    let later_is = frames_grow.since x.d life x.is_found r past in
-    let with_later = announced_stays f h.lost (λ i. since_of x.d life x.is_found i (r ∷ past)) new (tale_of x.d life (r ∷ past)) marked later_is told in
+    let later_is = frames_grow x.d life x.is_found r past in
+    let with_later = announced_stays f h.lost (λ i. since_of x.d life x.is_found i (r ∷ past)) new (tale_of x.d life (r ∷ past)) later_is told in
     record {
       lost = h.lost;
       chunks = h.chunks;
@@ -194,5 +180,4 @@ taken_followed x most old new life r past later is_later event turn h goes same 
       awaited = subst (λ (xs : List Line). AreAwaited (chunks_of x.d) new.own xs) (sym h.becomes.story)
           (subst (λ (own : _). AreAwaited (chunks_of x.d) own (Taken n ∷ h.tale.story)) (sym same)
           ((lines_keep_awaited.others (Taken n) old.own tt).stays (chunks_of x.d) h.tale.story h.awaited));
-      marked = marked;
     }

@@ -20,7 +20,7 @@ use Rattle.pp_seat.specs.Follows.{Frame, Lost, Follows, none_lost, proved}
 use Rattle.pp_seat.specs.Follows as seats
 use Rattle.pp_seat.specs.Frames.{IsSameTale, tale_of, with_heard}
 use Rattle.pp_seat.specs.Awaited.{AreAwaited}
-use Rattle.pp_seats.specs.Standing.{SeatsState, Setting, frame_in, EachKnown}
+use Rattle.pp_seats.specs.Standing.{SeatsState, Setting, SeatSetting, at_seat, frame_in, EachKnown}
 
 -- ---- one seat
 
@@ -79,10 +79,10 @@ pub record IsAnswered (i : ℕ) (was : Bool) (old new : SeatState) : Type 0 wher
 -- ---- all seats
 
 abbrev pub with_proven : Bool → Frame → Frame
-with_proven is_proven f = record { chunks = f.chunks; size = f.size; since = f.since; mark = f.mark; proven = is_proven }
+with_proven is_proven f = record { chunks = f.chunks; size = f.size; since = f.since; known_of = f.known_of; proven = is_proven }
 
 -- What the seat follows becomes, once the peer looks up, the tale of its channel's life with the record.
-pub record IsReady (x : Setting) (most moment : ℕ) (s : SeatState) (life : Life) (r : Record) (past : List Record) : Type 0 where
+pub record IsReady (x : SeatSetting) (most moment : ℕ) (s : SeatState) (life : Life) (r : Record) (past : List Record) : Type 0 where
   pub lost : Lost
   pub chunks : lost.chunks ≤ most
   pub haves : lost.haves ≤ most
@@ -99,12 +99,10 @@ pub record Ready (x : Setting) (most : ℕ) (p : SeatsState) (r : Record) (past 
   pub event : is_event r ≡ true
   pub swarm : p.descriptor ≡ x.d
   pub now_is : p.moment ≡ now (r ∷ past)
-  pub later : List Record
-  pub is_later : past ≡ later ++ x.turn
   pub lives : ℕ → Option Life
   pub standing : Standing x.d p.table lives (r ∷ past)
   pub begun : AllBegun p.table
-  pub follow : EachKnown p.table lives p.seats (λ s life. IsReady x most p.moment s life r past)
+  pub follow : EachKnown p.table lives p.seats (λ n s life. IsReady (at_seat x n) most p.moment s life r past)
 
 -- It is so once the messages of the datagram were heard, where there are some to be heard.
 abbrev pub OnceRead : Descriptor → List ℕ → Arrival → (SeatsState → Type 0) → SeatsState → Type 0

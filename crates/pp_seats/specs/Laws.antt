@@ -14,5 +14,5 @@ pub record HearingComposes : Type 0 where
 
 -- Seats of which none is in use stand for a link that carried nothing.
 abbrev pub NothingYet : Type 0
-NothingYet = (x : Setting) (seats : List SeatState) (numbers : ChaCha) → x.turn ≡ []
+NothingYet = (x : Setting) (seats : List SeatState) (numbers : ChaCha)
     → StandsFor x 0 (record { descriptor = x.d; table = record { channels = replicate 64 None; numbers = numbers }; seats = seats; moment = 0 }) []

@@ -24,10 +24,11 @@ use Rattle.pp_seats.specs.Standing.{SeatsState, Setting, StandsFor}
 
 -- ---- what may be told
 
--- All chunks that were found, or announced so far, are in a set.
+-- All chunks that were found, or announced so far, or of which some other peer is to know, are in a set.
 pub record HoldsAnnounced (x : Setting) (held : ℕ → Bool) (past : List Record) : Type 0 where
   pub found : (i : ℕ) → x.is_found i ≡ true → held i ≡ true
   pub announced : (i : ℕ) → is_announced x.d i past ≡ true → held i ≡ true
+  pub known : (seat i : ℕ) → x.known_of seat i ≡ true → held i ≡ true
 
 -- A note announces chunks of the set alone.
 abbrev pub Announces : (ℕ → Bool) → Note → Type 0

@@ -12,7 +12,7 @@ use Rattle.pp_lives.specs.Reading.{is_waiting}
 use Rattle.pp_lives.specs.Standing.{Standing, AllBegun}
 use Rattle.pp_seat.specs.Seats.{SeatState}
 use Rattle.pp_seat.specs.Follows.{Frame, Lost, Follows}
-use Rattle.pp_seat.specs.Frames.{since_of, tale_of}
+use Rattle.pp_seat.specs.Frames.{frame_of, tale_of}
 use Rattle.pp_seat.specs.Awaited.{AreAwaited}
 
 -- What contracts see of the seats: the swarm, the channels, what is kept of the messages of each, and the moment now.
@@ -22,49 +22,49 @@ pub record SeatsState : Type 0 where
   pub seats : List SeatState
   pub moment : ℕ
 
--- What is settled during a turn: the swarm, which chunks the peer found when it began, and what the link had carried when the
--- last turn ended.
+-- What is settled around the seats: the swarm, which chunks the peer found when it began, and of which chunks the other peer of each
+-- seat's channel is to know.
 pub record Setting : Type 0 where
   pub d : Descriptor
   pub is_found : ℕ → Bool
-  pub turn : List Record
+  pub known_of : (seat : ℕ) → ℕ → Bool
+
+-- what is settled around one of them
+pub record SeatSetting : Type 0 where
+  pub d : Descriptor
+  pub is_found : ℕ → Bool
+  pub known_of : ℕ → Bool
+
+abbrev pub at_seat : Setting → ℕ → SeatSetting
+at_seat x seat = record { d = x.d; is_found = x.is_found; known_of = x.known_of seat }
 
 -- the frame of a channel's seat
-abbrev pub frame_in : Setting → Life → List Record → Frame
-frame_in x life past = record {
-  chunks = chunks_of x.d;
-  size = x.d.chunk;
-  since = λ i. since_of x.d life x.is_found i past;
-  mark = length (read_story x.d life x.turn);
-  proven = is_heard x.d life past;
-}
+abbrev pub frame_in : SeatSetting → Life → List Record → Frame
+frame_in x life past = frame_of x.d life x.is_found x.known_of past
 
 -- A seat follows the tale of its channel's life, but for so many chunks that were given up and so many times that its cursor was
--- set back at most; and since the last turn ended the peer has looked up.
-pub record IsFollowed (x : Setting) (most : ℕ) (s : SeatState) (life : Life) (past : List Record) : Type 0 where
+-- set back at most.
+pub record IsFollowed (x : SeatSetting) (most : ℕ) (s : SeatState) (life : Life) (past : List Record) : Type 0 where
   pub lost : Lost
   pub chunks : lost.chunks ≤ most
   pub haves : lost.haves ≤ most
   pub follows : Follows (frame_in x life past) lost s (tale_of x.d life past)
   pub awaited : AreAwaited (chunks_of x.d) s.own (read_story x.d life past)
-  pub marked : length (read_story x.d life x.turn) < length (read_story x.d life past)
 
 -- Each seat is one of a content of so many chunks.
 abbrev pub AllHold : ℕ → List SeatState → Type 0
 AllHold chunks seats = (n : ℕ) (s : SeatState) → slice_get seats n ≡ Some s → s.told.chunks ≡ chunks
 
 -- So it is with each seat on whose channel the other peer's number is known, and with the channel's life.
-abbrev pub EachKnown : Seats → (ℕ → Option Life) → List SeatState → (SeatState → Life → Type 0) → Type 0
+abbrev pub EachKnown : Seats → (ℕ → Option Life) → List SeatState → (ℕ → SeatState → Life → Type 0) → Type 0
 EachKnown t lives seats P = (n : ℕ) (c : Channel) (life : Life) (s : SeatState) → channel_at t n ≡ Some c → is_waiting c ≡ false → lives n ≡ Some life
-    → slice_get seats n ≡ Some s → P s life
+    → slice_get seats n ≡ Some s → P n s life
 
 -- The seats stand for what the link carried: each channel has its life there, and its seat follows that.
 pub record StandsFor (x : Setting) (most : ℕ) (p : SeatsState) (past : List Record) : Type 0 where
   pub swarm : p.descriptor ≡ x.d
   pub now_is : p.moment ≡ now past
-  pub later : List Record
-  pub is_later : past ≡ later ++ x.turn
   pub lives : ℕ → Option Life
   pub standing : Standing x.d p.table lives past
   pub begun : AllBegun p.table
-  pub follow : EachKnown p.table lives p.seats (λ s life. IsFollowed x most s life past)
+  pub follow : EachKnown p.table lives p.seats (λ n s life. IsFollowed (at_seat x n) most s life past)
