@@ -184,7 +184,7 @@ one_back cursor PexReq = omega arith
 one_back cursor (Pex4 address port) = omega arith
 one_back cursor (Pex6 address port) = omega arith
 
-back_low : (cursor : ℕ) (notes : List Note) → cursor_back cursor notes ≤ cursor
+pub back_low : (cursor : ℕ) (notes : List Note) → cursor_back cursor notes ≤ cursor
 back_low cursor [] = omega arith
 back_low cursor (n ∷ notes) =
     let first = one_back cursor n in

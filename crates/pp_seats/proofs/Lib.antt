@@ -8,6 +8,7 @@ pub mod Firsts
 pub mod Waits
 pub mod Outgoing
 pub mod Speaking
+pub mod Tellings
 pub mod Carrying
 pub mod Passing
 pub mod Launching

@@ -1,8 +1,8 @@
 -- What was sent on one channel, and what becomes of all seats with it.
 use Rattle.std.proofs.Common.{◌≡◌, ◌≢◌, ◌⊎◌, ⊎_elim, inl, inr, ℕ, suc, ◌+◌, ◌<◌, ◌≤◌, eqb, leb, Bool, true, false, cond, not, ◌&&◌, ◌||◌, Option, Some, None, List, [], ◌∷◌, ◌++◌, map, length, refl, sym, ◌∙◌, ap, subst, arith, append_assoc}
-use Rattle.std.specs.List.{slice_get, AllByRecursion}
+use Rattle.std.specs.List.{slice_get, AllByRecursion, list_any}
 use Rattle.std.proofs.Math.ListN.{set}
-use Rattle.std.proofs.lemmas.Bool.{cases_Bool, both_ways, eqb-true, eqb-false, false_from_ne_true, or_cases, and_right}
+use Rattle.std.proofs.lemmas.Bool.{cases_Bool, both_ways, eqb-true, eqb-false, eq-eqb, ne_eqb, false_from_ne_true, or_cases, and_right}
 use Rattle.std.proofs.lemmas.Option.{same_Some}
 use Rattle.pp_terms.specs.format.Traffic as traffic
 use Rattle.pp_terms.specs.format.Traffic.{Record, Sent, LinkState, same_address}
@@ -53,9 +53,11 @@ use Rattle.pp_seat.specs.Frames.{since_of, tale_of, IsSameTale}
 use Rattle.pp_seat.specs.Laws.{IsLater, with_since}
 use Rattle.pp_seat.specs.Awaited.{AreAwaited}
 use Rattle.pp_seat.proofs.Framing.{same_tales, tales_grow, frames_grow, read_longer, since_none, said_story}
-use Rattle.pp_seat.proofs.Passing.{announced_stays}
+use Rattle.pp_seat.proofs.Passing.{announced_stays, known_stays}
+use Rattle.pp_promises.specs.Announced.{is_told_of}
+use Rattle.pp_seats.proofs.Tellings.{told_or_back, said_is_told}
 use Rattle.pp_seats.specs.Standing.{SeatsState, Setting, SeatSetting, at_seat, frame_in, IsFollowed, EachKnown, StandsFor}
-use Rattle.pp_seats.specs.Sending.{HoldsAnnounced, Announces, PassesOne, PassesAll, requested, AsksFirst, FitAll, MaySay, with_sent}
+use Rattle.pp_seats.specs.Sending.{HoldsAnnounced, Announces, tells_note, with_told, PassesOne, PassesAll, requested, AsksFirst, FitAll, MaySay, with_sent}
 use Rattle.pp_seats.proofs.Lists.{get_set_there, get_set_other}
 use Rattle.pp_seats.proofs.Waits.{delivery_keeps}
 
@@ -283,7 +285,7 @@ pub own_followed : (d : Descriptor) (found aware : ℕ → Bool) (most : ℕ) (c
     → let w = W d c channel moment at in let x : SeatSetting = record { d = d; is_found = found; known_of = aware } in
     DeliversEach w bs old new → IsOn w life past → IsFollowed x most old.seat life past → old.so_far.set_back ≡ false → old.so_far.refused ≡ 0
     → ((i : ℕ) → aware i ≡ true → held i ≡ true) → MaySay held (notes_of bs) old.seat
-    → IsFollowed x (most + new.so_far.refused) new.seat life (After w bs past)
+    → IsFollowed (record { d = d; is_found = found; known_of = λ i. aware i || list_any (tells_note i) (notes_of bs) }) (most + new.so_far.refused) new.seat life (After w bs past)
 own_followed d found aware most c channel moment at bs old new life past held each on h back none inside may =
     let w = W d c channel moment at in
     let x : SeatSetting = record { d = d; is_found = found; known_of = aware } in
@@ -303,8 +305,16 @@ own_followed d found aware most c channel moment at bs old new life past held ea
       lost = set_back (backs_of bs) h.lost;
       chunks = (let few = h.chunks in omega (arith, few));
       haves = (let few = h.haves in let backs = counts.backs in omega (arith, few, backs, none));
-      follows = subst (λ (p : Bool). Follows (record (frame_in x life after) { proven = p }) (set_back (backs_of bs) h.lost) new.seat (tale_of d life after))
-          (sym (heard_after d life w bs past)) told;
+      follows = known_stays (frame_in x life after) (set_back (backs_of bs) h.lost) (λ i. aware i || list_any (tells_note i) (notes_of bs)) new.seat (tale_of d life after)
+          (λ i below knows. ⊎_elim
+          (λ was. inl was)
+          (λ tells. ⊎_elim
+          (λ said_so. inr (ap (is_told_of i) (grown.story ∙ said_story w.now (said_by bs) (is_heard d life past) (tale_of d life past)) ∙ said_is_told w.now i (said_by bs) (read_story d life past) said_so))
+          (λ back. absurd (omega (arith, below, back)))
+          (told_or_back w bs old new i each tells))
+          (or_cases (aware i) (list_any (tells_note i) (notes_of bs)) knows))
+          (subst (λ (p : Bool). Follows (record (frame_in x life after) { proven = p }) (set_back (backs_of bs) h.lost) new.seat (tale_of d life after))
+          (sym (heard_after d life w bs past)) told);
       awaited = subst (λ (xs : List Line). AreAwaited (chunks_of d) new.seat.own xs) (sym (grown.story ∙ said_story w.now (said_by bs) (is_heard d life past) (tale_of d life past)))
           ((delivery_keeps w bs old new each may.first may.fit).stays (chunks_of d) (read_story d life past) h.awaited);
     }
@@ -415,11 +425,13 @@ noted_sent t k c sent at there = by (nat_lt 0 sent)
     }
 
 -- The seats stand for the traffic with records more, where these leave the others as they were and one of them follows.
-pub settled : (x : Setting) (most more : ℕ) (p : SeatsState) (k : ℕ) (c : Channel) (sent : ℕ) (before after : SeatState) (added past : List Record)
+pub settled_in : (x : Setting) (known_of : ℕ → ℕ → Bool) (most more : ℕ) (p : SeatsState) (k : ℕ) (c : Channel) (sent : ℕ) (before after : SeatState) (added past : List Record)
     → (h : StandsFor x most p past) → channel_at p.table k ≡ Some c → is_waiting c ≡ false → slice_get p.seats k ≡ Some before → most ≤ more
-    → Leaves x p.table h.lives k past (added ++ past) → ((life : Life) → h.lives k ≡ Some life → IsFollowed (at_seat x k) more after life (added ++ past))
-    → StandsFor x more (record p { table = with_sent p.table k sent p.moment; seats = set p.seats k after }) (added ++ past)
-settled x most more p k c sent before after added past h there known has le leaves own =
+    → ((n : ℕ) → n ≢ k → known_of n ≡ x.known_of n)
+    → Leaves x p.table h.lives k past (added ++ past) → ((life : Life) → h.lives k ≡ Some life → IsFollowed (at_seat (record x { known_of = known_of }) k) more after life (added ++ past))
+    → StandsFor (record x { known_of = known_of }) more (record p { table = with_sent p.table k sent p.moment; seats = set p.seats k after }) (added ++ past)
+settled_in x known_of most more p k c sent before after added past h there known has le elsewhere leaves own =
+    let y : Setting = record x { known_of = known_of } in
     let t = p.table in
     let noted = noted_sent t k c sent p.moment there in
     let new = with_sent t k sent p.moment in
@@ -435,16 +447,24 @@ settled x most more p k c sent before after added past h there known has le leav
           (λ here.
           let n_is = eqb-true n k here in
           let s_is : after ≡ s = same_Some after s (sym (get_set_there p.seats k after before has) ∙ ap (slice_get (set p.seats k after)) (sym n_is) ∙ seat_there) in
-          subst (λ (m : ℕ). IsFollowed (at_seat x m) more s l (added ++ past)) (sym n_is)
-          (subst (λ (o : SeatState). IsFollowed (at_seat x k) more o l (added ++ past)) s_is (own l (ap h.lives (sym n_is) ∙ lives_there))))
+          subst (λ (m : ℕ). IsFollowed (at_seat y m) more s l (added ++ past)) (sym n_is)
+          (subst (λ (o : SeatState). IsFollowed (at_seat y k) more o l (added ++ past)) s_is (own l (ap h.lives (sym n_is) ∙ lives_there))))
           (λ apart.
           let ne = eqb-false n k apart in
           let at_before = sym (noted.change.others n ne) ∙ at in
           let seat_before = sym (get_set_other p.seats k n after ne) ∙ seat_there in
-          leaves.others more n e l s ne at_before unwaits lives_there
-          (more_followed (at_seat x n) most more s l past le (h.follow n e l s at_before unwaits lives_there seat_before)))
+          subst (λ (f : ℕ → Bool). IsFollowed (record { d = x.d; is_found = x.is_found; known_of = f }) more s l (added ++ past)) (sym (elsewhere n ne))
+          (leaves.others more n e l s ne at_before unwaits lives_there
+          (more_followed (at_seat x n) most more s l past le (h.follow n e l s at_before unwaits lives_there seat_before))))
           (cases_Bool (eqb n k));
     }
+
+pub settled : (x : Setting) (most more : ℕ) (p : SeatsState) (k : ℕ) (c : Channel) (sent : ℕ) (before after : SeatState) (added past : List Record)
+    → (h : StandsFor x most p past) → channel_at p.table k ≡ Some c → is_waiting c ≡ false → slice_get p.seats k ≡ Some before → most ≤ more
+    → Leaves x p.table h.lives k past (added ++ past) → ((life : Life) → h.lives k ≡ Some life → IsFollowed (at_seat x k) more after life (added ++ past))
+    → StandsFor x more (record p { table = with_sent p.table k sent p.moment; seats = set p.seats k after }) (added ++ past)
+settled x most more p k c sent before after added past h there known has le leaves own =
+    settled_in x x.known_of most more p k c sent before after added past h there known has le (λ n ne. refl) leaves own
 
 -- What is known of a channel on which something may be said.
 pub record Knows (d : Descriptor) (c : Channel) (life : Life) (past : List Record) : Type 0 where
@@ -467,7 +487,7 @@ pub spoken : (found : ℕ → Bool) (aware : ℕ → ℕ → Bool) (most : ℕ) 
     → AllByRecursion steps.IsPlain (notes_of bs)
     → DeliversEach w bs (record { seat = before; link = link; so_far = none_delivered }) (record { seat = after; link = later; so_far = delivered })
     → HoldsAnnounced x held past → MaySay held (notes_of bs) before
-    → StandsFor x (most + delivered.refused) (record p { table = with_sent p.table k delivered.sent p.moment; seats = set p.seats k after }) (After w bs past)
+    → StandsFor (with_told k (notes_of bs) x) (most + delivered.refused) (record p { table = with_sent p.table k delivered.sent p.moment; seats = set p.seats k after }) (After w bs past)
 spoken found aware most p k c moment bs before after link later delivered past held h there known has plains each holds may =
     let d = p.descriptor in
     let x : Setting = record { d = d; is_found = found; known_of = aware } in
@@ -481,8 +501,44 @@ spoken found aware most p k c moment bs before after link later delivered past h
       number = knows.2.number;
       moment = h.now_is;
     } in
-    settled x most (most + delivered.refused) p k c delivered.sent before after (records_of (W d c (unwrap_or c.remote 0) moment p.moment) bs) past h there known has (omega arith)
+    let told : ℕ → Bool = λ i. aware k i || list_any (tells_note i) (notes_of bs) in
+    settled_in x (with_told k (notes_of bs) x).known_of most (most + delivered.refused) p k c delivered.sent before after (records_of (W d c (unwrap_or c.remote 0) moment p.moment) bs) past h there known has (omega arith)
+    (λ n ne. ap (λ (b : Bool). cond b told (aware n)) (ne_eqb n k ne))
     (leaves_all d found aware p.table h.lives k c life (unwrap_or c.remote 0) moment p.moment bs from to past h.standing there knows.1 known knows.2.number plains each)
-    (λ l lives_there. subst (λ (y : Life). IsFollowed (at_seat x k) (most + delivered.refused) after y (After (W d c (unwrap_or c.remote 0) moment p.moment) bs past))
+    (λ l lives_there. subst (λ (f : ℕ → Bool). IsFollowed (record { d = d; is_found = found; known_of = f }) (most + delivered.refused) after l (After (W d c (unwrap_or c.remote 0) moment p.moment) bs past))
+    (ap (λ (b : Bool). cond b told (aware k)) (sym (eq-eqb k k refl)))
+    (subst (λ (y : Life). IsFollowed (record { d = d; is_found = found; known_of = told }) (most + delivered.refused) after y (After (W d c (unwrap_or c.remote 0) moment p.moment) bs past))
     (same_Some life l (sym knows.1 ∙ lives_there))
-    (own_followed d found (aware k) most c (unwrap_or c.remote 0) moment p.moment bs from to life past held each on (h.follow k c life before there known knows.1 has) refl refl (holds.known k) may))
+    (own_followed d found (aware k) most c (unwrap_or c.remote 0) moment p.moment bs from to life past held each on (h.follow k c life before there known knows.1 has) refl refl (holds.known k) may)))
+
+-- what was announced then is held
+pub told_held : (x : Setting) (d : Descriptor) (c : Channel) (channel moment at : ℕ) (k : ℕ) (bs : List Batch) (old new : At) (past : List Record) (held : ℕ → Bool) → x.d ≡ d
+    → DeliversEach (W d c channel moment at) bs old new → AllByRecursion (Announces held) (notes_of bs) → HoldsAnnounced x held past
+    → HoldsAnnounced (with_told k (notes_of bs) x) held (After (W d c channel moment at) bs past)
+told_held x d c channel moment at k bs old new past held swarm each announces_held holds = record {
+  found = holds.found;
+  announced = λ i e. announced_held d c channel moment at held i bs old new past each announces_held
+      (subst (λ (o : Descriptor). is_announced o i past ≡ true → held i ≡ true) swarm (holds.announced i))
+      (sym (ap (λ (o : Descriptor). is_announced o i (After (W d c channel moment at) bs past)) swarm) ∙ e);
+  known = λ seat i e. by seat (eqb seat k) i e;
+}
+  where
+    note_in : (i : ℕ) (note : Note) → Announces held note → tells_note i note ≡ true → held i ≡ true
+    note_in i KeepAlive a e = absurd cc
+    note_in i (Handshake source) a e = absurd cc
+    note_in i Close a e = absurd cc
+    note_in i Choke a e = absurd cc
+    note_in i Unchoke a e = absurd cc
+    note_in i (Ack range delay) a e = absurd cc
+    note_in i (Have range) a e = a i e
+    note_in i (Request range) a e = absurd cc
+    note_in i (Cancel range) a e = absurd cc
+    note_in i PexReq a e = absurd cc
+    note_in i (Pex4 address port) a e = absurd cc
+    note_in i (Pex6 address port) a e = absurd cc
+    notes_in : (i : ℕ) (ns : List Note) → AllByRecursion (Announces held) ns → list_any (tells_note i) ns ≡ true → held i ≡ true
+    notes_in i [] a e = absurd cc
+    notes_in i (note ∷ ns) a e = ⊎_elim (λ here. note_in i note a.0 here) (λ behind. notes_in i ns a.1 behind) (or_cases (tells_note i note) (list_any (tells_note i) ns) e)
+    by : (seat : ℕ) (b : Bool) (i : ℕ) → (let f : ℕ → Bool = cond b (λ j. x.known_of k j || list_any (tells_note j) (notes_of bs)) (x.known_of seat) in f i ≡ true) → held i ≡ true
+    by seat true i e = ⊎_elim (λ was. holds.known k i was) (λ tells. notes_in i (notes_of bs) announces_held tells) (or_cases (x.known_of k i) (list_any (tells_note i) (notes_of bs)) e)
+    by seat false i e = holds.known seat i e

@@ -1,6 +1,6 @@
 -- Notes that were delivered on a seat, in the words of its call.
 use Rattle.std.proofs.Common.{◌≡◌, ℕ, ◌+◌, ◌<◌, ◌≤◌, Bool, true, false, cond, not, Some, List, [], ◌∷◌, ◌++◌, length, drop, refl, sym, ◌∙◌, ap, subst, arith, take}
-use Rattle.std.specs.Prelude.{nat_lt}
+use Rattle.std.specs.Prelude.{nat_lt, unwrap_or}
 use Rattle.std.specs.List.{slice_get, AllByRecursion}
 use Rattle.std.proofs.Math.ListN.{set}
 use Rattle.std.proofs.lemmas.Bool.{lt-ltb, le-ltb}
@@ -18,9 +18,9 @@ use Rattle.pp_desk.specs.Delivers.{At, none_delivered, DeliversEach, Delivers, n
 use Rattle.pp_desk.specs.Laws.{records_of}
 use Rattle.pp_desk.proofs.Following.{link_carries}
 use Rattle.pp_seats.specs.Standing.{SeatsState, Setting, AllHold, StandsFor}
-use Rattle.pp_seats.specs.Sending.{HoldsAnnounced, MaySay, way_of, with_sent, Speaks}
+use Rattle.pp_seats.specs.Sending.{HoldsAnnounced, Announces, MaySay, with_told, way_of, with_sent, Speaks}
 use Rattle.pp_seats.proofs.Lists.{set_holds, set_length, refilled}
-use Rattle.pp_seats.proofs.Outgoing.{far_is, spoken}
+use Rattle.pp_seats.proofs.Outgoing.{W, After, far_is, spoken, told_held}
 
 pub was_begun : (b : Bool) → not b ≡ false → b ≡ true
 was_begun true e = refl
@@ -34,9 +34,9 @@ pub with_none : (t : Seats) (k sent at : ℕ) → sent ≤ 0 → t ≡ with_sent
 with_none t k sent at none = ap (λ (b : Bool). cond b (with_datagram t k false at) t) (sym (le-ltb 0 sent none))
 
 -- the seats stand for records more
-abbrev Stands : SeatsState → SeatState → List Note → ℕ → SeatsState → List Record → Setting → ℕ → List Record → (ℕ → Bool) → Type 0
-Stands p before notes more new added x most past held =
-    StandsFor x most p past → HoldsAnnounced x held past → MaySay held notes before → StandsFor x more new (added ++ past)
+abbrev Stands : ℕ → SeatsState → SeatState → List Note → ℕ → SeatsState → List Record → Setting → ℕ → List Record → (ℕ → Bool) → Type 0
+Stands k p before notes more new added x most past held =
+    StandsFor x most p past → HoldsAnnounced x held past → MaySay held notes before → StandsFor (with_told k notes x) more new (added ++ past)
 
 pub speaks : (p q : SeatsState) (k : ℕ) (notes : List Note) (moment : ℕ) (delivered : Delivered) (link later : LinkState) (far : Far) (before after : SeatState)
     → far_of (channel_at p.table k) ≡ Some far → far.begun ≡ true → slice_get p.seats k ≡ Some before → AllByRecursion IsPlain notes
@@ -53,9 +53,18 @@ speaks p q k notes moment delivered link later far before after is_far begun has
   is = is;
   delivers = delivers;
   gained = (link_carries (way_of p far moment) delivers.batches from to delivers.each).gained;
-  stands = λ x most past held h holds may. subst (λ (o : SeatsState). StandsFor x (most + delivered.refused) o (records_of (way_of p far moment) delivers.batches ++ past)) (sym is)
-      (subst (λ (d : Descriptor). Stands p before notes (most + delivered.refused) (record p { table = with_sent p.table k delivered.sent p.moment; seats = set p.seats k after })
+  stands = λ x most past held h holds may. subst (λ (o : SeatsState). StandsFor (with_told k notes x) (most + delivered.refused) o (records_of (way_of p far moment) delivers.batches ++ past)) (sym is)
+      (subst (λ (d : Descriptor). Stands k p before notes (most + delivered.refused) (record p { table = with_sent p.table k delivered.sent p.moment; seats = set p.seats k after })
       (records_of (way_of p far moment) delivers.batches) (record { d = d; is_found = x.is_found; known_of = x.known_of }) most past held) h.swarm (by x most past held) h holds may);
+  announced = λ x most past held h holds may.
+      let f = far_is (channel_at p.table k) far is_far in
+      subst (λ (y : Far). DeliversEach (way_of p y moment) delivers.batches from to
+      → HoldsAnnounced (with_told k notes x) held (records_of (way_of p y moment) delivers.batches ++ past))
+      (sym f.is)
+      (λ each. subst (λ (ns : List Note). HoldsAnnounced (with_told k ns x) held (After (W p.descriptor f.channel (unwrap_or f.channel.remote 0) moment p.moment) delivers.batches past)) delivers.each_once
+      (told_held x p.descriptor f.channel (unwrap_or f.channel.remote 0) moment p.moment k delivers.batches from to past held (sym h.swarm) each
+      (subst (λ (ns : List Note). AllByRecursion (Announces held) ns) (sym delivers.each_once) may.announces) holds))
+      delivers.each;
 }
   where
     from : At
@@ -63,17 +72,19 @@ speaks p q k notes moment delivered link later far before after is_far begun has
     to : At
     to = record { seat = after; link = later; so_far = delivered }
     by : (x : Setting) (most : ℕ) (past : List Record) (held : ℕ → Bool)
-        → Stands p before notes (most + delivered.refused) (record p { table = with_sent p.table k delivered.sent p.moment; seats = set p.seats k after })
+        → Stands k p before notes (most + delivered.refused) (record p { table = with_sent p.table k delivered.sent p.moment; seats = set p.seats k after })
         (records_of (way_of p far moment) delivers.batches) (record { d = p.descriptor; is_found = x.is_found; known_of = x.known_of }) most past held
     by x most past held h holds may =
         let f = far_is (channel_at p.table k) far is_far in
         subst (λ (y : Far). DeliversEach (way_of p y moment) delivers.batches from to
-            → StandsFor (record { d = p.descriptor; is_found = x.is_found; known_of = x.known_of }) (most + delivered.refused)
+            → StandsFor (with_told k notes (record { d = p.descriptor; is_found = x.is_found; known_of = x.known_of })) (most + delivered.refused)
             (record p { table = with_sent p.table k delivered.sent p.moment; seats = set p.seats k after }) (records_of (way_of p y moment) delivers.batches ++ past))
         (sym f.is)
-        (λ each. spoken x.is_found x.known_of most p k f.channel moment delivers.batches before after link later delivered past held h f.there f.known has
+        (λ each. subst (λ (ns : List Note). StandsFor (with_told k ns (record { d = p.descriptor; is_found = x.is_found; known_of = x.known_of })) (most + delivered.refused)
+        (record p { table = with_sent p.table k delivered.sent p.moment; seats = set p.seats k after }) (After (W p.descriptor f.channel (unwrap_or f.channel.remote 0) moment p.moment) delivers.batches past)) delivers.each_once
+        (spoken x.is_found x.known_of most p k f.channel moment delivers.batches before after link later delivered past held h f.there f.known has
         (subst (λ (ns : List Note). AllByRecursion IsPlain ns) (sym delivers.each_once) plains) each holds
-        (subst (λ (ns : List Note). MaySay held ns before) (sym delivers.each_once) may))
+        (subst (λ (ns : List Note). MaySay held ns before) (sym delivers.each_once) may)))
         delivers.each
 
 -- what the seats keep of themselves, once one of them was changed and a datagram was written

@@ -1,6 +1,6 @@
 -- What goes out on the seats' channels, and what the link carries of it.
-use Rattle.std.specs.Prelude.{◌≡◌, ℕ, ◌+◌, ◌<◌, ◌≤◌, nat_lt, Bool, true, false, Option, Some, None, List, [], ◌∷◌, ◌++◌, length, slice_get, slice_set, if◌then◌else◌}
-use Rattle.std.specs.List.{AllByRecursion}
+use Rattle.std.specs.Prelude.{◌≡◌, ℕ, ◌+◌, ◌<◌, ◌≤◌, nat_lt, Bool, true, false, Option, Some, None, List, [], ◌∷◌, ◌++◌, length, slice_get, slice_set, if◌then◌else◌, ◌==◌, ◌||◌}
+use Rattle.std.specs.List.{AllByRecursion, list_any}
 use Rattle.pp_terms.specs.format.Traffic.{Record, LinkState, GainsRecords}
 use Rattle.pp_terms.specs.format.Descriptor.{chunks_of}
 use Rattle.pp_terms.specs.tree.Range.{Span, within, has}
@@ -44,6 +44,17 @@ PassesOne held cursor _ = Unit {0}
 abbrev pub PassesAll : (ℕ → Bool) → ℕ → List Note → Type 0
 PassesAll held cursor [] = Unit {0}
 PassesAll held cursor (note ∷ notes) = PassesOne held cursor note × PassesAll held (cursor_behind cursor note) notes
+
+-- the note tells of the chunk by HAVE
+abbrev pub tells_note : ℕ → Note → Bool
+tells_note i (Have range) = within range i
+tells_note i _ = false
+
+-- the setting once notes were delivered on a seat: the other peer is to know of what they tell of too
+abbrev pub with_told : ℕ → List Note → Setting → Setting
+with_told seat notes x = record x {
+  known_of = λ other. if other == seat then (λ i. x.known_of seat i || list_any (tells_note i) notes) else x.known_of other;
+}
 
 -- ---- what may be asked for
 
@@ -106,7 +117,10 @@ pub record Speaks (seat : ℕ) (notes : List Note) (moment : ℕ) (delivered : D
   pub gained : GainsRecords link.traffic (records_of (way_of old far moment) delivers.batches) later.traffic
   pub stands : (x : Setting) (most : ℕ) (past : List Record) (held : ℕ → Bool) → StandsFor x most old past → HoldsAnnounced x held past
       → MaySay held notes before
-      → StandsFor x (most + delivered.refused) new (records_of (way_of old far moment) delivers.batches ++ past)
+      → StandsFor (with_told seat notes x) (most + delivered.refused) new (records_of (way_of old far moment) delivers.batches ++ past)
+  -- what was announced then is in the set too
+  pub announced : (x : Setting) (most : ℕ) (past : List Record) (held : ℕ → Bool) → StandsFor x most old past → HoldsAnnounced x held past
+      → MaySay held notes before → HoldsAnnounced (with_told seat notes x) held (records_of (way_of old far moment) delivers.batches ++ past)
 
 -- Nothing can be said on a seat that is free, or whose peer's number isn't known, or to which no handshake was sent.
 abbrev pub IsSilent : Option Far → Type 0
