@@ -1,9 +1,9 @@
 -- A chunk that goes out on a seat's channel, or doesn't.
-use Rattle.std.proofs.Common.{◌≡◌, ⊎_elim, inl, inr, ℕ, ◌+◌, ◌<◌, ◌≤◌, Bool, true, false, Option, Some, None, List, [], ◌∷◌, ◌++◌, map, length, refl, sym, ◌∙◌, ap, subst, arith}
-use Rattle.std.specs.Prelude.{unwrap_or, Ok, Err, IsSome, MatchOption, slice_index_or, ◌^◌}
+use Rattle.std.proofs.Common.{◌≡◌, ◌&&◌, ⊎_elim, inl, inr, ℕ, ◌+◌, ◌<◌, ◌≤◌, Bool, true, false, Option, Some, None, List, [], ◌∷◌, ◌++◌, map, length, refl, sym, ◌∙◌, ap, subst, arith}
+use Rattle.std.specs.Prelude.{unwrap_or, Ok, Err, IsSome, MatchOption, slice_index_or, ◌^◌, nat_le}
 use Rattle.std.specs.List.{slice_get, AllByRecursion, list_all}
 use Rattle.std.proofs.Math.ListN.{set}
-use Rattle.std.proofs.lemmas.Bool.{both_ways, eq-eqb, cases_lt, false_from_ne_true, or_left}
+use Rattle.std.proofs.lemmas.Bool.{both_ways, eq-eqb, cases_lt, false_from_ne_true, or_left, or_right}
 use Rattle.std.proofs.lemmas.Option.{same_Some}
 use Rattle.pp_terms.specs.format.Traffic as traffic
 use Rattle.pp_terms.specs.format.Traffic.{Record, Sent, LinkState, same_address}
@@ -22,7 +22,7 @@ use Rattle.pp_outside.specs.declared.link.Address.{Address}
 use Rattle.pp_tree.specs.Book.{entry}
 use Rattle.pp_tree.specs.Node.{node_of}
 use Rattle.pp_tree.specs.declared.node.Node as declared
-use Rattle.pp_traffic.specs.Past.{now, read, is_number}
+use Rattle.pp_traffic.specs.Past.{now, read, is_number, some_since, is_event}
 use Rattle.pp_traffic.specs.Life.{Life, comes_on}
 use Rattle.pp_traffic.specs.Story.{Line, Said, say, said_in, story}
 use Rattle.pp_traffic.specs.Asking.{is_heard}
@@ -93,6 +93,7 @@ given_up x most p k c before after past h there known has gives same =
       haves = (let few = old.haves in omega (arith, few));
       follows = gives.follows (frame_in (at_seat x k) life past) old.lost (tale_of x.d life past) old.follows;
       awaited = subst (λ (own : _). AreAwaited (chunks_of x.d) own (read_story x.d life past)) (sym same) old.awaited;
+      handed = old.handed;
     })
 
 -- chunks leave the list that aren't announced
@@ -110,6 +111,7 @@ passed_over x most p k c before after i end held past h there known seated holds
       haves = old.haves;
       follows = stays.follows (frame_in (at_seat x k) life past) old.lost (tale_of x.d life past) (λ j lt listed. unannounced life j lt listed) old.follows;
       awaited = subst (λ (own : _). AreAwaited (chunks_of x.d) own (read_story x.d life past)) (sym same) old.awaited;
+      handed = old.handed;
     })
   where
     unannounced : (life : Life) (j : ℕ) → j < end → has before.list j ≡ true → since_of x.d life x.is_found j past ≡ None
@@ -150,6 +152,7 @@ own_said x most s new life moment receiver bytes ms past h lt said_is says pass 
       awaited = subst (λ (xs : List Line). AreAwaited (chunks_of x.d) new.own xs) (sym (grown.story ∙ said_story (now past) ms (is_heard x.d life past) (tale_of x.d life past)))
           (subst (λ (own : _). AreAwaited (chunks_of x.d) own (say (now past) ms (read_story x.d life past))) (sym same)
           ((lines_keep_awaited.passed (now past) ms s.own pass).stays (chunks_of x.d) (read_story x.d life past) h.awaited));
+      handed = or_right (nat_le life.opening (length past) && is_event r) (some_since is_event life.opening past) h.handed;
     }
 
 -- it answers the peer, behind hashes that complete its path

@@ -13,3 +13,4 @@ pub mod Carrying
 pub mod Passing
 pub mod Launching
 pub mod Handshakes
+pub mod Turnings

@@ -28,5 +28,5 @@ all_look x most p r past h = record {
   where
     followed : (n : ℕ) (s : SeatState) (life : Life) → IsReady (at_seat x n) most (now (r ∷ past)) s life r past → IsFollowed (at_seat x n) most (looked_up p.moment s) life (r ∷ past)
     followed n s life ready = subst (λ (k : ℕ). IsFollowed (at_seat x n) most (looked_up k s) life (r ∷ past)) (sym h.now_is)
-        (taken_followed (at_seat x n) most s (looked_up (now (r ∷ past)) s) life r past ready
+        (taken_followed (at_seat x n) most s (looked_up (now (r ∷ past)) s) life r past h.event ready
         (taken_goes s (ended (now (r ∷ past)) s.window) (now (r ∷ past)) refl) refl)

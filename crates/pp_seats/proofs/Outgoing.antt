@@ -2,7 +2,7 @@
 use Rattle.std.proofs.Common.{◌≡◌, ◌≢◌, ◌⊎◌, ⊎_elim, inl, inr, ℕ, suc, ◌+◌, ◌<◌, ◌≤◌, eqb, leb, Bool, true, false, cond, not, ◌&&◌, ◌||◌, Option, Some, None, List, [], ◌∷◌, ◌++◌, map, length, refl, sym, ◌∙◌, ap, subst, arith, append_assoc}
 use Rattle.std.specs.List.{slice_get, AllByRecursion, list_any}
 use Rattle.std.proofs.Math.ListN.{set}
-use Rattle.std.proofs.lemmas.Bool.{cases_Bool, both_ways, eqb-true, eqb-false, eq-eqb, ne_eqb, false_from_ne_true, or_cases, and_right}
+use Rattle.std.proofs.lemmas.Bool.{cases_Bool, both_ways, eqb-true, eqb-false, eq-eqb, ne_eqb, false_from_ne_true, or_cases, or_right, and_right}
 use Rattle.std.proofs.lemmas.Option.{same_Some}
 use Rattle.pp_terms.specs.format.Traffic as traffic
 use Rattle.pp_terms.specs.format.Traffic.{Record, Sent, LinkState, same_address}
@@ -10,7 +10,7 @@ use Rattle.pp_terms.specs.format.Descriptor.{Descriptor, chunks_of}
 use Rattle.pp_terms.specs.format.Messages as plain
 use Rattle.pp_terms.specs.format.Messages.{Message}
 use Rattle.pp_terms.specs.tree.Range.{Span, within, has}
-use Rattle.pp_traffic.specs.Past.{now, read, goes_to, is_number}
+use Rattle.pp_traffic.specs.Past.{now, read, goes_to, is_number, some_since, is_event}
 use Rattle.pp_traffic.specs.Keeping.{announces}
 use Rattle.pp_traffic.specs.Life.{Life, answers, begins_as, comes_on}
 use Rattle.pp_traffic.specs.Story.{Line, Said, say, said_in}
@@ -20,7 +20,7 @@ use Rattle.pp_promises.specs.Served.{is_announced}
 use Rattle.pp_outside.specs.Outside.{address_of}
 use Rattle.pp_channels.specs.Seats.{Seats, AreSeats, channel_at, is_begun}
 use Rattle.pp_channels.specs.declared.channel.Channel.{Channel}
-use Rattle.std.specs.Prelude.{nat_lt, unwrap_or}
+use Rattle.std.specs.Prelude.{nat_lt, nat_le, unwrap_or}
 use Rattle.pp_lives.specs.Reading.{is_waiting, is_proven}
 use Rattle.pp_lives.specs.Fars.{far_of}
 use Rattle.pp_lives.specs.Sending.{with_datagram}
@@ -95,6 +95,7 @@ unsaid_followed x most s life moment receiver bytes past h lt none =
       follows = subst (λ (p : Bool). Follows (record (frame_in x life (r ∷ past)) { proven = p }) h.lost s (tale_of x.d life (r ∷ past)))
           (sym (since_same (comes_on x.d life) life.opening r past refl)) with_later;
       awaited = subst (λ (xs : List Line). AreAwaited (chunks_of x.d) s.own xs) (sym same.story) h.awaited;
+      handed = or_right (nat_le life.opening (length past) && is_event r) (some_since is_event life.opening past) h.handed;
     }
 
 -- more may be lost
@@ -105,6 +106,7 @@ more_followed x most more s life past le h = record {
   haves = (let few = h.haves in omega (arith, few, le));
   follows = h.follows;
   awaited = h.awaited;
+  handed = h.handed;
 }
 
 -- What was said elsewhere isn't said on a channel whose reading stays as it was.
@@ -317,6 +319,8 @@ own_followed d found aware most c channel moment at bs old new life past held ea
           (sym (heard_after d life w bs past)) told);
       awaited = subst (λ (xs : List Line). AreAwaited (chunks_of d) new.seat.own xs) (sym (grown.story ∙ said_story w.now (said_by bs) (is_heard d life past) (tale_of d life past)))
           ((delivery_keeps w bs old new each may.first may.fit).stays (chunks_of d) (read_story d life past) h.awaited);
+      handed = after_by (λ (xs : List Record). some_since is_event life.opening xs ≡ true) w bs past h.handed
+          (λ b before e. or_right (nat_le life.opening (length before) && is_event (Sent w.moment w.receiver b.bytes)) (some_since is_event life.opening before) e);
     }
 
 -- ---- all seats

@@ -161,15 +161,18 @@ replied_ready x most at slot before mid s life sender bytes past is room begins 
 
 -- ---- the peer looks up
 
-pub taken_followed : (x : SeatSetting) (most : ℕ) (old new : SeatState) (life : Life) (r : Record) (past : List Record)
+pub taken_followed : (x : SeatSetting) (most : ℕ) (old new : SeatState) (life : Life) (r : Record) (past : List Record) → is_event r ≡ true
     → IsReady x most (now (r ∷ past)) old life r past
     → Goes Always (Taken (now (r ∷ past))) old new → new.own ≡ old.own → IsFollowed x most new life (r ∷ past)
-taken_followed x most old new life r past h goes same =
+taken_followed x most old new life r past event h goes same =
     let n = now (r ∷ past) in
     let f = with_proven h.is_proven (frame_in x life past) in
     let t = with_line (Taken n) h.is_proven h.tale in
     let gone = goes.follows f h.lost h.tale tt h.follows in
     let told = same_tales f h.lost new t (tale_of x.d life (r ∷ past)) h.becomes gone in
+    let handed : some_since is_event life.opening (r ∷ past) ≡ true =
+    or_left (leb life.opening (length past) && is_event r) (some_since is_event life.opening past)
+    (and_from (leb life.opening (length past)) (is_event r) (le-leb life.opening (length past) h.begun) event) in
     let later_is = frames_grow x.d life x.is_found r past in
     let with_later = announced_stays f h.lost (λ i. since_of x.d life x.is_found i (r ∷ past)) new (tale_of x.d life (r ∷ past)) later_is told in
     record {
@@ -180,4 +183,5 @@ taken_followed x most old new life r past h goes same =
       awaited = subst (λ (xs : List Line). AreAwaited (chunks_of x.d) new.own xs) (sym h.becomes.story)
           (subst (λ (own : _). AreAwaited (chunks_of x.d) own (Taken n ∷ h.tale.story)) (sym same)
           ((lines_keep_awaited.others (Taken n) old.own tt).stays (chunks_of x.d) h.tale.story h.awaited));
+      handed = handed;
     }

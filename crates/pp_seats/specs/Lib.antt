@@ -4,3 +4,4 @@ pub mod Laws
 pub mod Sending
 pub mod Serving
 pub mod Greeting
+pub mod Turning

@@ -1,8 +1,8 @@
 -- What the seats of a peer keep is what the link carried says.
-use Rattle.std.specs.Prelude.{◌≡◌, ℕ, ◌<◌, ◌≤◌, Bool, false, Option, Some, List, ◌++◌, length, slice_get}
+use Rattle.std.specs.Prelude.{◌≡◌, ℕ, ◌<◌, ◌≤◌, Bool, true, false, Option, Some, List, length, slice_get}
 use Rattle.pp_terms.specs.format.Traffic.{Record}
 use Rattle.pp_terms.specs.format.Descriptor.{Descriptor, chunks_of}
-use Rattle.pp_traffic.specs.Past.{now}
+use Rattle.pp_traffic.specs.Past.{now, some_since, is_event}
 use Rattle.pp_traffic.specs.Life.{Life}
 use Rattle.pp_traffic.specs.Asking.{is_heard}
 use Rattle.pp_promises.specs.ReadStory.{read_story}
@@ -43,13 +43,14 @@ abbrev pub frame_in : SeatSetting → Life → List Record → Frame
 frame_in x life past = frame_of x.d life x.is_found x.known_of past
 
 -- A seat follows the tale of its channel's life, but for so many chunks that were given up and so many times that its cursor was
--- set back at most.
+-- set back at most; and the link has handed in something since the life began.
 pub record IsFollowed (x : SeatSetting) (most : ℕ) (s : SeatState) (life : Life) (past : List Record) : Type 0 where
   pub lost : Lost
   pub chunks : lost.chunks ≤ most
   pub haves : lost.haves ≤ most
   pub follows : Follows (frame_in x life past) lost s (tale_of x.d life past)
   pub awaited : AreAwaited (chunks_of x.d) s.own (read_story x.d life past)
+  pub handed : some_since is_event life.opening past ≡ true
 
 -- Each seat is one of a content of so many chunks.
 abbrev pub AllHold : ℕ → List SeatState → Type 0

@@ -1,0 +1,34 @@
+//! What becomes of one seat with no message.
+
+ghost use Rattle.std.specs.Prelude.{◌≡◌, ◌<◌, Some, slice_get, MatchOption};
+ghost use Rattle.pp_seats.specs.Turning.{Rewinds, GivesUpRequest, HasNoneExpired};
+
+use crate::seats::Seats;
+use pp_seat::Seat;
+
+impl Seats {
+    /// What is kept of the messages of a seat's channel.
+    pub fn seat(&self, seat: u8) -> &Seat
+        requires { seat < 64 }
+        ensures { slice_get self.now.seats seat ≡ Some result.now }
+    {
+        &self.seats[seat as usize]
+    }
+
+    /// Chunks from this one on are to be told of once more on a seat's channel. It loses nothing where the channel isn't proven.
+    pub fn rewind(&mut self, seat: u8, to: u32)
+        requires { seat < 64 }
+        ensures { Rewinds seat to self.old self.new }
+    {
+        self.seats[seat as usize].rewind(to);
+    }
+
+    /// Takes out the least chunk that this peer asked for on a seat's channel 10 seconds ago or longer: it may be asked for elsewhere, and
+    /// nothing more is asked for on the channel until a datagram comes there. None where there is none.
+    pub fn give_up_request(&mut self, seat: u8) -> Option<u32>
+        requires { seat < 64 }
+        ensures { MatchOption result (HasNoneExpired seat self.old self.new) (λ i. GivesUpRequest seat i self.old self.new) }
+    {
+        self.seats[seat as usize].expired(self.moment)
+    }
+}
