@@ -5,9 +5,9 @@ use Rattle.pp_terms.specs.format.Messages.{Message}
 use Rattle.pp_terms.specs.tree.Range.{Span}
 use Rattle.pp_traffic.specs.Story.{Line, Heard}
 use Rattle.pp_counts.specs.declared.note.Note.{Note}
-use Rattle.pp_seat.specs.Lines.{Tale, inside}
+use Rattle.pp_seat.specs.Lines.{inside}
 use Rattle.pp_seat.specs.Seats.{SeatState}
-use Rattle.pp_seat.specs.Follows.{Frame, Lost, Follows, Goes, Always, IsCut}
+use Rattle.pp_seat.specs.Follows.{Goes, Always, IsCut}
 use Rattle.pp_seat.specs.Laws.{IsIdleHeard}
 use Rattle.pp_seat.proofs.Passing.{idle_stays}
 use Rattle.pp_desk.specs.Hearing.{HearsPart}

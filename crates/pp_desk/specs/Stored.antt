@@ -23,12 +23,12 @@ pub record CanRead (s : StoreState) (book : LookUp) (i n : ℕ) : Type 0 where
 abbrev pub StoodAt : StoreState → ℕ → List ℕ → DiskState → Type 0
 StoodAt s i bytes disk = IsKnown disk → IsRead disk.history.reads (chunk_place s.descriptor.chunk i) bytes
 
--- They have the digest that the book has of the chunk.
+-- The bytes have the digest that the book has of the chunk.
 pub record IsChunk (s : StoreState) (book : LookUp) (i : ℕ) (bytes : List ℕ) (disk : DiskState) : Type 0 where
   pub leaf : book 0 i ≡ Some (sha256 bytes)
   pub stood : StoodAt s i bytes disk
 
--- They have another one.
+-- The bytes have another digest than the book has of the chunk.
 pub record IsOther (s : StoreState) (book : LookUp) (i : ℕ) (bytes : List ℕ) (disk : DiskState) : Type 0 where
   pub kept : List ℕ
   pub leaf : book 0 i ≡ Some kept
@@ -43,7 +43,7 @@ Gives s book i (Err Absent) bytes old new = (slice_index_or s.committed i false 
 Gives s book i (Err Disk) bytes old new = HasRisen old.faults new.faults
 Gives s book i (Err Damaged) bytes old new = IsOther s book i bytes old
 
--- And the disk is as it was, but for the counts of faults.
+-- A reading gives such an answer, and the disk is as it was, but for the counts of faults.
 pub record Reads (s : StoreState) (book : LookUp) (i : ℕ) (answer : Answer) (bytes : List ℕ) (old new : DiskState) : Type 0 where
   pub gives : Gives s book i answer bytes old new
   pub absent : slice_index_or s.committed i false ≡ false → answer ≡ Err Absent

@@ -25,7 +25,7 @@ use Rattle.pp_lives.specs.Standing.{StandsAt, Seated, Plains}
 use Rattle.pp_lives.specs.Calls.{Drops, hears, replied, with_life, as_dial, opened_life, looked, TellsOne, TellsFirst}
 use Rattle.pp_lives.specs.Arriving.{contents, is_shadowed_at, is_given_up}
 use Rattle.pp_lives.specs.Standing.{Standing}
-use Rattle.pp_lives.specs.Arrived.{Stays, GivesUp, Reads, WasThere, IsPassed, PassesAt, IsHeardOn, IsOpenedBy, IsRepliedBy}
+use Rattle.pp_lives.specs.Arrived.{Stays, GivesUp, Reads, IsHeardOn, IsOpenedBy, IsRepliedBy}
 use Rattle.pp_lives.proofs.Staying.{Misses, began}
 use Rattle.pp_lives.proofs.Sharing.{was_same, was_apart, dropped_same, passes_of}
 use Rattle.pp_lives.proofs.Own.{stands_of, others_apart, missed_by, reads_on, heard_seated, heard_tells}

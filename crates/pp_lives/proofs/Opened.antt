@@ -1,6 +1,6 @@
 -- A handshake that opens a channel at a free seat.
 use Rattle.std.proofs.Common.{◌≡◌, inl, inr, ⊎_elim, ℕ, ◌<◌, ◌≤◌, max, eqb, leb, ltb, true, false, not, ◌||◌, ◌&&◌, Option, Some, None, List, [], ◌∷◌, length, drop, refl, sym, ◌∙◌, ap, subst, arith}
-use Rattle.std.proofs.lemmas.Bool.{cases_Bool, or_left, and_from, and_left, and_right, or_from, both_ways, cond-true, cond-false, eqb-true, eqb-false, eq-eqb, ne_eqb, le-leb, lt-leb, le-ltb}
+use Rattle.std.proofs.lemmas.Bool.{cases_Bool, or_left, and_from, and_left, and_right, or_from, both_ways, cond-true, cond-false, eqb-true, eqb-false, eq-eqb, ne_eqb, le-leb, le-ltb}
 use Rattle.std.proofs.lemmas.Option.{same_Some}
 use Rattle.pp_terms.specs.format.Traffic as traffic
 use Rattle.pp_terms.specs.format.Traffic.{Record, Received, Sent, same_address}

@@ -105,5 +105,6 @@ Arrived d t lives r past now bytes result new = Stays d now t new lives r past
 
 -- Whatever traffic the seats stood for, where each dial had begun: they stand for it with this datagram.
 abbrev pub KeepsStanding : Descriptor → Seats → Address → ℕ → List ℕ → Arrival → Seats → Type 0
-KeepsStanding d t sender moment bytes result new = (lives : ℕ → Option Life) (stamp : ℕ) (past : List Record) → moment ≡ max stamp (now past)
+KeepsStanding d t sender moment bytes result new =
+    (lives : ℕ → Option Life) (stamp : ℕ) (past : List Record) → moment ≡ max stamp (now past)
     → Standing d t lives past → AllBegun t → Arrived d t lives (Received stamp (address_of sender) bytes) past moment bytes result new

@@ -37,9 +37,12 @@ is_faulty m = begins_faulty m.fault m.read
 -- The first message is a handshake, and others are behind it; or its options have a fault; or it is none.
 abbrev pub Starts : Descriptor → List ℕ → First → Type 0
 Starts d bytes (firsts.Handshake source options next) = (next ≤ length bytes)
-    × (messages_at d.method d.chunk 4 (drop 4 bytes) ≡ with_first (Handshake source (options_of options)) (messages_at d.method d.chunk next (drop next bytes)))
+    × (messages_at d.method d.chunk 4 (drop 4 bytes)
+    ≡ with_first (Handshake source (options_of options)) (messages_at d.method d.chunk next (drop next bytes)))
 Starts d bytes firsts.Faulty = is_faulty (messages_at d.method d.chunk 4 (drop 4 bytes)) ≡ true
-Starts d bytes firsts.Other = (is_faulty (messages_at d.method d.chunk 4 (drop 4 bytes)) ≡ false) × (begins (messages_at d.method d.chunk 4 (drop 4 bytes)).read ≡ false)
+Starts d bytes firsts.Other =
+    (is_faulty (messages_at d.method d.chunk 4 (drop 4 bytes)) ≡ false)
+    × (begins (messages_at d.method d.chunk 4 (drop 4 bytes)).read ≡ false)
 
 -- the messages behind the channel's number
 abbrev pub contents : Descriptor → List ℕ → Messages
@@ -66,15 +69,18 @@ Welcomes t sender source next now arrivals.Unseated new =
 Welcomes t sender source next now (arrivals.Opened seat behind) new =
     (position (is_source sender source) t.channels ≡ None) × (free_seat t ≡ Some seat) × (behind ≡ next)
     × (new ≡ with_channel (answered sender source now) t)
-Welcomes t sender source next now result new = (seat : ℕ) × (position (is_source sender source) t.channels ≡ Some seat) × Meets t seat result new
+Welcomes t sender source next now result new =
+    (seat : ℕ) × (position (is_source sender source) t.channels ≡ Some seat) × Meets t seat result new
 
-pub record IsWelcome (d : Descriptor) (t : Seats) (sender : Address) (now : ℕ) (bytes : List ℕ) (result : Arrival) (new : Seats) : Type 0 where
+pub record IsWelcome (d : Descriptor) (t : Seats) (sender : Address) (now : ℕ) (bytes : List ℕ) (result : Arrival) (new : Seats)
+    : Type 0 where
   pub source : ℕ
   pub next : ℕ
   pub within : next ≤ length bytes
   pub some : 0 < source
   pub fitting : begins_fitting d false source (contents d bytes).read ≡ true
-  pub behind : messages_at d.method d.chunk next (drop next bytes) ≡ record { read = drop 1 (contents d bytes).read; fault = (contents d bytes).fault }
+  pub behind : messages_at d.method d.chunk next (drop next bytes)
+      ≡ record { read = drop 1 (contents d bytes).read; fault = (contents d bytes).fault }
   pub does : Welcomes t sender source next now result new
 
 -- a handshake that doesn't fit, and one that closes
@@ -86,7 +92,8 @@ abbrev pub is_unwelcome : Descriptor → Messages → Bool
 is_unwelcome d m = is_faulty m || differs d false m.read || begins_as 0 m.read
 
 abbrev pub Greets : Descriptor → Seats → Address → ℕ → List ℕ → Arrival → Seats → Type 0
-Greets d t sender now bytes arrivals.NoGreeting new = (is_faulty (contents d bytes) ≡ false) × (begins (contents d bytes).read ≡ false) × (new ≡ t)
+Greets d t sender now bytes arrivals.NoGreeting new =
+    (is_faulty (contents d bytes) ≡ false) × (begins (contents d bytes).read ≡ false) × (new ≡ t)
 Greets d t sender now bytes arrivals.Unwelcome new = (is_unwelcome d (contents d bytes) ≡ true) × (new ≡ t)
 Greets d t sender now bytes result new = IsWelcome d t sender now bytes result new
 
@@ -98,12 +105,14 @@ is_shadowed_at (Some c) = c.shadowed
 
 -- the reply closes, or another channel of the address has or may have had its number
 abbrev pub is_given_up : Seats → ℕ → Address → ℕ → Bool
-is_given_up t seat sender source = source == 0 || is_some (position (is_source sender source) t.channels) || is_shadowed_at (channel_at t seat)
+is_given_up t seat sender source =
+    source == 0 || is_some (position (is_source sender source) t.channels) || is_shadowed_at (channel_at t seat)
 
 -- by the number in the handshake, and whether its options fit
 abbrev pub Answers : Seats → ℕ → Address → ℕ → ℕ → Bool → Arrival → Seats → Type 0
 Answers t seat sender now source fit (arrivals.Differs k) new = (k ≡ seat) × (fit ≡ false) × (new ≡ closed t seat)
-Answers t seat sender now source fit (arrivals.Given k) new = (k ≡ seat) × (fit ≡ true) × (is_given_up t seat sender source ≡ true) × (new ≡ closed t seat)
+Answers t seat sender now source fit (arrivals.Given k) new =
+    (k ≡ seat) × (fit ≡ true) × (is_given_up t seat sender source ≡ true) × (new ≡ closed t seat)
 Answers t seat sender now source fit (arrivals.Replied k) new =
     (k ≡ seat) × (fit ≡ true) × (is_given_up t seat sender source ≡ false)
     × (new ≡ changed (changed t seat (λ c. record c { remote = Some source; state = Proven })) seat (λ c. record c { heard = now }))

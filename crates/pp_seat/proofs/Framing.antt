@@ -9,18 +9,17 @@ use Rattle.std.proofs.lemmas.Bool.{le-leb, or_from, both_ways, false≢true, leb
 use Rattle.std.proofs.lemmas.Bool.Decides.{nat_tests}
 use Rattle.pp_terms.specs.format.Traffic.{Address, Record, Received, Quiet, Sent}
 use Rattle.pp_terms.specs.format.Descriptor.{Descriptor}
-use Rattle.pp_terms.specs.format.Messages.{Message, Data, Request, Cancel, Choke}
+use Rattle.pp_terms.specs.format.Messages.{Message}
 use Rattle.pp_traffic.specs.Past.{now, some_since, is_event, read}
 use Rattle.pp_traffic.specs.Life.{Life, comes_on}
 use Rattle.pp_traffic.specs.Story.{Line, Heard, Said, Taken, hear, say, heard_in, said_in, told, story}
 use Rattle.pp_traffic.specs.Asking.{choked, asked_by, asked_after, asked, is_heard, asks_in, most_asks}
 use Rattle.pp_traffic.specs.Fates.{clock}
 use Rattle.pp_traffic.proofs.Chokes.{heard_choked, said_none}
-use Rattle.pp_promises.specs.LastTurn.{earlier}
 use Rattle.pp_promises.specs.OwnSide.{has_in}
 use Rattle.pp_promises.specs.ReadStory.{with_unread, is_read, read_story, proven_story}
 use Rattle.pp_promises.specs.Served.{is_announced, asked_after_heard, asked_after_said, owed_after, is_owed, IsOwed}
-use Rattle.pp_promises.specs.Announced.{was_told_of, IsKnownOf, is_told_of}
+use Rattle.pp_promises.specs.Announced.{was_told_of}
 use Rattle.pp_promises.proofs.ReadStories.{by_asks, after_asks, answers_are_read, plains_are_read}
 use Rattle.pp_promises.proofs.Growth.{reads_grow}
 use Rattle.pp_seat.proofs.Moments.{say_clock}

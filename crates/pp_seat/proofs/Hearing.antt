@@ -1,8 +1,8 @@
 -- A seat follows one line more, of a message that came, or of a wait that ended.
-use Rattle.std.proofs.Common.{◌≡◌, ⊎_elim, ℕ, ◌+◌, ◌-◌, ◌^◌, min, ◌<◌, ◌≤◌, Bool, true, false, cond, ◌||◌, Option, Some, None, List, [], ◌∷◌, length, take, refl, sym, ◌∙◌, ap, subst, arith}
+use Rattle.std.proofs.Common.{◌≡◌, ℕ, ◌+◌, ◌-◌, ◌^◌, min, ◌<◌, ◌≤◌, Bool, true, false, cond, ◌||◌, Option, Some, None, List, [], ◌∷◌, length, take, refl, sym, ◌∙◌, ap, subst, arith}
 use Rattle.std.specs.List.{AllByRecursion}
 use Rattle.std.proofs.Math.Bool.{or_comm}
-use Rattle.std.proofs.lemmas.Bool.{cond-true, cond-false, or_cases, or_left, or_right, both_ways, false≢true}
+use Rattle.std.proofs.lemmas.Bool.{cond-true, cond-false, or_right, both_ways, false≢true}
 use Rattle.pp_terms.specs.format.Messages.{Data, Ack, Have, Integrity, Request, Cancel, Choke, Unchoke}
 use Rattle.pp_terms.specs.tree.Tree.{Node}
 use Rattle.pp_terms.specs.tree.Range.{Span, leaves_of}

@@ -11,7 +11,6 @@ use Rattle.pp_ranges.specs.Edits.{number_count}
 use Rattle.pp_ranges.proofs.Runs.{runs_weaken, none_below}
 use Rattle.pp_traffic.specs.Plain.{IsPlainNow}
 use Rattle.pp_traffic.specs.Story.{Line, story}
-use Rattle.pp_traffic.specs.Keeping.{StoodThroughout}
 use Rattle.pp_terms.specs.disk.Disk.{History}
 use Rattle.pp_promises.proofs.ReadStories.{plains_are_read}
 use Rattle.pp_promises.specs.LastTurn.{sent_since, earlier}

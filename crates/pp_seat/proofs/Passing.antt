@@ -11,7 +11,7 @@ use Rattle.pp_terms.specs.tree.Bins.{parent_of}
 use Rattle.pp_terms.specs.tree.Range.{Span, within}
 use Rattle.pp_traffic.specs.declared.entries.Entry.{Entry}
 use Rattle.pp_traffic.specs.Story.{Line, Heard, Said, Taken}
-use Rattle.pp_traffic.specs.Asking.{choked_by, choked, asked_by, asked_after, asked, asks_in}
+use Rattle.pp_traffic.specs.Asking.{choked, asked_by, asked, asks_in}
 use Rattle.pp_traffic.specs.Claims.{claims_in, with_claim, cut_to}
 use Rattle.pp_traffic.specs.Hashes.{meets, tells, is_told}
 use Rattle.pp_traffic.specs.Meter.{Meter, meter, covers, hits, acked, settled}

@@ -1,5 +1,5 @@
 -- Where the promises let a channel be asked for more.
-use Rattle.std.proofs.Common.{◌≡◌, ⊎_elim, ℕ, ◌+◌, ◌<◌, ◌≤◌, max, eqb, nat_le, Bool, true, false, cond, not, ◌&&◌, ◌||◌, Option, Some, List, [], ◌∷◌, length, refl, sym, ◌∙◌, ap, arith}
+use Rattle.std.proofs.Common.{◌≡◌, ⊎_elim, ℕ, ◌+◌, ◌<◌, ◌≤◌, max, eqb, nat_le, Bool, true, false, cond, not, ◌&&◌, ◌||◌, Some, List, [], ◌∷◌, length, refl, ◌∙◌, ap, arith}
 use Rattle.std.specs.List.{list_any, filter}
 use Rattle.std.proofs.lemmas.Bool.{and_from, and_parts, le-leb, or_left, or_right, or_cases, eq-eqb, eqb-true, false≢true}
 use Rattle.std.proofs.lemmas.Bool.Decides.{nat_tests}
@@ -9,7 +9,7 @@ use Rattle.pp_terms.specs.format.Descriptor.{Descriptor, chunks_of}
 use Rattle.pp_terms.specs.format.Messages.{Message, Data, Request, Cancel, Choke, Unchoke}
 use Rattle.pp_traffic.specs.Past.{now}
 use Rattle.pp_traffic.specs.Life.{Life, comes_on}
-use Rattle.pp_traffic.specs.Story.{heard_in, said_in, hear, told}
+use Rattle.pp_traffic.specs.Story.{heard_in, said_in, told}
 use Rattle.pp_promises.specs.OwnSide.{OwnRequest, no_asking, after_heard, after_said, after_all_heard, after_all_said, after_arrival, is_expired, after_record, asking, waiting_time}
 use Rattle.pp_promises.specs.OwnSide as own_side
 use Rattle.pp_promises.specs.ReadStory.{with_unread, is_read, read_story}

@@ -1,5 +1,5 @@
 -- What a story says once several REQUESTs, HAVEs or addresses were sent.
-use Rattle.std.proofs.Common.{◌≡◌, ◌⊎◌, inl, inr, ⊎_elim, ℕ, ◌+◌, ◌≤◌, max, eqb, Bool, true, false, ◌&&◌, ◌||◌, Option, Some, List, [], ◌∷◌, map, refl, ◌∙◌, ap, arith}
+use Rattle.std.proofs.Common.{◌≡◌, ◌⊎◌, inl, inr, ⊎_elim, ℕ, ◌+◌, ◌≤◌, max, eqb, Bool, true, false, ◌&&◌, ◌||◌, Option, Some, List, [], ◌∷◌, map, refl, ◌∙◌, arith}
 use Rattle.std.proofs.lemmas.Bool.{and_from, and_right, or_cases, or_left, or_right, or_from, false≢true, eq-eqb, and_left}
 use Rattle.std.proofs.lemmas.Bool.Decides.{nat_tests}
 use Rattle.pp_terms.specs.format.Messages.{Message, Have, Request, Pex4, Pex6}

@@ -1,5 +1,5 @@
 -- A dial on whose channel nothing was read or said can begin a seat.
-use Rattle.std.proofs.Common.{◌≡◌, ⊎_elim, inl, inr, ℕ, ◌<◌, ◌≤◌, leb, eqb, Bool, true, false, cond, not, ◌&&◌, ◌||◌, Option, Some, None, List, [], ◌∷◌, length, refl, sym, ◌∙◌, ap, subst, arith}
+use Rattle.std.proofs.Common.{◌≡◌, ⊎_elim, inr, ℕ, ◌≤◌, leb, eqb, Bool, true, false, cond, not, ◌&&◌, List, [], ◌∷◌, length, refl, sym, ◌∙◌, ap, subst, arith}
 use Rattle.std.specs.List.{list_any}
 use Rattle.std.proofs.lemmas.Bool.{cases_Bool, or_from, and_left, and_right, leb-false}
 use Rattle.pp_terms.specs.format.Traffic.{Record, Received, Quiet, Sent}
@@ -89,10 +89,12 @@ proven_blank d life (Sent moment receiver bytes ∷ b) dialled e =
   where
     ms : List Message
     ms = said_in d life (Sent moment receiver bytes)
+
     both : is_blank (say (now b) ms (read_story d life b)) ≡ true → (is_blank (read_story d life b) ≡ true → is_blank (proven_story d life b) ≡ true)
         → is_blank (say (now b) ms (proven_story d life b)) ≡ true
     both e before = let s = say_blank (now b) ms (read_story d life b) e in
         ap (λ (x : List Message). is_blank (say (now b) x (proven_story d life b))) s.0 ∙ before s.1
+
     by : (x y z : Bool) → is_blank (cond x (cond y (say (now b) ms (read_story d life b)) (say (now b) ms (read_story d life b))) []) ≡ true
         → (is_blank (read_story d life b) ≡ true → is_blank (proven_story d life b) ≡ true)
         → is_blank (cond x (cond (z && y) (say (now b) ms (proven_story d life b)) (say (now b) ms (proven_story d life b))) []) ≡ true
@@ -109,8 +111,10 @@ proven_blank d life (Received at sender bytes ∷ b) dialled e =
   where
     n : ℕ
     n = now (Received at sender bytes ∷ b)
+
     ms : List Message
     ms = (read d (Received at sender bytes)).messages.read
+
     by : (x y z : Bool) → comes_on d life (Received at sender bytes) ≡ z → (first later : List Message)
         → first ≡ cond (comes_on d life (Received at sender bytes)) ms [] → later ≡ cond (comes_on d life (Received at sender bytes)) ms []
         → is_blank (cond x (cond y (Taken n ∷ hear n first (read_story d life b)) (Taken n ∷ read_story d life b)) []) ≡ true
@@ -142,6 +146,7 @@ untold_blank d life i (r ∷ b) e = ⊎_elim
     tells_none (Received at sender bytes) none = refl
     tells_none (Quiet at) none = refl
     tells_none (Sent moment receiver bytes) none = ap (list_any (has_in i)) (none moment receiver bytes refl)
+
     begun_blank : (r : Record) → leb life.opening (length b) ≡ true → is_blank (read_story d life (r ∷ b)) ≡ true
         → ((moment : ℕ) (receiver : _) (bytes : List ℕ) → r ≡ Sent moment receiver bytes → said_in d life r ≡ []) × (is_blank (read_story d life b) ≡ true)
     begun_blank r le e = by (is_read d life (r ∷ b)) r (subst (λ (x : Bool). is_blank (cond x (cond (is_read d life (r ∷ b))

@@ -1,5 +1,5 @@
 -- A chunk behind the hashes of its plan serves its peer.
-use Rattle.std.proofs.Common.{◌≡◌, ⊎_elim, ℕ, zero, suc, ◌+◌, ◌-◌, ◌*◌, ◌^◌, ◌<◌, ◌≤◌, eqb, Bool, true, false, cond, ◌&&◌, ◌||◌, Option, Some, List, [], ◌∷◌, ◌++◌, map, refl, sym, ◌∙◌, ap, subst, append_assoc}
+use Rattle.std.proofs.Common.{◌≡◌, ⊎_elim, ℕ, zero, suc, ◌+◌, ◌-◌, ◌*◌, ◌^◌, eqb, Bool, true, false, cond, ◌&&◌, ◌||◌, Option, Some, List, [], ◌∷◌, ◌++◌, map, refl, sym, ◌∙◌, ap, subst, append_assoc}
 use Rattle.std.specs.Prelude.{unwrap_or}
 use Rattle.std.specs.List.{AllByRecursion, list_any, list_all}
 use Rattle.std.proofs.lemmas.Bool.{and_parts, and_from, or_cases, or_left, or_right, eq-eqb, eqb-true, false≢true}
@@ -9,11 +9,11 @@ use Rattle.pp_terms.specs.tree.Book.{LookUp}
 use Rattle.pp_terms.specs.tree.Range.{Span, leaves_of}
 use Rattle.pp_terms.specs.tree.Tree.{Node, same_node, is_peak, peaks, height, leaf_at}
 use Rattle.pp_terms.specs.format.Traffic.{Address, Record}
-use Rattle.pp_terms.specs.format.Descriptor.{Descriptor, chunks_of}
-use Rattle.pp_terms.specs.format.Messages.{Message, Integrity, Data}
+use Rattle.pp_terms.specs.format.Descriptor.{Descriptor}
+use Rattle.pp_terms.specs.format.Messages.{Message}
 use Rattle.pp_terms.proofs.Facts.{value_of}
 use Rattle.pp_traffic.specs.Life.{begins_as}
-use Rattle.pp_traffic.specs.Hashes.{is_told, is_span_of, brings, Carries}
+use Rattle.pp_traffic.specs.Hashes.{is_span_of, brings, Carries}
 use Rattle.pp_traffic.specs.Laws.{plan, uncles_from, IsInBook}
 use Rattle.pp_traffic.specs.Serving.{Window, ServesChunk, ServesFrom}
 use Rattle.pp_promises.specs.Datagrams.{hash_spans, PlansPeer, PlansFrom}
@@ -102,6 +102,7 @@ plan_same chunks told other i same =
     all_same : (xs : List Node) → list_all told xs ≡ list_all other xs
     all_same [] = refl
     all_same (x ∷ xs) = ap (λ (b : Bool). b && list_all told xs) (same x) ∙ ap (λ (b : Bool). other x && b) (all_same xs)
+
     uncles_same : (layers : ℕ) (n : Node) → uncles_from layers chunks told n ≡ uncles_from layers chunks other n
     uncles_same zero n = refl
     uncles_same (suc layers) n =

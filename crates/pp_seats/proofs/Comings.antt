@@ -1,32 +1,30 @@
 -- What each meaning of a datagram leaves of the seats.
-use Rattle.std.proofs.Common.{◌≡◌, ◌≢◌, ⊎_elim, ℕ, ◌<◌, ◌≤◌, eqb, max, Bool, true, false, cond, Option, Some, None, List, [], ◌∷◌, ◌++◌, length, drop, refl, sym, ◌∙◌, ap, subst, arith}
+use Rattle.std.proofs.Common.{◌≡◌, ◌≢◌, ⊎_elim, ℕ, ◌≤◌, eqb, max, Bool, false, cond, Option, Some, List, ◌∷◌, length, drop, refl, sym, ◌∙◌, ap, subst}
 use Rattle.std.specs.List.{slice_get}
 use Rattle.std.proofs.Math.ListN.{set}
-use Rattle.std.proofs.lemmas.Bool.{cases_Bool, both_ways, eqb-true, eqb-false}
+use Rattle.std.proofs.lemmas.Bool.{cases_Bool, eqb-true, eqb-false}
 use Rattle.std.proofs.lemmas.Option.{same_Some}
 use Rattle.pp_terms.specs.format.Traffic.{Record, Received, Quiet}
 use Rattle.pp_terms.specs.format.Descriptor.{Descriptor, chunks_of}
 use Rattle.pp_terms.specs.format.Messages.{Message, Messages}
 use Rattle.pp_outside.specs.Outside.{address_of}
 use Rattle.pp_outside.specs.declared.link.Address.{Address}
-use Rattle.pp_traffic.specs.Past.{now, read}
+use Rattle.pp_traffic.specs.Past.{now}
 use Rattle.pp_traffic.specs.Life.{Life, closes}
 use Rattle.pp_channels.specs.Seats.{Seats, channel_at, closed}
 use Rattle.pp_channels.specs.declared.channel.Channel.{Channel}
 use Rattle.pp_lives.specs.Reading.{is_waiting}
-use Rattle.pp_lives.specs.Standing.{Standing}
 use Rattle.pp_lives.specs.Calls.{Told, TellsOne, TellsFirst}
 use Rattle.pp_lives.specs.Arriving.{contents, Arrives}
 use Rattle.pp_lives.specs.Arrived.{PassesAt, IsHeardOn, IsOpenedBy, IsRepliedBy, Stays, GivesUp, Reads, Arrived, KeepsStanding}
 use Rattle.pp_lives.specs.declared.arriving.Arrival.{Arrival}
 use Rattle.pp_lives.specs.declared.arriving.Arrival.TheVariants as arrivals
-use Rattle.pp_lives.proofs.Each.{each_by}
 use Rattle.pp_lives.proofs.Arrivals.{contents_read}
 use Rattle.pp_lives.proofs.Own.{stands_of}
 use Rattle.pp_lives.proofs.Staying.{began}
 use Rattle.pp_lives.proofs.Wholes.{quiet_stays}
 use Rattle.pp_seat.specs.Seats.{SeatState}
-use Rattle.pp_seats.specs.Standing.{SeatsState, Setting, AllHold, IsFollowed, EachKnown, StandsFor, at_seat}
+use Rattle.pp_seats.specs.Standing.{SeatsState, Setting, AllHold, StandsFor, at_seat}
 use Rattle.pp_seats.specs.Hearing.{HearsAll, ChangesSeat, IsRead, Begins, IsShown, BeginsShown, Prepares, IsReady, Ready, OnceRead}
 use Rattle.pp_seats.proofs.Lists.{get_set_there, get_set_other, set_twice}
 use Rattle.pp_seats.proofs.Steps.{passed_ready, quiet_ready, heard_ready, opened_ready, replied_ready}
@@ -129,8 +127,10 @@ reads_ready x most p q sender at bytes past h new k ms Tells IsOn reads mid same
   where
     r : Record
     r = Came at sender bytes
+
     seats : List SeatState
     seats = set mid k is.after
+
     elsewhere : (n : ℕ) → n ≢ k → slice_get seats n ≡ slice_get p.seats n
     elsewhere n ne = get_set_other mid k n is.after ne ∙ same n ne
 
@@ -231,6 +231,7 @@ arrived x most p p1 sender at bytes past new slot result room h =
   where
     n : ℕ
     n = now (Came at sender bytes ∷ past)
+
     by : (a : Arrival) → Arrived x.d p.table h.lives (Came at sender bytes) past n bytes a new → Arrives x.d p.table sender (max at p.moment) bytes a new
         → Prepares x.d slot a (Between new p n) p1 → OnceRead x.d bytes a (λ q. Ready x most q (Came at sender bytes) past) p1
     by (arrivals.Opened k next) a d c = λ q is. opened x most p p1 sender at bytes past h (subst (λ (e : Descriptor). AllHold (chunks_of e) p.seats) h.swarm room) new slot k a d.long c q is

@@ -1,10 +1,10 @@
 -- What is heard message by message is heard together.
-use Rattle.std.proofs.Common.{◌≡◌, ℕ, Bool, List, [], ◌∷◌, ◌++◌, refl, sym, ◌∙◌, ap, subst}
+use Rattle.std.proofs.Common.{◌≡◌, ℕ, Bool, List, [], ◌∷◌, ◌++◌, refl, subst}
 use Rattle.pp_terms.specs.format.Messages.{Message}
 use Rattle.pp_traffic.specs.Story.{Line, Heard, hear}
 use Rattle.pp_seat.specs.Lines.{Tale, with_line}
 use Rattle.pp_seat.specs.Seats.{SeatState}
-use Rattle.pp_seat.specs.Follows.{Frame, Lost, Follows, Goes, Always}
+use Rattle.pp_seat.specs.Follows.{Follows, Goes, Always}
 use Rattle.pp_seat.specs.Frames.{with_heard}
 use Rattle.pp_seat.specs.Awaited.{AreAwaited, KeepsAwaited}
 use Rattle.pp_seats.specs.Hearing.{HearsAll}

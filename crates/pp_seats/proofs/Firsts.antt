@@ -1,5 +1,5 @@
 -- Seats of which none is in use.
-use Rattle.std.proofs.Common.{None, [], refl, sym}
+use Rattle.std.proofs.Common.{None, refl}
 use Rattle.pp_channels.proofs.Seating.{none_there}
 use Rattle.pp_lives.proofs.Wholes.{stands_at_first}
 use Rattle.pp_seats.specs.Laws.{NothingYet}

@@ -1,5 +1,5 @@
 -- Handshakes that were sent, and channels that begin or end with them.
-use Rattle.std.proofs.Common.{◌≡◌, ◌≢◌, ⊎_elim, inl, inr, ℕ, ◌<◌, ◌≤◌, eqb, Bool, true, false, cond, ◌&&◌, ◌||◌, Option, Some, None, List, [], ◌∷◌, ◌++◌, length, refl, sym, ◌∙◌, ap, subst, arith}
+use Rattle.std.proofs.Common.{◌≡◌, ◌≢◌, ⊎_elim, inr, ℕ, ◌<◌, eqb, Bool, true, false, cond, ◌&&◌, Option, Some, None, List, [], ◌∷◌, ◌++◌, length, refl, sym, ◌∙◌, ap, subst, arith}
 use Rattle.std.specs.Prelude.{unwrap_or, position, option_map, MatchOption}
 use Rattle.std.specs.List.{slice_get, list_any}
 use Rattle.std.proofs.lemmas.Bool.{cases_Bool, both_ways, eqb-true, eqb-false, eq-eqb, ne_eqb, cond-false}
@@ -7,18 +7,16 @@ use Rattle.std.proofs.lemmas.List.Quantifiers.{position-Some}
 use Rattle.std.proofs.lemmas.Option.{same_Some}
 use Rattle.pp_terms.specs.format.Traffic as traffic
 use Rattle.pp_terms.specs.format.Traffic.{Record, Sent, LinkState, same_address}
-use Rattle.pp_terms.specs.format.Descriptor.{Descriptor, chunks_of}
+use Rattle.pp_terms.specs.format.Descriptor.{Descriptor}
 use Rattle.pp_terms.specs.format.Options.{Options}
 use Rattle.pp_terms.specs.format.Messages as plain
 use Rattle.pp_terms.specs.format.Messages.{Message, Handshake}
 use Rattle.pp_outside.specs.Outside.{address_of}
 use Rattle.pp_outside.specs.declared.link.Address.{Address}
-use Rattle.pp_traffic.specs.Past.{now, read, goes_to, is_number}
+use Rattle.pp_traffic.specs.Past.{now, read, is_number}
 use Rattle.pp_traffic.specs.Life.{Life, begins_as}
-use Rattle.pp_traffic.specs.Story.{Line, said_in}
 use Rattle.pp_traffic.proofs.Sending.{sent_is_said}
-use Rattle.pp_promises.specs.ReadStory.{read_story}
-use Rattle.pp_channels.specs.Seats.{Seats, AreSeats, channel_at, changed, closed, dialled, free_seat, has_address, is_begun, with_channel, with_handshake, after_drop}
+use Rattle.pp_channels.specs.Seats.{Seats, channel_at, changed, closed, dialled, free_seat, has_address, with_channel, with_handshake}
 use Rattle.pp_channels.specs.Timing.{is_over}
 use Rattle.pp_channels.specs.declared.channel.Channel.{Channel}
 use Rattle.pp_lives.specs.Reading.{is_waiting}
@@ -29,24 +27,21 @@ use Rattle.pp_lives.proofs.Arrivals.{living_of}
 use Rattle.pp_draft.specs.Datagrams.{IsDatagram}
 use Rattle.pp_draft.specs.Notes.{own_options, no_options}
 use Rattle.pp_draft.specs.Posts.{Sends}
-use Rattle.pp_lives.specs.Standing.{Standing, AllBegun, read_at}
-use Rattle.pp_lives.specs.Calls.{Changes, Drops, IsDialOf, with_life}
+use Rattle.pp_lives.specs.Calls.{Changes, IsDialOf, with_life}
 use Rattle.pp_lives.specs.Sending.{with_datagram}
 use Rattle.pp_lives.proofs.Changing.{changed_is, changes_then, dropped_is, made_is}
 use Rattle.pp_lives.proofs.Closing.{before_drop}
 use Rattle.pp_lives.proofs.Edits.{still_opened}
 use Rattle.pp_lives.proofs.Kept.{sent_keeps, first_keeps, again_keeps, dial_keeps, refused_keeps, begun_kept}
 use Rattle.pp_lives.proofs.Begun.{begun_dropped}
-use Rattle.pp_lives.proofs.Own.{stands_of, told_is}
+use Rattle.pp_lives.proofs.Own.{stands_of}
 use Rattle.pp_lives.proofs.Sent.{same_self}
 use Rattle.pp_lives.proofs.Staying.{began}
-use Rattle.pp_lives.proofs.Telling.{read_sent}
 use Rattle.pp_lives.proofs.Wholes.{expired_stays}
-use Rattle.pp_seat.specs.Seats.{SeatState}
 use Rattle.pp_seat.specs.Awaited.{AllPassSaid}
 use Rattle.pp_seat.specs.Laws.{AreIdleSaid}
 use Rattle.pp_seat.proofs.Passing.{idle_says}
-use Rattle.pp_seats.specs.Standing.{SeatsState, Setting, IsFollowed, EachKnown, StandsFor, at_seat}
+use Rattle.pp_seats.specs.Standing.{SeatsState, Setting, IsFollowed, StandsFor, at_seat}
 use Rattle.pp_seats.specs.Greeting.{Greets, IsGreeted, Parts, IsParted, Dials, Ends, EndsNone}
 use Rattle.pp_seats.proofs.Outgoing.{IsFar, far_is, unsaid_followed, unsaid_there, knows_of}
 use Rattle.pp_seats.proofs.Launching.{own_said}
@@ -350,6 +345,7 @@ dials p q k to source moment sent bytes link later free none number written send
         → channel_at (with_channel (dialled to p.moment) p.table) k ≡ Some (dialled to p.moment source)
     there x most past h = let made = made_is p.table k (dialled to p.moment) (λ n. refl) h.standing.seated.are free in
         dial_there (channel_at (with_channel (dialled to p.moment) p.table) k) (dialled to p.moment) made.number source made.change.there number (λ n. refl)
+
     by : (b : Bool) (x : Setting) (most : ℕ) (past : List Record) → StandsFor x most p past
         → StandsFor x most (record p { table = cond b (with_datagram (with_channel (dialled to p.moment) p.table) k true p.moment) (closed (with_channel (dialled to p.moment) p.table) k) })
         (cond b (Sent moment (address_of to) bytes ∷ []) [] ++ past)

@@ -1,5 +1,5 @@
 -- A chunk that goes out on a seat's channel, or doesn't.
-use Rattle.std.proofs.Common.{◌≡◌, ◌&&◌, ⊎_elim, inl, inr, ℕ, ◌+◌, ◌<◌, ◌≤◌, Bool, true, false, Option, Some, None, List, [], ◌∷◌, ◌++◌, map, length, refl, sym, ◌∙◌, ap, subst, arith}
+use Rattle.std.proofs.Common.{◌≡◌, ◌&&◌, ⊎_elim, inl, inr, ℕ, ◌+◌, ◌<◌, ◌≤◌, Bool, true, false, Option, Some, None, List, [], ◌∷◌, map, length, refl, sym, ◌∙◌, ap, subst, arith}
 use Rattle.std.specs.Prelude.{unwrap_or, Ok, Err, IsSome, MatchOption, slice_index_or, ◌^◌, nat_le}
 use Rattle.std.specs.List.{slice_get, AllByRecursion, list_all}
 use Rattle.std.proofs.Math.ListN.{set}
@@ -13,7 +13,7 @@ use Rattle.pp_terms.specs.format.Messages.{Message}
 use Rattle.pp_terms.specs.tree.Book.{LookUp, IsBacked, has_peaks}
 use Rattle.pp_terms.specs.tree.Content.{chunk_length}
 use Rattle.pp_terms.specs.disk.Disk.{DiskState, moment_of}
-use Rattle.pp_terms.specs.tree.Range.{Span, has, leaves_of, IsRunsFrom}
+use Rattle.pp_terms.specs.tree.Range.{has, leaves_of, IsRunsFrom}
 use Rattle.pp_ranges.specs.Edits.{without_below}
 use Rattle.pp_requests.specs.Lists.{without, chunk_count}
 use Rattle.pp_terms.specs.tree.Tree.{Node}
@@ -24,7 +24,7 @@ use Rattle.pp_tree.specs.Node.{node_of}
 use Rattle.pp_tree.specs.declared.node.Node as declared
 use Rattle.pp_traffic.specs.Past.{now, read, is_number, some_since, is_event}
 use Rattle.pp_traffic.specs.Life.{Life, comes_on}
-use Rattle.pp_traffic.specs.Story.{Line, Said, say, said_in, story}
+use Rattle.pp_traffic.specs.Story.{Line, say, said_in, story}
 use Rattle.pp_traffic.specs.Asking.{is_heard}
 use Rattle.pp_traffic.specs.Hashes.{is_told, completes, brings}
 use Rattle.pp_traffic.specs.Laws.{plan, IsInBook}
@@ -40,7 +40,6 @@ use Rattle.pp_promises.specs.Datagrams.{is_read_told, Plans, PlansFrom}
 use Rattle.pp_channels.specs.Seats.{channel_at, is_begun}
 use Rattle.pp_channels.specs.declared.channel.Channel.{Channel}
 use Rattle.pp_lives.specs.Reading.{is_waiting}
-use Rattle.pp_lives.specs.Standing.{Standing, read_at}
 use Rattle.pp_lives.specs.Laws.{IsReadOf}
 use Rattle.pp_lives.specs.Sending.{with_datagram}
 use Rattle.pp_lives.specs.declared.lives.Far.{Far}
@@ -59,7 +58,7 @@ use Rattle.pp_draft.specs.declared.chunk.Delivery.{Delivery}
 use Rattle.pp_draft.specs.declared.chunk.Unread.{Unread}
 use Rattle.pp_desk.specs.Chunks.{IsLetGo, FollowsChunk}
 use Rattle.pp_desk.specs.Stored.{CanRead, Reads}
-use Rattle.pp_seat.specs.Lines.{Tale, with_line, with_said}
+use Rattle.pp_seat.specs.Lines.{Tale, with_said}
 use Rattle.pp_seat.specs.Seats.{SeatState}
 use Rattle.pp_seat.specs.Follows.{Frame, Lost, Follows, Stays, Says, GivesUp, Always, AreUnannounced, IsNext}
 use Rattle.pp_seat.specs.Frames.{since_of, tale_of, IsSameTale}
@@ -316,10 +315,13 @@ sends_chunk p q k store book far before after i nodes bytes datagram link later 
   where
     m : ℕ
     m = moment_of left.history
+
     f : IsFar (channel_at p.table k) far
     f = far_is (channel_at p.table k) far may.is_far
+
     can : MaySend p k f.channel before i
     can = may_send p k far before i f may
+
     chunk : IsChunk p.descriptor book f.channel before i p.moment nodes bytes datagram
     chunk = record {
       written = subst (λ (y : Far). IsDatagram p.descriptor y.number (delivery book nodes i p.moment bytes) datagram) f.is written;
@@ -470,17 +472,25 @@ pub refused_so : (p q : SeatsState) (k : ℕ) (store : StoreState) (x : Delivery
     → q ≡ record p { seats = set p.seats k after }
     → (i : ℕ) × (bytes : List ℕ) × Refuses link later × Reads store (entry x.book.now) i (Ok tt) bytes disk left × GivesUpChunk k store i p q
 refused_so p q k store x before after link later disk left true e l h is = absurd cc
-refused_so p q k store x before after link later disk left false e l h is =
-    (x.chunk, h.bytes, record { traffic = h.goes.0.outcome.0; risen = h.goes.0.outcome.1; nexts = h.goes.0.nexts; bound = h.goes.0.bound }, h.given,
-      gives_up p q k store l.readied.far before after x.chunk l.readied.may l.committed h.goes.1.exact h.goes.1.fewer h.goes.1.given is)
+refused_so p q k store x before after link later disk left false e l h is = (
+  x.chunk,
+  h.bytes,
+  record { traffic = h.goes.0.outcome.0; risen = h.goes.0.outcome.1; nexts = h.goes.0.nexts; bound = h.goes.0.bound },
+  h.given,
+  gives_up p q k store l.readied.far before after x.chunk l.readied.may l.committed h.goes.1.exact h.goes.1.fewer h.goes.1.given is,
+)
 
 pub unread_so : (p q : SeatsState) (k : ℕ) (store : StoreState) (x : Delivery) (before after : SeatState) (link later : LinkState) (disk left : DiskState) (why : Unread) → Launch p k store x before
     → ((bytes : List ℕ) × Reads store (entry x.book.now) x.chunk (Err why) bytes disk left) × ((later ≡ link) × IsLetGo x before after)
     → q ≡ record p { seats = set p.seats k after }
     → (i : ℕ) × (bytes : List ℕ) × (later ≡ link) × Reads store (entry x.book.now) i (Err why) bytes disk left × GivesUpChunk k store i p q
-unread_so p q k store x before after link later disk left why l h is =
-    (x.chunk, h.0.0, h.1.0, h.0.1,
-      gives_up p q k store l.readied.far before after x.chunk l.readied.may l.committed h.1.1.exact h.1.1.fewer h.1.1.given is)
+unread_so p q k store x before after link later disk left why l h is = (
+  x.chunk,
+  h.0.0,
+  h.1.0,
+  h.0.1,
+  gives_up p q k store l.readied.far before after x.chunk l.readied.may l.committed h.1.1.exact h.1.1.fewer h.1.1.given is,
+)
 
 -- ---- the delivery of a launch
 
@@ -506,7 +516,7 @@ launch_of p k store x items known before chunks r has_known has_before room can 
           (subst (λ (ns : List Node). AllByRecursion (IsInBook p.descriptor (entry x.book.now)) ns) (sym planned)
           (path_given p.descriptor store (entry x.book.now) (knows known.told) x.chunk chunks is some most can committed r.content));
       whole = subst (λ (ns : List declared.Node). (f : Frame) (lost : Lost) (t : Tale) (brought : Node → Bool) → Follows f lost before t → list_all brought (map node_of ns) ≡ true
-      → completes f.chunks brought (is_told f.chunks t.story) x.chunk ≡ true) (sym nodes)
+          → completes f.chunks brought (is_told f.chunks t.story) x.chunk ≡ true) (sym nodes)
           (subst (λ (o : SeatState). (f : Frame) (lost : Lost) (t : Tale) (brought : Node → Bool) → Follows f lost o t → list_all brought (map node_of items) ≡ true
           → completes f.chunks brought (is_told f.chunks t.story) x.chunk ≡ true) same whole);
     }

@@ -1,10 +1,9 @@
 -- All seats look up.
-use Rattle.std.proofs.Common.{◌≡◌, ℕ, true, List, ◌∷◌, map, refl, sym, ◌∙◌, ap, subst}
-use Rattle.pp_terms.specs.format.Traffic.{Record, Received, Quiet, Sent}
-use Rattle.pp_traffic.specs.Past.{now, is_event}
+use Rattle.std.proofs.Common.{ℕ, List, ◌∷◌, map, refl, sym, subst}
+use Rattle.pp_terms.specs.format.Traffic.{Record}
+use Rattle.pp_traffic.specs.Past.{now}
 use Rattle.pp_traffic.specs.Meter.{ended}
 use Rattle.pp_traffic.specs.Life.{Life}
-use Rattle.pp_promises.specs.LastTurn.{earlier}
 use Rattle.pp_seat.specs.Seats.{SeatState}
 use Rattle.pp_seat.proofs.Hearing.{taken_goes}
 use Rattle.pp_seats.specs.Standing.{SeatsState, Setting, at_seat, IsFollowed, StandsFor}

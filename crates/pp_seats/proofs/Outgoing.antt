@@ -1,5 +1,5 @@
 -- What was sent on one channel, and what becomes of all seats with it.
-use Rattle.std.proofs.Common.{◌≡◌, ◌≢◌, ◌⊎◌, ⊎_elim, inl, inr, ℕ, suc, ◌+◌, ◌<◌, ◌≤◌, eqb, leb, Bool, true, false, cond, not, ◌&&◌, ◌||◌, Option, Some, None, List, [], ◌∷◌, ◌++◌, map, length, refl, sym, ◌∙◌, ap, subst, arith, append_assoc}
+use Rattle.std.proofs.Common.{◌≡◌, ◌≢◌, ◌⊎◌, ⊎_elim, inl, inr, ℕ, ◌+◌, ◌<◌, ◌≤◌, eqb, Bool, true, false, cond, ◌&&◌, ◌||◌, Option, Some, None, List, [], ◌∷◌, ◌++◌, map, length, refl, sym, ◌∙◌, ap, subst, arith, append_assoc}
 use Rattle.std.specs.List.{slice_get, AllByRecursion, list_any}
 use Rattle.std.proofs.Math.ListN.{set}
 use Rattle.std.proofs.lemmas.Bool.{cases_Bool, both_ways, eqb-true, eqb-false, eq-eqb, ne_eqb, false_from_ne_true, or_cases, or_right, and_right}
@@ -25,8 +25,8 @@ use Rattle.pp_lives.specs.Reading.{is_waiting, is_proven}
 use Rattle.pp_lives.specs.Fars.{far_of}
 use Rattle.pp_lives.specs.Sending.{with_datagram}
 use Rattle.pp_lives.specs.declared.lives.Far.{Far}
-use Rattle.pp_lives.specs.Standing.{StandsAt, once_known, read_of, read_at, Seated, Standing, AllBegun}
-use Rattle.pp_lives.specs.Calls.{Changes, Steady, Says}
+use Rattle.pp_lives.specs.Standing.{read_at, Standing}
+use Rattle.pp_lives.specs.Calls.{Changes, Steady}
 use Rattle.pp_lives.proofs.Own.{stands_of, told_is}
 use Rattle.pp_lives.proofs.Staying.{began}
 use Rattle.pp_lives.proofs.Telling.{since_same, read_sent}
@@ -40,24 +40,24 @@ use Rattle.pp_draft.specs.declared.note.Note.{Note}
 use Rattle.pp_draft.specs.declared.note.Note.TheVariants.{KeepAlive, Handshake, Close, Choke, Unchoke, Ack, Have, Request, Cancel, PexReq, Pex4, Pex6}
 use Rattle.pp_draft.specs.Notes as notes
 use Rattle.pp_desk.specs.declared.steps.Delivered.{Delivered}
-use Rattle.pp_desk.specs.Delivers.{Way, Batch, At, DeliversOne, DeliversEach, notes_of, none_delivered}
+use Rattle.pp_desk.specs.Delivers.{Way, Batch, At, DeliversEach, notes_of, none_delivered}
 use Rattle.pp_desk.specs.Laws.{records_of, said_by, set_back, backs_of, IsOn}
 use Rattle.pp_desk.specs.Steps as steps
 use Rattle.pp_desk.proofs.Splits.{names_split}
 use Rattle.pp_desk.proofs.Following.{seat_follows, each_counts, records_are_read}
 use Rattle.pp_desk.proofs.Tales.{tale_grows}
-use Rattle.pp_seat.specs.Lines.{Tale, with_line, with_said}
+use Rattle.pp_seat.specs.Lines.{with_said}
 use Rattle.pp_seat.specs.Seats.{SeatState}
 use Rattle.pp_seat.specs.Follows.{Frame, Lost, Follows}
 use Rattle.pp_seat.specs.Frames.{since_of, tale_of, IsSameTale}
 use Rattle.pp_seat.specs.Laws.{IsLater, with_since}
 use Rattle.pp_seat.specs.Awaited.{AreAwaited}
-use Rattle.pp_seat.proofs.Framing.{same_tales, tales_grow, frames_grow, read_longer, since_none, said_story}
+use Rattle.pp_seat.proofs.Framing.{same_tales, tales_grow, frames_grow, read_longer, said_story}
 use Rattle.pp_seat.proofs.Passing.{announced_stays, known_stays}
 use Rattle.pp_promises.specs.Announced.{is_told_of}
 use Rattle.pp_seats.proofs.Tellings.{told_or_back, said_is_told}
-use Rattle.pp_seats.specs.Standing.{SeatsState, Setting, SeatSetting, at_seat, frame_in, IsFollowed, EachKnown, StandsFor}
-use Rattle.pp_seats.specs.Sending.{HoldsAnnounced, Announces, tells_note, with_told, PassesOne, PassesAll, requested, AsksFirst, FitAll, MaySay, with_sent}
+use Rattle.pp_seats.specs.Standing.{SeatsState, Setting, SeatSetting, at_seat, frame_in, IsFollowed, StandsFor}
+use Rattle.pp_seats.specs.Sending.{HoldsAnnounced, Announces, tells_note, with_told, PassesOne, PassesAll, MaySay, with_sent}
 use Rattle.pp_seats.proofs.Lists.{get_set_there, get_set_other}
 use Rattle.pp_seats.proofs.Waits.{delivery_keeps}
 
@@ -135,7 +135,6 @@ later_twice place more a b c le one two i = by (one i) (two i)
     by (inl p) (inr q) = inr (sym p ∙ q.0, q.1, q.2, (let low = q.3 in omega (arith, low, le)))
     by (inr p) (inr q) = absurd (let none = sym p.2 ∙ q.0 in cc)
 
-
 -- ---- what notes announce
 
 says_either : (i : ℕ) (ms more : List Message) → announces i (ms ++ more) ≡ (announces i ms || announces i more)
@@ -145,6 +144,7 @@ says_either i (m ∷ ms) more = by m (says_either i ms more)
     either : (a b c : Bool) (rest : Bool) → rest ≡ (b || c) → (a || rest) ≡ ((a || b) || c)
     either true b c rest e = refl
     either false b c rest e = e
+
     by : (m : Message) → announces i (ms ++ more) ≡ (announces i ms || announces i more) → announces i (m ∷ ms ++ more) ≡ (announces i (m ∷ ms) || announces i more)
     by (plain.Ack span delay) e = either (within span i) (announces i ms) (announces i more) (announces i (ms ++ more)) e
     by (plain.Have span) e = either (within span i) (announces i ms) (announces i more) (announces i (ms ++ more)) e
@@ -271,11 +271,12 @@ since_after x life w bs past = after_by (λ (xs : List Record).
     × (length (read_story x.d life past) ≤ length (read_story x.d life xs))) w bs past
     (λ i. inl refl, omega arith)
     (λ b before h.
-    let longer = read_longer x.d life (Sent w.moment w.receiver b.bytes) before in
-    (later_twice (length (read_story x.d life past)) (length (read_story x.d life (Sent w.moment w.receiver b.bytes ∷ before)))
-    (λ i. since_of x.d life x.is_found i past) (λ i. since_of x.d life x.is_found i before) (λ i. since_of x.d life x.is_found i (Sent w.moment w.receiver b.bytes ∷ before))
-    (let low = h.1 in omega (arith, low, longer)) h.0 (frames_grow x.d life x.is_found (Sent w.moment w.receiver b.bytes) before),
-    (let low = h.1 in omega (arith, low, longer))))
+    let longer = read_longer x.d life (Sent w.moment w.receiver b.bytes) before in (
+      later_twice (length (read_story x.d life past)) (length (read_story x.d life (Sent w.moment w.receiver b.bytes ∷ before)))
+          (λ i. since_of x.d life x.is_found i past) (λ i. since_of x.d life x.is_found i before) (λ i. since_of x.d life x.is_found i (Sent w.moment w.receiver b.bytes ∷ before))
+          (let low = h.1 in omega (arith, low, longer)) h.0 (frames_grow x.d life x.is_found (Sent w.moment w.receiver b.bytes) before),
+      (let low = h.1 in omega (arith, low, longer)),
+    ))
 
 heard_after : (d : Descriptor) (life : Life) (w : Way) (bs : List Batch) (past : List Record) → is_heard d life (After w bs past) ≡ is_heard d life past
 heard_after d life w bs past = after_by (λ (xs : List Record). is_heard d life xs ≡ is_heard d life past) w bs past refl
@@ -540,9 +541,11 @@ told_held x d c channel moment at k bs old new past held swarm each announces_he
     note_in i PexReq a e = absurd cc
     note_in i (Pex4 address port) a e = absurd cc
     note_in i (Pex6 address port) a e = absurd cc
+
     notes_in : (i : ℕ) (ns : List Note) → AllByRecursion (Announces held) ns → list_any (tells_note i) ns ≡ true → held i ≡ true
     notes_in i [] a e = absurd cc
     notes_in i (note ∷ ns) a e = ⊎_elim (λ here. note_in i note a.0 here) (λ behind. notes_in i ns a.1 behind) (or_cases (tells_note i note) (list_any (tells_note i) ns) e)
+
     by : (seat : ℕ) (b : Bool) (i : ℕ) → (let f : ℕ → Bool = cond b (λ j. x.known_of k j || list_any (tells_note j) (notes_of bs)) (x.known_of seat) in f i ≡ true) → held i ≡ true
     by seat true i e = ⊎_elim (λ was. holds.known k i was) (λ tells. notes_in i (notes_of bs) announces_held tells) (or_cases (x.known_of k i) (list_any (tells_note i) (notes_of bs)) e)
     by seat false i e = holds.known seat i e

@@ -1,6 +1,6 @@
 -- Notes that were delivered on a seat, in the words of its call.
-use Rattle.std.proofs.Common.{◌≡◌, ℕ, ◌+◌, ◌<◌, ◌≤◌, Bool, true, false, cond, not, Some, List, [], ◌∷◌, ◌++◌, length, drop, refl, sym, ◌∙◌, ap, subst, arith, take}
-use Rattle.std.specs.Prelude.{nat_lt, unwrap_or}
+use Rattle.std.proofs.Common.{◌≡◌, ℕ, ◌+◌, ◌<◌, ◌≤◌, Bool, true, false, cond, not, Some, List, [], ◌++◌, length, drop, refl, sym, ◌∙◌, ap, subst, take}
+use Rattle.std.specs.Prelude.{unwrap_or}
 use Rattle.std.specs.List.{slice_get, AllByRecursion}
 use Rattle.std.proofs.Math.ListN.{set}
 use Rattle.std.proofs.lemmas.Bool.{lt-ltb, le-ltb}
@@ -14,7 +14,7 @@ use Rattle.pp_draft.specs.declared.note.Note.{Note}
 use Rattle.pp_seat.specs.Seats.{SeatState}
 use Rattle.pp_desk.specs.declared.steps.Delivered.{Delivered}
 use Rattle.pp_desk.specs.Steps.{IsPlain}
-use Rattle.pp_desk.specs.Delivers.{At, none_delivered, DeliversEach, Delivers, notes_of}
+use Rattle.pp_desk.specs.Delivers.{At, none_delivered, DeliversEach, Delivers}
 use Rattle.pp_desk.specs.Laws.{records_of}
 use Rattle.pp_desk.proofs.Following.{link_carries}
 use Rattle.pp_seats.specs.Standing.{SeatsState, Setting, AllHold, StandsFor}
@@ -69,16 +69,18 @@ speaks p q k notes moment delivered link later far before after is_far begun has
   where
     from : At
     from = record { seat = before; link = link; so_far = none_delivered }
+
     to : At
     to = record { seat = after; link = later; so_far = delivered }
+
     by : (x : Setting) (most : ℕ) (past : List Record) (held : ℕ → Bool)
         → Stands k p before notes (most + delivered.refused) (record p { table = with_sent p.table k delivered.sent p.moment; seats = set p.seats k after })
         (records_of (way_of p far moment) delivers.batches) (record { d = p.descriptor; is_found = x.is_found; known_of = x.known_of }) most past held
     by x most past held h holds may =
         let f = far_is (channel_at p.table k) far is_far in
         subst (λ (y : Far). DeliversEach (way_of p y moment) delivers.batches from to
-            → StandsFor (with_told k notes (record { d = p.descriptor; is_found = x.is_found; known_of = x.known_of })) (most + delivered.refused)
-            (record p { table = with_sent p.table k delivered.sent p.moment; seats = set p.seats k after }) (records_of (way_of p y moment) delivers.batches ++ past))
+        → StandsFor (with_told k notes (record { d = p.descriptor; is_found = x.is_found; known_of = x.known_of })) (most + delivered.refused)
+        (record p { table = with_sent p.table k delivered.sent p.moment; seats = set p.seats k after }) (records_of (way_of p y moment) delivers.batches ++ past))
         (sym f.is)
         (λ each. subst (λ (ns : List Note). StandsFor (with_told k ns (record { d = p.descriptor; is_found = x.is_found; known_of = x.known_of })) (most + delivered.refused)
         (record p { table = with_sent p.table k delivered.sent p.moment; seats = set p.seats k after }) (After (W p.descriptor f.channel (unwrap_or f.channel.remote 0) moment p.moment) delivers.batches past)) delivers.each_once

@@ -1,29 +1,25 @@
 -- What a record makes of one seat, and what looking up makes of it then.
-use Rattle.std.proofs.Common.{◌≡◌, inl, inr, ℕ, ◌+◌, ◌<◌, ◌≤◌, max, leb, Bool, true, false, cond, not, ◌&&◌, ◌||◌, Option, Some, List, [], ◌∷◌, ◌++◌, length, drop, refl, sym, ◌∙◌, ap, subst, arith}
-use Rattle.std.proofs.lemmas.Bool.{and_from, and_right, or_left, or_right, cond-true, cond-false, le-leb}
+use Rattle.std.proofs.Common.{◌≡◌, inl, ℕ, ◌<◌, ◌≤◌, leb, Bool, true, false, cond, not, ◌&&◌, List, [], ◌∷◌, length, drop, refl, sym, ◌∙◌, ap, subst, arith}
+use Rattle.std.proofs.lemmas.Bool.{and_from, or_left, cond-true, le-leb}
 use Rattle.pp_terms.specs.format.Traffic.{Record, Received, Quiet, Sent}
 use Rattle.pp_terms.specs.format.Traffic as traffic
 use Rattle.pp_terms.specs.format.Descriptor.{Descriptor, chunks_of}
 use Rattle.pp_terms.specs.format.Messages.{Message}
 use Rattle.pp_traffic.specs.Past.{now, read, some_since, is_event}
 use Rattle.pp_traffic.specs.Life.{Life, greets, comes_on}
-use Rattle.pp_traffic.specs.Story.{Line, Taken, hear, heard_in}
+use Rattle.pp_traffic.specs.Story.{Line, Taken, heard_in}
 use Rattle.pp_traffic.specs.Asking.{is_heard}
 use Rattle.pp_traffic.proofs.Plains.{none_from_end}
-use Rattle.pp_promises.specs.LastTurn.{earlier}
 use Rattle.pp_promises.specs.ReadStory.{is_read, read_story}
-use Rattle.pp_promises.proofs.ReadStories.{unread_before}
-use Rattle.pp_lives.specs.Reading.{is_blank}
 use Rattle.pp_lives.specs.Arrived.{IsOpenedBy, IsRepliedBy}
 use Rattle.pp_lives.proofs.Telling.{since_same}
 use Rattle.pp_seat.specs.Lines.{Tale, with_line}
 use Rattle.pp_seat.specs.Seats.{SeatState}
-use Rattle.pp_seat.specs.Follows.{Frame, Lost, Follows, Goes, Always, none_lost, proved}
+use Rattle.pp_seat.specs.Follows.{Follows, Goes, Always, none_lost, proved}
 use Rattle.pp_seat.specs.Frames.{since_of, tale_of, no_tale, IsSameTale, with_heard}
-use Rattle.pp_seat.specs.Laws.{with_since}
 use Rattle.pp_seat.specs.Awaited.{AreAwaited}
 use Rattle.pp_seat.proofs.Awaited.{lines_keep_awaited, none_awaited}
-use Rattle.pp_seat.proofs.Framing.{same_tales, tales_grow, none_begins, frames_grow, read_longer, heard_story}
+use Rattle.pp_seat.proofs.Framing.{same_tales, tales_grow, none_begins, frames_grow, heard_story}
 use Rattle.pp_seat.proofs.Passing.{announced_stays}
 use Rattle.pp_seats.specs.Standing.{SeatSetting, frame_in, IsFollowed}
 use Rattle.pp_seats.specs.Hearing.{HearsAll, Begins, IsShown, BeginsShown, with_proven, IsReady}

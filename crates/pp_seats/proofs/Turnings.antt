@@ -1,5 +1,5 @@
 -- One seat changes with no message, or the setting does.
-use Rattle.std.proofs.Common.{◌≡◌, ⊎_elim, inl, ℕ, ◌+◌, ◌<◌, ◌≤◌, min, eqb, zero, suc, Bool, true, false, Option, Some, None, List, [], ◌∷◌, refl, sym, ◌∙◌, ap, subst, arith}
+use Rattle.std.proofs.Common.{◌≡◌, ⊎_elim, inl, ℕ, ◌+◌, ◌≤◌, min, eqb, zero, suc, true, Option, Some, None, List, [], ◌∷◌, refl, sym, ◌∙◌, ap, subst, arith}
 use Rattle.std.specs.Prelude.{MatchOption}
 use Rattle.std.specs.List.{slice_get}
 use Rattle.std.proofs.Math.ListN.{set}
@@ -8,7 +8,6 @@ use Rattle.std.proofs.lemmas.Option.{same_Some}
 use Rattle.pp_terms.specs.format.Traffic.{Record}
 use Rattle.pp_terms.specs.format.Descriptor.{chunks_of}
 use Rattle.pp_traffic.specs.Life.{Life}
-use Rattle.pp_traffic.specs.Past.{now}
 use Rattle.pp_traffic.specs.Story.{Line}
 use Rattle.pp_traffic.specs.Fates.{clock}
 use Rattle.pp_promises.specs.ReadStory.{read_story}

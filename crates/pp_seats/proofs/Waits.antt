@@ -1,12 +1,10 @@
 -- Which chunks a seat waits for, once notes were sent or refused.
-use Rattle.std.proofs.Common.{◌≡◌, ◌⊎◌, ⊎_elim, ℕ, ◌+◌, ◌-◌, ◌≤◌, Bool, true, false, cond, Option, Some, None, List, [], ◌∷◌, ◌++◌, map, length, refl, sym, ◌∙◌, ap, subst, arith, append_assoc}
+use Rattle.std.proofs.Common.{◌≡◌, ⊎_elim, ℕ, ◌+◌, Bool, true, false, cond, Some, List, [], ◌∷◌, ◌++◌, map, sym, ◌∙◌, ap, subst, arith}
 use Rattle.std.proofs.lemmas.Bool.{cases_Bool, both_ways, or_left, or_right, cond-false}
 use Rattle.pp_terms.specs.format.Descriptor.{Descriptor}
 use Rattle.pp_terms.specs.format.Messages as plain
 use Rattle.pp_terms.specs.format.Messages.{Message}
 use Rattle.pp_terms.specs.tree.Range.{Span, within, has}
-use Rattle.pp_traffic.specs.Story.{Line, say}
-use Rattle.pp_ranges.specs.Edits.{number_count}
 use Rattle.pp_requests.specs.declared.asking.Asking.{Asking}
 use Rattle.pp_requests.specs.Moments.{asked_at}
 use Rattle.pp_draft.specs.declared.note.Note.{Note}
@@ -17,10 +15,10 @@ use Rattle.pp_seat.specs.Own.{CanAsk, AsksAll}
 use Rattle.pp_seat.specs.Awaited.{AllPassSaid, AllKeepAwaited}
 use Rattle.pp_seat.proofs.Awaited.{lines_keep_awaited}
 use Rattle.pp_desk.specs.Steps.{IsAfter, AreAfter, Follow}
-use Rattle.pp_desk.specs.Delivers.{Way, Batch, At, DeliversOne, DeliversEach, notes_of}
+use Rattle.pp_desk.specs.Delivers.{Way, Batch, At, DeliversEach, notes_of}
 use Rattle.pp_desk.specs.Laws.{said_by}
 use Rattle.pp_desk.proofs.Splits.{names_split}
-use Rattle.pp_seats.specs.Sending.{requested, AsksFirst, AreApart, AreFit, FitAll}
+use Rattle.pp_seats.specs.Sending.{requested, AsksFirst, FitAll}
 
 -- ---- what may be asked for
 
@@ -99,8 +97,10 @@ moved_own false end old mid h = ap (λ (s : SeatState). s.own) h
 one_note : (d : Descriptor) (now : ℕ) (back : Bool) (note : Note) (notes : List Note) (ms : List Message) (old mid : SeatState) → IsAfter now back note old mid → Says d note ms
     → AsksFirst (note ∷ notes) → FitAll (requested (note ∷ notes)) old.own → Keeps now ms notes old.own mid.own
 one_note d now back KeepAlive notes ms old mid h s a f =
-    record { keeps = subst (λ (xs : List Message). AllKeepAwaited now xs old.own mid.own) (sym s) (passes now [] old.own mid.own (ap (λ (o : SeatState). o.own) h) tt);
-      rest = (a, subst (λ (o : SeatState). FitAll (requested notes) o.own) (sym h) f) }
+    record {
+      keeps = subst (λ (xs : List Message). AllKeepAwaited now xs old.own mid.own) (sym s) (passes now [] old.own mid.own (ap (λ (o : SeatState). o.own) h) tt);
+      rest = (a, subst (λ (o : SeatState). FitAll (requested notes) o.own) (sym h) f);
+    }
 one_note d now back (Handshake source) notes ms old mid h s a f =
     record { keeps = passes_one now _ ms old.own mid.own (ap (λ (o : SeatState). o.own) h) s (tt, tt); rest = (a, subst (λ (o : SeatState). FitAll (requested notes) o.own) (sym h) f) }
 one_note d now back Close notes ms old mid h s a f =

@@ -2,7 +2,6 @@
 use Rattle.std.specs.Prelude.{◌≡◌, ◌⊎◌, ℕ, Bool, true, false, cond, Option, Some, None, position, List, [], ◌∷◌, ◌++◌}
 use Rattle.std.specs.List.{list_any}
 use Rattle.pp_terms.specs.format.Traffic.{Record, Sent, LinkState}
-use Rattle.pp_terms.specs.format.Descriptor.{Descriptor}
 use Rattle.pp_terms.specs.format.Messages.{Handshake}
 use Rattle.pp_outside.specs.Outside.{address_of}
 use Rattle.pp_outside.specs.declared.link.Address.{Address}

@@ -1,5 +1,5 @@
 -- What becomes of the seats while the messages of a datagram are heard, one by one, until the peer looks up.
-use Rattle.std.specs.Prelude.{◌≡◌, ℕ, ◌≤◌, Bool, true, false, cond, Option, None, Some, is_some, List, [], ◌∷◌, ◌++◌, length, drop, slice_get, slice_set}
+use Rattle.std.specs.Prelude.{◌≡◌, ℕ, ◌≤◌, Bool, true, false, cond, Option, None, Some, is_some, List, ◌∷◌, length, drop, slice_get, slice_set}
 use Rattle.pp_terms.specs.format.Traffic.{Record}
 use Rattle.pp_terms.specs.format.Descriptor.{Descriptor, chunks_of}
 use Rattle.pp_terms.specs.format.Messages.{Message}

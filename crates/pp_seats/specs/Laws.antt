@@ -1,10 +1,9 @@
 -- What is heard message by message, and where seats begin.
-use Rattle.std.specs.Prelude.{◌≡◌, ℕ, ◌<◌, ◌≤◌, Bool, true, Some, None, List, [], ◌∷◌, ◌++◌, replicate, slice_get}
+use Rattle.std.specs.Prelude.{◌≡◌, ℕ, ◌<◌, Bool, true, Some, None, List, [], ◌++◌, replicate, slice_get}
 use Rattle.rand_chacha.specs.ChaCha.{ChaCha}
 use Rattle.pp_terms.specs.format.Messages.{Message}
 use Rattle.pp_terms.specs.format.Traffic.{Record}
 use Rattle.pp_seat.specs.Seats.{SeatState}
-use Rattle.pp_seat.specs.Follows.{Stays, Always}
 use Rattle.pp_seats.specs.Standing.{SeatsState, Setting, StandsFor}
 use Rattle.pp_seats.specs.Hearing.{HearsAll}
 

@@ -2,7 +2,6 @@
 use Rattle.std.specs.Prelude.{◌≡◌, ℕ, ◌+◌, ◌<◌, ◌≤◌, nat_lt, Bool, true, false, Option, Some, None, List, [], ◌∷◌, ◌++◌, length, slice_get, slice_set, if◌then◌else◌, ◌==◌, ◌||◌}
 use Rattle.std.specs.List.{AllByRecursion, list_any}
 use Rattle.pp_terms.specs.format.Traffic.{Record, LinkState, GainsRecords}
-use Rattle.pp_terms.specs.format.Descriptor.{chunks_of}
 use Rattle.pp_terms.specs.tree.Range.{Span, within, has}
 use Rattle.pp_ranges.specs.Edits.{number_count}
 use Rattle.pp_requests.specs.declared.asking.Asking.{Asking}
@@ -18,7 +17,7 @@ use Rattle.pp_draft.specs.declared.note.Note.TheVariants.{Ack, Have, Request, Ca
 use Rattle.pp_seat.specs.Seats.{SeatState}
 use Rattle.pp_desk.specs.declared.steps.Delivered.{Delivered}
 use Rattle.pp_desk.specs.Steps.{cursor_behind}
-use Rattle.pp_desk.specs.Delivers.{Way, At, none_delivered, Delivers}
+use Rattle.pp_desk.specs.Delivers.{Way, none_delivered, Delivers}
 use Rattle.pp_desk.specs.Laws.{records_of}
 use Rattle.pp_seats.specs.Standing.{SeatsState, Setting, StandsFor}
 

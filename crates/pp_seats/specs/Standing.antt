@@ -1,10 +1,9 @@
 -- What the seats of a peer keep is what the link carried says.
-use Rattle.std.specs.Prelude.{◌≡◌, ℕ, ◌<◌, ◌≤◌, Bool, true, false, Option, Some, List, length, slice_get}
+use Rattle.std.specs.Prelude.{◌≡◌, ℕ, ◌≤◌, Bool, true, false, Option, Some, List, slice_get}
 use Rattle.pp_terms.specs.format.Traffic.{Record}
 use Rattle.pp_terms.specs.format.Descriptor.{Descriptor, chunks_of}
 use Rattle.pp_traffic.specs.Past.{now, some_since, is_event}
 use Rattle.pp_traffic.specs.Life.{Life}
-use Rattle.pp_traffic.specs.Asking.{is_heard}
 use Rattle.pp_promises.specs.ReadStory.{read_story}
 use Rattle.pp_channels.specs.Seats.{Seats, channel_at}
 use Rattle.pp_channels.specs.declared.channel.Channel.{Channel}

@@ -1,5 +1,5 @@
 -- What becomes of one seat, or of the setting, with no message.
-use Rattle.std.specs.Prelude.{◌≡◌, ℕ, ◌+◌, ◌<◌, min, Bool, true, false, Option, Some, None, List, slice_get, slice_set}
+use Rattle.std.specs.Prelude.{◌≡◌, ℕ, ◌+◌, min, true, false, Some, None, List, slice_get, slice_set}
 use Rattle.pp_terms.specs.format.Traffic.{Record}
 use Rattle.pp_requests.specs.Moments.{Changes, IsLeastExpired, NoneExpired}
 use Rattle.pp_seat.specs.Seats.{SeatState}

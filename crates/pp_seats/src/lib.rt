@@ -8,9 +8,9 @@ mod greeting;
 mod seats;
 mod sending;
 mod serving;
-mod turning;
 #[cfg(test)]
 mod tests;
+mod turning;
 
 pub use seats::Seats;
 pub use serving::Served;

@@ -25,6 +25,7 @@ use std::marker::Model;
 
 // How many seats there are, and bytes of a datagram at most.
 const SEATS: usize = 64;
+
 const MOST: usize = 16_384;
 
 /// The channels to other peers, each at one of 64 seats, numbered from 0, and what is kept of the messages of each.
@@ -146,7 +147,9 @@ impl Seats {
         ensures behind { IsBehind self.old.descriptor bytes.now result }
     {
         self.moment = at.max(self.moment);
-        let arrival = self.lives.arrive(&self.descriptor, from, bytes, self.moment);
+        let arrival = self
+            .lives
+            .arrive(&self.descriptor, from, bytes, self.moment);
         self.make(arrival, slot);
         arrival
     }

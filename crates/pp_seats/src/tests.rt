@@ -29,12 +29,7 @@ const ROOT: [u8; 32] = [
 ];
 
 fn swarm() -> Result<Descriptor, Fail> {
-    Ok(Descriptor::new(
-        Digest::new(ROOT),
-        1024,
-        3,
-        Method::Range32,
-    )?)
+    Ok(Descriptor::new(Digest::new(ROOT), 1024, 3, Method::Range32)?)
 }
 
 // A handshake for a channel and from one, with the swarm's options.
@@ -211,7 +206,9 @@ fn a_chunk_that_is_asked_for_is_sent_once(rt: HostRuntime) -> Result<(), Fail> {
     assert_eq!(rt; bytes[13..45], ROOT[..]);
     assert_eq!(rt;
         bytes[45..],
-        [1, 0, 0, 0, 0, 0, 0, 0, 0, 0, 0, 0, 0, 0, 0, 0, 6, b'a', b'b', b'c'][..]
+        [
+            1, 0, 0, 0, 0, 0, 0, 0, 0, 0, 0, 0, 0, 0, 0, 0, 6, b'a', b'b', b'c'
+        ][..]
     );
     Ok(())
 }

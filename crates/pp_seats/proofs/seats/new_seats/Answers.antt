@@ -6,9 +6,8 @@ use Rattle.pp_seats.proofs.seats.new_seats.Goals as goal
 
 pub loop-preserved : goal.loop-preserved
 loop-preserved c =
-    let is = c.in_ok-push.ensures.items in
-    (
+    let is = c.in_ok-push.ensures.items in (
       ap (λ (xs : List SeatState). length xs) is ∙ omega (arith, push_length c.loop.seats.items c.in_ok-new.field-0, c.loop.invariant.0),
       subst (λ (xs : List SeatState). AllHold c.args.chunks xs) (sym is)
-      (push_holds c.args.chunks c.loop.seats.items c.in_ok-new.field-0 c.loop.invariant.1 c.in_ok-new.ensures.chunks),
+          (push_holds c.args.chunks c.loop.seats.items c.in_ok-new.field-0 c.loop.invariant.1 c.in_ok-new.ensures.chunks),
     )

@@ -1,4 +1,4 @@
-use Rattle.std.proofs.Common.{List, sym, subst}
+use Rattle.std.proofs.Common.{sym, subst}
 use Rattle.pp_seats.specs.Standing.{SeatsState, StandsFor}
 use Rattle.pp_seats.proofs.Comings.{arrived_at}
 use Rattle.pp_seats.proofs.seats.Seats.arrive.Goals as goal

@@ -1,9 +1,8 @@
-use Rattle.std.proofs.Common.{ℕ, true, sym, ap, ◌∙◌}
+use Rattle.std.proofs.Common.{true, sym, ap, ◌∙◌}
 use Rattle.std.specs.Prelude.{option_map}
 use Rattle.pp_channels.specs.Seats.{Seats, channel_at, closed, dialled, with_channel}
 use Rattle.pp_channels.specs.declared.channel.Channel.{Channel}
 use Rattle.pp_lives.specs.Sending.{with_datagram}
-use Rattle.pp_seats.specs.Standing.{SeatsState}
 use Rattle.pp_seats.proofs.Handshakes.{dials, dial_table, dial_dropped}
 use Rattle.pp_seats.proofs.seats.Seats.dial.Goals as goal
 

@@ -1,7 +1,5 @@
-use Rattle.std.proofs.Common.{None, List, refl, sym, ap, ◌∙◌, subst}
-use Rattle.std.specs.Prelude.{MatchOption}
+use Rattle.std.proofs.Common.{sym, ap, ◌∙◌}
 use Rattle.pp_channels.specs.Seats.{Seats}
-use Rattle.pp_seats.specs.Standing.{SeatsState, Setting, StandsFor}
 use Rattle.pp_seats.proofs.Handshakes.{ends, ends_none}
 use Rattle.pp_seats.proofs.seats.Seats.expire.Goals as goal
 

@@ -8,8 +8,7 @@ use Rattle.pp_seats.proofs.seats.Seats.give_up_request.Goals as goal
 pub invariant_of-self : goal.invariant_of-self
 invariant_of-self c =
     let items = c.self.inside.seats.items in
-    let there = got items c.args.seat c.index_mut.result.now (omega (arith, c.self.invariant.0, c.requires)) ∙ ap (λ (s : SeatState). Some s) (sym c.index_mut.ensures.value) in
-    (
+    let there = got items c.args.seat c.index_mut.result.now (omega (arith, c.self.invariant.0, c.requires)) ∙ ap (λ (s : SeatState). Some s) (sym c.index_mut.ensures.value) in (
       set_length items c.args.seat c.expired.new.self ∙ c.self.invariant.0,
       set_holds (chunks_of c.self.inside.descriptor) items c.args.seat c.index_mut.result.now c.expired.new.self c.self.invariant.1 there
           (given_room c.expired.result c.index_mut.result.now c.expired.new.self c.expired.ensures.taken),

@@ -1,6 +1,5 @@
 use Rattle.std.proofs.Common.{sym, ap, ◌∙◌}
 use Rattle.pp_channels.specs.Seats.{Seats}
-use Rattle.pp_seats.specs.Standing.{SeatsState}
 use Rattle.pp_seats.proofs.Handshakes.{greets_so}
 use Rattle.pp_seats.proofs.seats.Seats.greet.Goals as goal
 

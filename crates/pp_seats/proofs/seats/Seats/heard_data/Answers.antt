@@ -10,6 +10,8 @@ returns c = rw (← c.self.view_is) (record {
   after = c.heard_data.new.self;
   there = got c.self.inside.seats.items c.args.seat c.index_mut.result.now (omega (arith, c.self.invariant, c.requires)) ∙ ap (λ (s : SeatState). Some s) (sym c.index_mut.ensures.value);
   is = refl;
-  changes = (record { waited = c.heard_data.ensures.was; rest = c.heard_data.ensures.rest; taken = c.heard_data.ensures.taken },
-    λ sent_at bytes. hears_one _ _ c.index_mut.result.now c.heard_data.new.self (c.heard_data.ensures.goes _ sent_at bytes) (c.heard_data.ensures.awaits _ sent_at bytes));
+  changes = (
+    record { waited = c.heard_data.ensures.was; rest = c.heard_data.ensures.rest; taken = c.heard_data.ensures.taken },
+    λ sent_at bytes. hears_one _ _ c.index_mut.result.now c.heard_data.new.self (c.heard_data.ensures.goes _ sent_at bytes) (c.heard_data.ensures.awaits _ sent_at bytes),
+  );
 })

@@ -1,7 +1,6 @@
-use Rattle.std.proofs.Common.{◌≡◌, ℕ, Some, List, map, length, refl, sym, ap, ◌∙◌, subst, arith}
-use Rattle.pp_terms.specs.format.Descriptor.{Descriptor, chunks_of}
+use Rattle.std.proofs.Common.{ℕ, Some, List, length, refl, sym, ap, ◌∙◌, subst, arith}
+use Rattle.pp_terms.specs.format.Descriptor.{chunks_of}
 use Rattle.pp_tree.specs.Book.{entry}
-use Rattle.pp_lives.specs.Sending.{with_datagram}
 use Rattle.pp_channels.specs.Seats.{Seats}
 use Rattle.std.proofs.Math.ListN.{set}
 use Rattle.pp_seat.specs.Seats.{SeatState}

@@ -1,4 +1,3 @@
-use Rattle.std.proofs.Common.{ap, sym, ◌∙◌}
 use Rattle.pp_seats.proofs.Comings.{begun_shown}
 use Rattle.pp_seats.proofs.seats.Seats.make.Goals as goal
 

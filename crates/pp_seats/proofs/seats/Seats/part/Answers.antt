@@ -1,6 +1,5 @@
 use Rattle.std.proofs.Common.{sym, ap, ◌∙◌}
 use Rattle.pp_channels.specs.Seats.{Seats}
-use Rattle.pp_seats.specs.Standing.{SeatsState}
 use Rattle.pp_seats.proofs.Speaking.{was_begun}
 use Rattle.pp_seats.proofs.Handshakes.{parts_so}
 use Rattle.pp_seats.proofs.seats.Seats.part.Goals as goal

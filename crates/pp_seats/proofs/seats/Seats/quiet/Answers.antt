@@ -1,4 +1,4 @@
-use Rattle.std.proofs.Common.{ℕ, List, sym, subst}
+use Rattle.std.proofs.Common.{ℕ, sym, subst}
 use Rattle.pp_terms.specs.format.Traffic.{Quiet}
 use Rattle.pp_seats.specs.Standing.{SeatsState, StandsFor}
 use Rattle.pp_seats.specs.Hearing.{Ready}

@@ -1,5 +1,5 @@
 use Rattle.std.proofs.Common.{◌≡◌, ℕ, ◌<◌, ◌≤◌, Bool, true, false, Some, List, length, refl, sym, ap, ◌∙◌, subst, arith}
-use Rattle.std.specs.Prelude.{MatchOption, slice_index_or, unwrap_or}
+use Rattle.std.specs.Prelude.{MatchOption, slice_index_or}
 use Rattle.pp_seat.specs.Seats.{SeatState}
 use Rattle.pp_seats.specs.Standing.{SeatsState}
 use Rattle.pp_seats.specs.Serving.{IsReadied}
@@ -19,10 +19,13 @@ returns-then-next-first g c =
     (omega (arith, r.content, c.chunks.ensures.chunks))
     (subst (λ (set : List Bool). MatchOption c.first_from-committed.result ((k : ℕ) → c.in-Some.next.chunk ≤ k → slice_index_or set k false ≡ false)
     (λ e. (c.in-Some.next.chunk ≤ e) × (e < length set) × (slice_index_or set e false ≡ true) × ((k : ℕ) → c.in-Some.next.chunk ≤ k → k < e → slice_index_or set k false ≡ false)))
-    c.committed.ensures c.first_from-committed.ensures)) in
-    (refl, refl, rw (← c.self.view_is) (passes_over p _ c.args.seat c.args.chunks.now.store.now r.far c.index_mut.result.now c.drop_below.new.self c.in-Some.next.chunk c.unwrap_or-first.result
-    r.may (ends.none c.in-Some.next.chunk (omega arith) c.if-next-first.true) c.if-next-first.true r.runs ends.none
-    c.drop_below.ensures.exact c.drop_below.ensures.passed refl))
+    c.committed.ensures c.first_from-committed.ensures)) in (
+      refl,
+      refl,
+      rw (← c.self.view_is) (passes_over p _ c.args.seat c.args.chunks.now.store.now r.far c.index_mut.result.now c.drop_below.new.self c.in-Some.next.chunk c.unwrap_or-first.result
+          r.may (ends.none c.in-Some.next.chunk (omega arith) c.if-next-first.true) c.if-next-first.true r.runs ends.none
+          c.drop_below.ensures.exact c.drop_below.ensures.passed refl),
+    )
 
 pub launch-requires-clause-committed : goal.launch-requires-clause-committed
 launch-requires-clause-committed g c =

@@ -1,4 +1,4 @@
-use Rattle.std.proofs.Common.{◌≡◌, refl, sym, ap, ◌∙◌, arith, Some, List, ℕ, length}
+use Rattle.std.proofs.Common.{sym, ap, ◌∙◌, arith, Some, List, ℕ, length}
 use Rattle.std.proofs.Math.ListN.{set}
 use Rattle.pp_terms.specs.format.Descriptor.{chunks_of}
 use Rattle.pp_channels.specs.Seats.{Seats}
