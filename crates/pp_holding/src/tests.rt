@@ -1,209 +1,228 @@
-//! A content of one chunk, and one of a hundred. What is wanted was worked out by hand.
+//! A content of a hundred chunks, and one of a single chunk. What is wanted was worked out by hand.
 use super::*;
 use pp_outside::{Call, MemoryDisk, MemorySource};
 use pp_paths::Claims;
-use pp_store::{Put, import};
-use pp_tree::{Book, Descriptor, Digest, Method, Node, peaks};
+use pp_store::import;
+use pp_tree::{Book, Descriptor, Node, peaks};
 use std::alloc::Global;
-use std::test::*;
+use std::test::Fail;
 
-// SHA-256 of `abc`.
-const ROOT: [u8; 32] = [
-    0xba, 0x78, 0x16, 0xbf, 0x8f, 0x01, 0xcf, 0xea, 0x41, 0x41, 0x40, 0xde, 0x5d, 0xae, 0x22, 0x23,
-    0xb0, 0x03, 0x61, 0xa3, 0x96, 0x17, 0x7a, 0x9c, 0xb4, 0x10, 0xff, 0x61, 0xf2, 0x00, 0x15, 0xad,
-];
-
-// A content of a hundred chunks of 256 bytes, and a holding of all of it.
-#[derive(Drop)]
-struct Swarm {
-    descriptor: Descriptor,
-    whole: Holding,
+// The tests need little of what these two calls do, and a longer context costs the prover minutes.
+fn opened(alloc: Global, descriptor: &Descriptor, disk: &mut MemoryDisk) -> Result<Holding, Fail> {
+    Ok(Holding::open(alloc, descriptor, disk)?)
 }
 
-// the bytes of chunk i
+fn imported(content: &[u8], disk: &mut MemoryDisk) -> Result<Descriptor, Fail> {
+    Ok(import(256, &mut MemorySource::new(content), disk)?)
+}
+
+// What each chunk has: the first byte is its number.
 fn bytes_of(i: u32) -> [u8; 256] {
     let mut bytes = [7u8; 256];
     bytes[0] = (i % 256) as u8;
     bytes
 }
 
-fn hundred_chunks(alloc: Global) -> Result<Swarm, Fail> {
-    let mut content = [7u8; 25_600];
-    for i in 0..100 {
-        content[256 * i] = i as u8;
+fn fill(content: &mut [u8]) {
+    for (at, byte) in content.iter_mut().enumerate() {
+        *byte = if at % 256 == 0 {
+            (at / 256 % 256) as u8
+        } else {
+            7
+        };
     }
-    let mut disk = MemoryDisk::new(alloc, &[])?;
-    let descriptor = import(256, &mut MemorySource::new(&content), &mut disk)?;
-    let whole = Holding::open(alloc, &descriptor, &mut disk)?;
-    Ok(Swarm { descriptor, whole })
 }
 
-fn claim(claims: &mut Claims, book: &Book, nodes: &[Node]) {
-    for node in nodes {
-        if let Some(digest) = book.get(*node) {
-            claims.add(*node, digest);
+// A content in chunks of 256 bytes, and a holding of all of it.
+#[derive(Drop)]
+struct Swarm {
+    descriptor: Descriptor,
+    whole: Holding,
+}
+
+impl Swarm {
+    fn of_size(alloc: Global, size: usize) -> Result<Swarm, Fail> {
+        let mut content = [0u8; 25_600];
+        fill(&mut content);
+        let size = size.min(content.len());
+        let mut disk = MemoryDisk::new(alloc, &[])?;
+        let descriptor = imported(&content[..size], &mut disk)?;
+        let whole = opened(alloc, &descriptor, &mut disk)?;
+        Ok(Swarm { descriptor, whole })
+    }
+
+    fn claim(&self, claims: &mut Claims, nodes: &[Node]) {
+        for node in nodes {
+            if let Some(digest) = self.whole.book().get(*node) {
+                claims.add(*node, digest);
+            }
         }
     }
-}
 
-// What proves a chunk: the peaks, and the siblings on its way.
-fn claims_of(alloc: Global, swarm: &Swarm, i: u32) -> Result<Claims, Fail> {
-    let mut claims = Claims::new(alloc)?;
-    claim(
-        &mut claims,
-        swarm.whole.book(),
-        &peaks(swarm.descriptor.chunks()),
-    );
-    for layer in 0..swarm.descriptor.height() {
-        let offset = (i >> layer) ^ 1;
-        claim(&mut claims, swarm.whole.book(), &[Node { layer, offset }]);
+    // What proves a chunk: the peaks, and the siblings on its way.
+    fn claims(&self, alloc: Global, i: u32) -> Result<Claims, Fail> {
+        let mut claims = Claims::new(alloc)?;
+        self.claim(&mut claims, &peaks(self.descriptor.chunks()));
+        for layer in 0..self.descriptor.height() {
+            let offset = (i >> layer) ^ 1;
+            self.claim(&mut claims, &[Node { layer, offset }]);
+        }
+        Ok(claims)
     }
-    Ok(claims)
 }
 
-// Puts bytes as a chunk at one moment; None where that was refused.
+// Puts bytes as a chunk at moment 10, where the content has that chunk.
 fn put(
     holding: &mut Holding,
     ticket: Ticket,
     bytes: &[u8],
     claims: &Claims,
     disk: &mut MemoryDisk,
-) -> Option<Put> {
-    if ticket.chunk >= holding.chunks() {
-        return None;
-    }
-    let parcel = Parcel {
-        ticket,
-        bytes,
-        at: 10,
-    };
-    holding.put(&parcel, claims, disk).ok()
+) -> bool {
+    let at = 10;
+    ticket.chunk < holding.chunks()
+        && holding
+            .put(&Parcel { ticket, bytes, at }, claims, disk)
+            .is_ok()
 }
 
-// Puts a chunk of the hundred, from the seat of its number's last digit.
+// Puts a chunk of a swarm, from the seat of its number's last digit.
 fn put_chunk(
     alloc: Global,
     swarm: &Swarm,
     i: u32,
     holding: &mut Holding,
     disk: &mut MemoryDisk,
-) -> Result<Option<Put>, Fail> {
+) -> Result<bool, Fail> {
+    if i >= swarm.descriptor.chunks() {
+        return Ok(false);
+    }
     let ticket = Ticket {
         chunk: i,
         seat: (i % 10) as u8,
         delay: u64::from(i) + 1000,
     };
-    let claims = claims_of(alloc, swarm, i)?;
-    Ok(put(holding, ticket, &bytes_of(i), &claims, disk))
+    let len = (swarm.descriptor.chunk_len(i) as usize).min(256);
+    let claims = swarm.claims(alloc, i)?;
+    Ok(put(holding, ticket, &bytes_of(i)[..len], &claims, disk))
 }
 
-// How many chunks are committed, pending and to be acknowledged.
-fn counts(holding: &Holding) -> (u32, u32, usize) {
-    (
+fn settle(holding: &mut Holding, is_quiet: bool, now: u64, disk: &mut MemoryDisk) -> bool {
+    holding.settle(is_quiet, now, disk).is_ok()
+}
+
+#[derive(Clone, Copy)]
+enum Step {
+    // these chunks
+    Put(u32, u32),
+    Settle(bool, u64),
+    Forget,
+    // The next sync is refused.
+    Refuse,
+}
+
+// Takes a step. How many chunks are committed, pending and to be acknowledged then.
+fn take(
+    alloc: Global,
+    swarm: &Swarm,
+    step: Step,
+    holding: &mut Holding,
+    disk: &mut MemoryDisk,
+) -> Result<(u32, u32, usize), Fail> {
+    match step {
+        Step::Put(first, last) => {
+            for i in first..last.min(1000) {
+                put_chunk(alloc, swarm, i, holding, disk)?;
+            }
+        }
+        Step::Settle(is_quiet, now) => {
+            settle(holding, is_quiet, now, disk);
+        }
+        Step::Forget => holding.forget_tickets(),
+        Step::Refuse => disk.fail_next(Call::Sync),
+    }
+    Ok((
         holding.committed().count(),
         holding.pending(),
         holding.tickets().len(),
-    )
+    ))
 }
 
-#[test]
-fn a_chunk_is_acknowledged_once_it_is_committed(rt: HostRuntime) -> Result<(), Fail> {
-    let Ok(descriptor) = Descriptor::new(Digest::new(ROOT), 1024, 3, Method::Range32) else {
-        assert!(rt; false);
-        return Ok(());
-    };
-    let first = Ticket {
-        chunk: 0,
-        seat: 5,
-        delay: 70,
-    };
-    let second = Ticket { seat: 6, ..first };
-    let none = Claims::new(rt.alloc())?;
-    let mut disk = MemoryDisk::new(rt.alloc(), &[])?;
-    let mut holding = Holding::open(rt.alloc(), &descriptor, &mut disk)?;
-    assert_eq!(rt; holding.left(), 1);
-    let stored = put(&mut holding, first, b"abc", &none, &mut disk);
-    assert_eq!(rt; (stored, holding.left()), (Some(Put::Stored), 0));
-    let pending = put(&mut holding, second, b"abc", &none, &mut disk);
-    assert_eq!(rt; (pending, counts(&holding)), (Some(Put::Held), (0, 1, 0)));
-    // No chunk is left.
-    assert!(rt; holding.settle(false, 10, &mut disk).is_ok());
-    assert_eq!(rt;
-        (counts(&holding), holding.tickets()[0]),
-        ((1, 0, 1), first)
-    );
-    let committed = put(&mut holding, second, b"abc", &none, &mut disk);
-    assert_eq!(rt; (committed, counts(&holding)), (Some(Put::Held), (1, 0, 2)));
-    assert_eq!(rt; holding.tickets()[1], second);
-    holding.forget_tickets();
-    assert_eq!(rt; counts(&holding), (1, 0, 0));
-    Ok(())
-}
-
-// Puts the first chunks, so many of them; whether all of them were stored.
-fn put_first(
-    alloc: Global,
-    swarm: &Swarm,
-    count: u32,
-    holding: &mut Holding,
-    disk: &mut MemoryDisk,
-) -> Result<bool, Fail> {
-    for i in 0..count {
-        if put_chunk(alloc, swarm, i, holding, disk)? != Some(Put::Stored) {
+// Takes steps from a new store on. Whether each came to what is wanted, and the tickets are then those of the first chunks.
+fn keeps_to(alloc: Global, size: usize, steps: &[(Step, (u32, u32, usize))]) -> Result<bool, Fail> {
+    let swarm = Swarm::of_size(alloc, size)?;
+    let mut disk = MemoryDisk::new(alloc, &[])?;
+    let mut holding = opened(alloc, &swarm.descriptor, &mut disk)?;
+    for (step, want) in steps {
+        if take(alloc, &swarm, *step, &mut holding, &mut disk)? != *want {
             return Ok(false);
         }
     }
-    Ok(true)
+    Ok(are_in_order(holding.tickets()))
+}
+
+// Whether tickets are those of the first chunks by rising number, each with its seat and delay.
+fn are_in_order(tickets: &[Ticket]) -> bool {
+    for (i, ticket) in tickets.iter().enumerate() {
+        if ticket.chunk as usize != i || ticket.seat as usize != i % 10 {
+            return false;
+        }
+        if ticket.delay != u64::from(ticket.chunk) + 1000 {
+            return false;
+        }
+    }
+    true
 }
 
 #[test]
 fn sixty_four_chunks_are_committed_at_once(rt: HostRuntime) -> Result<(), Fail> {
-    let alloc = rt.alloc();
-    let swarm = hundred_chunks(alloc)?;
-    let mut disk = MemoryDisk::new(alloc, &[])?;
-    let mut holding = Holding::open(alloc, &swarm.descriptor, &mut disk)?;
-    assert!(rt; put_first(alloc, &swarm, 63, &mut holding, &mut disk)?);
-    assert_eq!(rt; (counts(&holding), holding.left()), ((0, 63, 0), 37));
-    put_chunk(alloc, &swarm, 63, &mut holding, &mut disk)?;
-    assert_eq!(rt; counts(&holding), (64, 0, 64));
-    for (i, ticket) in holding.tickets().iter().enumerate() {
-        assert_eq!(rt; (ticket.chunk as usize, ticket.seat as usize), (i, i % 10));
-    }
-    put_chunk(alloc, &swarm, 64, &mut holding, &mut disk)?;
-    assert!(rt; holding.settle(false, 10, &mut disk).is_ok());
-    assert_eq!(rt; (counts(&holding), holding.left()), ((64, 1, 64), 35));
-    assert!(rt; holding.settle(true, 10, &mut disk).is_ok());
-    assert_eq!(rt; counts(&holding), (65, 0, 65));
+    let steps = [
+        (Step::Put(0, 63), (0, 63, 0)),
+        (Step::Put(63, 64), (64, 0, 64)),
+        (Step::Put(64, 65), (64, 1, 64)),
+        (Step::Settle(false, 10), (64, 1, 64)),
+        (Step::Settle(true, 10), (65, 0, 65)),
+    ];
+    assert!(rt; keeps_to(rt.alloc(), 25_600, &steps)?);
     Ok(())
 }
 
 #[test]
 fn a_chunk_is_pending_for_a_tenth_of_a_second_at_most(rt: HostRuntime) -> Result<(), Fail> {
-    let alloc = rt.alloc();
-    let swarm = hundred_chunks(alloc)?;
-    let mut disk = MemoryDisk::new(alloc, &[])?;
-    let mut holding = Holding::open(alloc, &swarm.descriptor, &mut disk)?;
-    put_chunk(alloc, &swarm, 3, &mut holding, &mut disk)?;
-    assert!(rt; holding.settle(false, 100_009, &mut disk).is_ok());
-    assert_eq!(rt; counts(&holding), (0, 1, 0));
-    assert!(rt; holding.settle(false, 100_010, &mut disk).is_ok());
-    assert_eq!(rt; counts(&holding), (1, 0, 1));
+    let steps = [
+        (Step::Put(3, 4), (0, 1, 0)),
+        // the same again, which is pending
+        (Step::Put(3, 4), (0, 1, 0)),
+        (Step::Settle(false, 100_009), (0, 1, 0)),
+        (Step::Settle(false, 100_010), (1, 0, 1)),
+        // and once more, which is committed
+        (Step::Put(3, 4), (1, 0, 2)),
+        (Step::Forget, (1, 0, 0)),
+    ];
+    assert!(rt; keeps_to(rt.alloc(), 25_600, &steps)?);
+    Ok(())
+}
+
+#[test]
+fn the_last_chunk_is_committed_with_its_event(rt: HostRuntime) -> Result<(), Fail> {
+    let steps = [
+        (Step::Put(0, 1), (0, 1, 0)),
+        (Step::Settle(false, 10), (1, 0, 1)),
+    ];
+    assert!(rt; keeps_to(rt.alloc(), 3, &steps)?);
     Ok(())
 }
 
 #[test]
 fn a_refused_sync_ends_it(rt: HostRuntime) -> Result<(), Fail> {
-    let alloc = rt.alloc();
-    let swarm = hundred_chunks(alloc)?;
-    let mut disk = MemoryDisk::new(alloc, &[])?;
-    let mut holding = Holding::open(alloc, &swarm.descriptor, &mut disk)?;
-    put_chunk(alloc, &swarm, 3, &mut holding, &mut disk)?;
-    disk.fail_next(Call::Sync);
-    assert!(rt; holding.settle(true, 10, &mut disk).is_err());
-    assert_eq!(rt; (holding.is_live(), counts(&holding)), (false, (0, 1, 0)));
-    // The disk would take it now.
-    assert!(rt; holding.settle(true, 11, &mut disk).is_err());
-    let next = put_chunk(alloc, &swarm, 4, &mut holding, &mut disk)?;
-    assert_eq!(rt; (next, counts(&holding)), (None, (0, 1, 0)));
+    let steps = [
+        (Step::Put(3, 4), (0, 1, 0)),
+        (Step::Refuse, (0, 1, 0)),
+        (Step::Settle(true, 10), (0, 1, 0)),
+        // The disk would take it now.
+        (Step::Settle(true, 11), (0, 1, 0)),
+        (Step::Put(4, 5), (0, 1, 0)),
+    ];
+    assert!(rt; keeps_to(rt.alloc(), 25_600, &steps)?);
     Ok(())
 }
