@@ -11,15 +11,17 @@ use Rattle.pp_traffic.specs.Life.{Life}
 use Rattle.pp_traffic.specs.Story.{Line}
 use Rattle.pp_traffic.specs.Fates.{clock}
 use Rattle.pp_promises.specs.ReadStory.{read_story}
-use Rattle.pp_requests.specs.Moments.{Changes, IsLeastExpired, NoneExpired}
+use Rattle.pp_requests.specs.Moments.{Changes, IsLeastAsked, IsLeastExpired, NoneExpired}
+use Rattle.pp_channels.specs.Seats.{channel_at}
+use Rattle.pp_channels.specs.declared.channel.Channel.{Channel}
 use Rattle.pp_seat.specs.Seats.{SeatState}
-use Rattle.pp_seat.specs.Follows.{Stays, SetsBack, IsUnproven, HasCome}
+use Rattle.pp_seat.specs.Follows.{Stays, SetsBack, Always, IsUnproven, HasCome}
 use Rattle.pp_seat.specs.Frames.{tale_of}
 use Rattle.pp_seat.specs.Awaited.{AreAwaited}
 use Rattle.pp_seat.proofs.Framing.{reads_come}
 use Rattle.pp_seat.proofs.Passing.{known_stays}
 use Rattle.pp_seats.specs.Standing.{SeatsState, Setting, at_seat, frame_in, IsFollowed, StandsFor}
-use Rattle.pp_seats.specs.Turning.{Rewinds, GivesUpRequest, HasNoneExpired}
+use Rattle.pp_seats.specs.Turning.{Rewinds, GivesUpRequest, HasNoneExpired, GivesBack, WaitsForNone, Turns}
 use Rattle.pp_seats.specs.Laws.{KnownChanges}
 use Rattle.pp_seats.proofs.Lists.{get_set_there, get_set_other}
 use Rattle.pp_seats.proofs.Outgoing.{more_followed}
@@ -100,6 +102,43 @@ gives_up_request p q k i before after there least taken exact stays awaits is = 
       }));
 }
 
+-- a seat without a channel stands for nothing
+free_changed : (x : Setting) (most : ℕ) (p : SeatsState) (k : ℕ) (after : SeatState) (past : List Record) → channel_at p.table k ≡ None → StandsFor x most p past
+    → StandsFor x most (record p { seats = set p.seats k after }) past
+free_changed x most p k after past free h = record {
+  swarm = h.swarm;
+  now_is = h.now_is;
+  lives = h.lives;
+  standing = h.standing;
+  begun = h.begun;
+  follow = λ n c life s at known living has. ⊎_elim
+      (λ here. absurd (none_there c (sym free ∙ ap (channel_at p.table) (sym (eqb-true n k here)) ∙ at)))
+      (λ apart. h.follow n c life s at known living (sym (get_set_other p.seats k n after (eqb-false n k apart)) ∙ has))
+      (cases_Bool (eqb n k));
+}
+  where
+    none_there : (c : Channel) → None ≡ Some c → ⊥
+    none_there c e = cc
+
+pub turns : (p q : SeatsState) (k : ℕ) (before after : SeatState) → slice_get p.seats k ≡ Some before → after ≡ record before { owes = true }
+    → Stays Always before after → q ≡ record p { seats = set p.seats k after } → Turns k p q
+turns p q k before after there exact stays is = record {
+  before = before;
+  after = after;
+  there = there;
+  exact = exact;
+  is = is;
+  stands = λ x most past h. subst (λ (o : SeatsState). StandsFor x most o past) (sym is)
+      (seat_changed x most most p k before after past h there (omega arith) (λ life f. record {
+        lost = f.lost;
+        chunks = f.chunks;
+        haves = f.haves;
+        follows = stays.follows (frame_in (at_seat x k) life past) f.lost (tale_of x.d life past) tt f.follows;
+        awaited = subst (λ (own : _). AreAwaited (chunks_of x.d) own (read_story x.d life past)) (sym (ap (λ (s : SeatState). s.own) exact)) f.awaited;
+        handed = f.handed;
+      }));
+}
+
 -- what stands at a place is put there
 set_there : (xs : List SeatState) (k : ℕ) (s : SeatState) → slice_get xs k ≡ Some s → set xs k s ≡ xs
 set_there [] k s e = refl
@@ -125,6 +164,34 @@ given_so p q k None before after there least g stays awaits is = record {
   same = is ∙ ap (λ (xs : List SeatState). record p { seats = xs }) (ap (set p.seats k) g ∙ set_there p.seats k before there);
 }
 given_so p q k (Some i) before after there least g stays awaits is = gives_up_request p q k i before after there least g.1 g.0 stays awaits is
+
+-- A chunk that is waited for was given back, or there was none to be.
+abbrev GivenBack : Option ℕ → SeatState → SeatState → Type 0
+GivenBack o before after = MatchOption o (after ≡ before) (λ i. (after ≡ record before { own = after.own }) × Changes i None before.own after.own)
+
+pub back_room : (o : Option ℕ) (before after : SeatState) → GivenBack o before after → after.told.chunks ≡ before.told.chunks
+back_room None before after g = ap (λ (s : SeatState). s.told.chunks) g
+back_room (Some i) before after g = ap (λ (s : SeatState). s.told.chunks) g.0
+
+pub back_so : (p q : SeatsState) (k : ℕ) (o : Option ℕ) (before after : SeatState) → slice_get p.seats k ≡ Some before → channel_at p.table k ≡ None
+    → MatchOption o (before.own ≡ []) (IsLeastAsked before.own) → GivenBack o before after
+    → q ≡ record p { seats = set p.seats k after } → MatchOption o (WaitsForNone k p q) (λ i. GivesBack k i p q)
+back_so p q k None before after there free least g is = record {
+  known = before;
+  there = there;
+  none = least;
+  same = is ∙ ap (λ (xs : List SeatState). record p { seats = xs }) (ap (set p.seats k) g ∙ set_there p.seats k before there);
+}
+back_so p q k (Some i) before after there free least g is = record {
+  before = before;
+  after = after;
+  there = there;
+  least = least;
+  taken = g.1;
+  exact = g.0;
+  is = is;
+  stands = λ x most past h. subst (λ (o : SeatsState). StandsFor x most o past) (sym is) (free_changed x most p k after past free h);
+}
 
 pub known_changes : KnownChanges
 known_changes x known_of most p past new h = record {

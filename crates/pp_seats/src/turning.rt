@@ -1,7 +1,8 @@
 //! What becomes of one seat with no message.
 
-ghost use Rattle.std.specs.Prelude.{◌≡◌, ◌<◌, Some, slice_get, MatchOption};
-ghost use Rattle.pp_seats.specs.Turning.{Rewinds, GivesUpRequest, HasNoneExpired};
+ghost use Rattle.std.specs.Prelude.{◌≡◌, ◌<◌, None, Some, slice_get, MatchOption};
+ghost use Rattle.pp_channels.specs.Seats.{channel_at};
+ghost use Rattle.pp_seats.specs.Turning.{Rewinds, GivesUpRequest, HasNoneExpired, GivesBack, WaitsForNone, Turns};
 
 use crate::seats::Seats;
 use pp_seat::Seat;
@@ -30,5 +31,23 @@ impl Seats {
         ensures { MatchOption result (HasNoneExpired seat self.old self.new) (λ i. GivesUpRequest seat i self.old self.new) }
     {
         self.seats[seat as usize].expired(self.moment)
+    }
+
+    /// Takes out the least chunk that this peer waits for on a seat whose channel was dropped: it may be asked for elsewhere. None
+    /// where it waits for none there.
+    pub fn give_back(&mut self, seat: u8) -> Option<u32>
+        requires seat { seat < 64 }
+        requires free { channel_at self.old.table seat ≡ None }
+        ensures { MatchOption result (WaitsForNone seat self.old self.new) (λ i. GivesBack seat i self.old self.new) }
+    {
+        self.seats[seat as usize].give_back()
+    }
+
+    /// A CHOKE is due on a seat's channel if it has a slot, else an UNCHOKE.
+    pub fn turn(&mut self, seat: u8)
+        requires { seat < 64 }
+        ensures { Turns seat self.old self.new }
+    {
+        self.seats[seat as usize].turn();
     }
 }
