@@ -82,6 +82,7 @@ fn what_is_said_goes_to_the_peer(rt: HostRuntime) -> Result<(), Fail> {
         return Ok(());
     };
     assert_eq!(rt; (delivered.sent, delivered.refused), (1, 0));
+    assert_eq!(rt; link.sent(), 2);
     assert_eq!(rt; link.sent_bytes(1)[..], [0x0a, 0x0b, 0x0c, 0x0d, 10][..]);
     link.fail_next(Call::Send);
     let Some(refused) = seats.speak(0, &[Sent::Unchoke], &NullDisk::new(), &mut link) else {
@@ -101,6 +102,7 @@ fn a_dial_is_there_once_its_handshake_was_sent(rt: HostRuntime) -> Result<(), Fa
     assert_eq!(rt; seats.dial(&PEER, &NullDisk::new(), &mut link), Some(true));
     assert_eq!(rt; seats.dial(&PEER, &NullDisk::new(), &mut link), None);
     // The second number was drawn for it.
+    assert_eq!(rt; link.sent(), 1);
     assert_eq!(rt; link.sent_bytes(0)[..], handshake(0, 0x903d_f1a0)[..]);
     assert_eq!(rt;
         seats.arrive(&PEER, &handshake(0x903d_f1a0, THEIRS), 7, true),
@@ -108,6 +110,7 @@ fn a_dial_is_there_once_its_handshake_was_sent(rt: HostRuntime) -> Result<(), Fa
     );
     seats.taken();
     assert!(rt; seats.part(0, &NullDisk::new(), &mut link));
+    assert_eq!(rt; link.sent(), 2);
     assert_eq!(rt;
         link.sent_bytes(1)[..],
         [0x0a, 0x0b, 0x0c, 0x0d, 0, 0, 0, 0, 0, 255][..]
@@ -169,8 +172,8 @@ fn asks(seats: &mut Seats, link: &mut MemoryLink)
     seats.taken();
 }
 
-// Serves the first seat twice, from the store of `abc`.
-fn serves_twice(alloc: Global, link: &mut MemoryLink) -> Result<Option<[Served; 2]>, Fail> {
+// Serves the first seat from the store of `abc`: what became of the chunk, and whether one is still to be sent.
+fn serves(alloc: Global, link: &mut MemoryLink) -> Result<Option<(Served, bool)>, Fail> {
     let descriptor = swarm()?;
     let mut seats = Seats::new(alloc, &descriptor, [0; 32])?;
     seats.arrive(&PEER, &handshake(0, THEIRS), 5, true);
@@ -186,16 +189,16 @@ fn serves_twice(alloc: Global, link: &mut MemoryLink) -> Result<Option<[Served; 
         store: &store,
         book: &book,
     };
-    let first = seats.serve(0, &chunks, &mut disk, link);
-    let second = seats.serve(0, &chunks, &mut disk, link);
-    Ok(Some([first, second]))
+    let served = seats.serve(0, &chunks, &mut disk, link);
+    Ok(Some((served, seats.seat(0).next().is_some())))
 }
 
 #[test]
 fn a_chunk_that_is_asked_for_is_sent_once(rt: HostRuntime) -> Result<(), Fail> {
     let mut link = MemoryLink::new(rt.alloc())?;
-    let served = serves_twice(rt.alloc(), &mut link)?;
-    assert_eq!(rt; served, Some([Served::Sent, Served::Done]));
+    let served = serves(rt.alloc(), &mut link)?;
+    assert_eq!(rt; served, Some((Served::Sent, false)));
+    assert_eq!(rt; link.sent(), 2);
     // The hash of the one leaf, which is the root, and the chunk behind it, at moment 6.
     let bytes = link.sent_bytes(1);
     assert_eq!(rt; bytes.len(), 65);
