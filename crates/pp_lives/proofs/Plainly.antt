@@ -1,7 +1,7 @@
 -- Each plain channel has its seat.
 use Rattle.std.proofs.Common.{◌≡◌, ◌≢◌, ◌⊎◌, ⊎_elim, ℕ, ◌<◌, ◌≤◌, ◌+◌, ◌-◌, eqb, leb, ltb, Bool, true, false, cond, not, ◌||◌, ◌&&◌, Option, Some, None, List, [], ◌∷◌, length, refl, sym, ◌∙◌, ap, subst, arith}
 use Rattle.std.specs.Prelude.{MatchBool}
-use Rattle.std.proofs.lemmas.Bool.{cases_Bool, or_left, or_right, or_cases, or_parts, and_parts, and_from, and_left, and_right, both_ways, cond-true, cond-false, false_from_ne_true, eqb-true, eqb-false, eq-eqb, ne_eqb, le-leb, leb-true, lt-ltb, ltb-true, le-ltb}
+use Rattle.std.proofs.lemmas.Bool.{not-false, cases_Bool, or_left, or_right, or_cases, or_parts, and_parts, and_from, and_left, and_right, both_ways, cond-true, cond-false, false_from_ne_true, eqb-true, eqb-false, eq-eqb, ne_eqb, le-leb, leb-true, lt-ltb, ltb-true, le-ltb}
 use Rattle.std.proofs.lemmas.Option.{same_Some}
 use Rattle.pp_terms.specs.format.Traffic as traffic
 use Rattle.pp_terms.specs.format.Traffic.{Record, Received, Sent, same_address}
@@ -593,14 +593,10 @@ expired_done d t lives seat c past s p there over = record {
 
     unshown : (life : Life) → Stands d c life past → is_waiting c ≡ false → is_proven c ≡ false → some_since (comes_on d life) life.opening past ≡ false
     unshown life st known unproven =
-        let greeted : is_greeted c.state ≡ true = greeted_by (is_greeted c.state) unproven in
+        let greeted : is_greeted c.state ≡ true = not-false (is_greeted c.state) unproven in
         let answered : life.is_dialled ≡ false = st.dialled ∙ not_dialled (is_dialled c.opening) (is_greeted c.state) greeted known in
         subst (λ (b : Bool). some_since (λ r. cond b (shakes_on d life r) (comes_on d life r)) life.opening past ≡ false) answered (sym st.goes.proven ∙ unproven)
       where
-        greeted_by : (b : Bool) → not b ≡ false → b ≡ true
-        greeted_by true e = refl
-        greeted_by false e = absurd cc
-
         not_dialled : (a b : Bool) → b ≡ true → (a && b) ≡ false → a ≡ false
         not_dialled true b is e = sym is ∙ e
         not_dialled false b is e = refl

@@ -79,7 +79,8 @@ pub record GivesUp (d : Descriptor) (now seat : ℕ) (t new : Seats) (lives live
   pub others : (other : ℕ) → other ≢ seat → read_at d new lives' (r ∷ past) other ≡ looked now (read_at d t lives past other)
   pub begun : AllBegun t → AllBegun new
 
--- Messages are read on a seat, unless they close its channel; then the seat is to be dropped. The life of its channel is so.
+-- Messages are read on a seat, unless they close its channel; then the seat is to be dropped. `IsOn` says how the record comes on the
+-- channel's life.
 pub record Reads (d : Descriptor) (now seat : ℕ) (ms : List Message) (Tells : ℕ → ℕ → List Message → Told → Told → Type 0)
     (IsOn : Life → Type 0) (t new : Seats) (lives : ℕ → Option Life) (r : Record) (past : List Record) : Type 0 where
   pub living : ℕ → Option Life

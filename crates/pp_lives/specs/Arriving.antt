@@ -118,7 +118,8 @@ Answers t seat sender now source fit (arrivals.Replied k) new =
     × (new ≡ changed (changed t seat (λ c. record c { remote = Some source; state = Proven })) seat (λ c. record c { heard = now }))
 Answers t seat sender now source fit _ new = ⊥
 
-pub record IsAnswer (d : Descriptor) (t : Seats) (seat : ℕ) (sender : Address) (now : ℕ) (bytes : List ℕ) (result : Arrival) (new : Seats) : Type 0 where
+pub record IsAnswer (d : Descriptor) (t : Seats) (seat : ℕ) (sender : Address) (now : ℕ) (bytes : List ℕ) (result : Arrival)
+    (new : Seats) : Type 0 where
   pub source : ℕ
   pub options : plain.Options
   pub rest : List Message
@@ -126,7 +127,8 @@ pub record IsAnswer (d : Descriptor) (t : Seats) (seat : ℕ) (sender : Address)
   pub does : Answers t seat sender now source (fits d true options) result new
 
 abbrev pub Awaited : Descriptor → Seats → ℕ → Address → ℕ → List ℕ → Arrival → Seats → Type 0
-Awaited d t seat sender now bytes (arrivals.NoReply k) new = (k ≡ seat) × (is_faulty (contents d bytes) ≡ false) × (begins (contents d bytes).read ≡ false) × (new ≡ t)
+Awaited d t seat sender now bytes (arrivals.NoReply k) new =
+    (k ≡ seat) × (is_faulty (contents d bytes) ≡ false) × (begins (contents d bytes).read ≡ false) × (new ≡ t)
 Awaited d t seat sender now bytes (arrivals.Cut k) new = (k ≡ seat) × (is_faulty (contents d bytes) ≡ true) × (new ≡ t)
 Awaited d t seat sender now bytes result new = IsAnswer d t seat sender now bytes result new
 
@@ -147,7 +149,8 @@ Comes d t seat sender now bytes (arrivals.Heard k) new = (k ≡ seat) × (is_wai
     × (new ≡ changed (changed t seat (λ c. record c { state = Proven })) seat (λ c. record c { heard = now }))
 Comes d t seat sender now bytes result new = (is_waiting_at (channel_at t seat) ≡ true) × Awaited d t seat sender now bytes result new
 
-pub record IsOwn (d : Descriptor) (t : Seats) (number : ℕ) (sender : Address) (now : ℕ) (bytes : List ℕ) (result : Arrival) (new : Seats) : Type 0 where
+pub record IsOwn (d : Descriptor) (t : Seats) (number : ℕ) (sender : Address) (now : ℕ) (bytes : List ℕ) (result : Arrival)
+    (new : Seats) : Type 0 where
   pub seat : ℕ
   pub found : position (is_found number sender) t.channels ≡ Some seat
   pub does : Comes d t seat sender now bytes result new
@@ -158,7 +161,8 @@ Numbered d t number sender now bytes result new = IsOwn d t number sender now by
 
 -- ---- any datagram
 
-pub record IsNumbered (d : Descriptor) (t : Seats) (sender : Address) (now : ℕ) (bytes : List ℕ) (result : Arrival) (new : Seats) : Type 0 where
+pub record IsNumbered (d : Descriptor) (t : Seats) (sender : Address) (now : ℕ) (bytes : List ℕ) (result : Arrival) (new : Seats)
+    : Type 0 where
   pub long : 4 ≤ length bytes
   pub zero : from_be_bytes w32 (take 4 bytes) ≡ 0 → Greets d t sender now bytes result new
   pub other : from_be_bytes w32 (take 4 bytes) ≢ 0 → Numbered d t (from_be_bytes w32 (take 4 bytes)) sender now bytes result new
@@ -187,7 +191,8 @@ Proves result new = Unit {0}
 
 -- the messages that are read are those from a byte on
 abbrev pub IsBehind : Descriptor → List ℕ → Arrival → Type 0
-IsBehind d bytes (arrivals.Opened seat next) = (next ≤ length bytes) × ((messages_at d.method d.chunk next (drop next bytes)).read ≡ drop 1 (contents d bytes).read)
+IsBehind d bytes (arrivals.Opened seat next) =
+    (next ≤ length bytes) × ((messages_at d.method d.chunk next (drop next bytes)).read ≡ drop 1 (contents d bytes).read)
 IsBehind d bytes (arrivals.Replied seat) = 4 ≤ length bytes
 IsBehind d bytes (arrivals.Heard seat) = 4 ≤ length bytes
 IsBehind d bytes result = Unit {0}

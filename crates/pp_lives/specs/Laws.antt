@@ -30,33 +30,39 @@ life_of c past = dialled_life (address_of c.address) c.local (length past)
 
 -- with no channel and no traffic
 abbrev pub StandsAtFirst : Type 0
-StandsAtFirst = (d : Descriptor) (numbers : ChaCha) → Standing d (record { channels = replicate 64 None; numbers = numbers }) (λ seat. None) []
+StandsAtFirst = (d : Descriptor) (numbers : ChaCha)
+    → Standing d (record { channels = replicate 64 None; numbers = numbers }) (λ seat. None) []
 
 -- a wait in which nothing came
 abbrev pub QuietStays : Type 0
 QuietStays = (d : Descriptor) (t : Seats) (lives : ℕ → Option Life) (moment : ℕ) (past : List Record) → Standing d t lives past
-    → Standing d t lives (Quiet moment ∷ past) × TellsNone (max moment (now past)) (read_at d t lives past) (read_at d t lives (Quiet moment ∷ past))
+    → Standing d t lives (Quiet moment ∷ past)
+    × TellsNone (max moment (now past)) (read_at d t lives past) (read_at d t lives (Quiet moment ∷ past))
 
 -- a channel whose time is over is dropped
 abbrev pub ExpiredStays : Type 0
-ExpiredStays = (d : Descriptor) (t : Seats) (lives : ℕ → Option Life) (seat : ℕ) (c : Channel) (past : List Record) → Standing d t lives past
+ExpiredStays = (d : Descriptor) (t : Seats) (lives : ℕ → Option Life) (seat : ℕ) (c : Channel) (past : List Record)
+    → Standing d t lives past
     → channel_at t seat ≡ Some c → is_over (now past) (Some c) ≡ true
     → Standing d (closed t seat) lives past × Ends seat (read_at d t lives past) (read_at d (closed t seat) lives past)
 
 -- a datagram was sent on a channel whose peer's number is known; a handshake with which it begins is this channel's
 abbrev pub SaidStays : Type 0
-SaidStays = (d : Descriptor) (t new : Seats) (lives : ℕ → Option Life) (seat : ℕ) (c c' : Channel) (life : Life) (moment : ℕ) (bytes : List ℕ) (past : List Record)
+SaidStays = (d : Descriptor) (t new : Seats) (lives : ℕ → Option Life) (seat : ℕ) (c c' : Channel)
+    (life : Life) (moment : ℕ) (bytes : List ℕ) (past : List Record)
     → Standing d t lives past → channel_at t seat ≡ Some c → lives seat ≡ Some life → is_waiting c ≡ false
     → (read d (sent_on c moment bytes)).channel ≡ Some life.remote
     → ((number : ℕ) → 0 < number → begins_as number (read d (sent_on c moment bytes)).messages.read ≡ true → number ≡ c.local)
     → Steady c c' → is_begun c'.opening ≡ (answers d life (sent_on c moment bytes) || is_begun c.opening)
     → AreSeats new.channels → Changes t new seat (Some c')
     → Standing d new lives (sent_on c moment bytes ∷ past)
-    × Says (now past) seat (read d (sent_on c moment bytes)).messages.read (read_at d t lives past) (read_at d new lives (sent_on c moment bytes ∷ past))
+    × Says (now past) seat (read d (sent_on c moment bytes)).messages.read
+    (read_at d t lives past) (read_at d new lives (sent_on c moment bytes ∷ past))
 
 -- a channel whose handshakes were both seen is a life of the traffic
 abbrev pub SeatsLive : Type 0
-SeatsLive = (d : Descriptor) (t : Seats) (lives : ℕ → Option Life) (seat : ℕ) (c : Channel) (life : Life) (past : List Record) → Standing d t lives past
+SeatsLive = (d : Descriptor) (t : Seats) (lives : ℕ → Option Life) (seat : ℕ) (c : Channel) (life : Life) (past : List Record)
+    → Standing d t lives past
     → channel_at t seat ≡ Some c → lives seat ≡ Some life → is_waiting c ≡ false → is_begun c.opening ≡ true → IsLife d life past
 
 -- What is read of a channel gives the window and the chokes of its whole story, and tells and asks for no more.
@@ -68,12 +74,14 @@ pub record IsReadOf (d : Descriptor) (life : Life) (past : List Record) (lines :
 
 -- what is read of a seat is so of the life of its channel
 abbrev pub SeatsRead : Type 0
-SeatsRead = (d : Descriptor) (t : Seats) (lives : ℕ → Option Life) (seat : ℕ) (lines : List Line) (past : List Record) → Standing d t lives past
+SeatsRead = (d : Descriptor) (t : Seats) (lives : ℕ → Option Life) (seat : ℕ) (lines : List Line) (past : List Record)
+    → Standing d t lives past
     → read_at d t lives past seat ≡ Some lines → (life : Life) × (lives seat ≡ Some life) × IsReadOf d life past lines
 
 -- a channel is to be dialled, where none has the address: it has no life yet
 abbrev pub DialsStay : Type 0
-DialsStay = (d : Descriptor) (t new : Seats) (lives : ℕ → Option Life) (seat : ℕ) (receiver : Address) (moment local : ℕ) (past : List Record) → Standing d t lives past
+DialsStay = (d : Descriptor) (t new : Seats) (lives : ℕ → Option Life) (seat : ℕ) (receiver : Address)
+    (moment local : ℕ) (past : List Record) → Standing d t lives past
     → channel_at t seat ≡ None → AreSeats new.channels → Changes t new seat (Some (dialled receiver moment local))
     → ((other : ℕ) (e : Channel) → channel_at t other ≡ Some e → address_of e.address ≡ address_of receiver → ⊥)
     → Standing d new (with_life seat None lives) past

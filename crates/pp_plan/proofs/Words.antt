@@ -1,5 +1,6 @@
 -- Words of bits that lack some, or that have none.
 use Rattle.std.proofs.Common.{◌≡◌, ⊎_elim, ℕ, zero, suc, ◌+◌, ◌-◌, ◌*◌, ◌/◌, ◌%◌, ◌^◌, ◌<◌, ◌≤◌, ◌==◌, nat_le, nat_lt, not, Bool, true, false, ◌&&◌, ◌||◌, List, length, refl, sym, ◌∙◌, ap, arith}
+use Rattle.std.proofs.Math.Bool.{or_assoc}
 use Rattle.std.specs.Prelude.{slice_index}
 use Rattle.std.specs.Int.{bit_at}
 use Rattle.std.proofs.lemmas.Nat.Bits.{bit_at_ones, bit_at-zero, bit_at-lt, bit_at_above, same_from_bits}
@@ -43,13 +44,9 @@ pub one_more : (next now before : Bool) (low w i : ℕ) → low ≤ w
     → next ≡ (before || (nat_le (64 * low) i && nat_lt i (64 * (w + 1))))
 one_more next now before low w i order more is =
     more ∙ ap (λ (b : Bool). b || (nat_le (64 * w) i && nat_le i (64 * w + 63))) is
-    ∙ assoc before (nat_le (64 * low) i && nat_lt i (64 * w)) (nat_le (64 * w) i && nat_le i (64 * w + 63))
+    ∙ or_assoc before (nat_le (64 * low) i && nat_lt i (64 * w)) (nat_le (64 * w) i && nat_le i (64 * w + 63))
     ∙ ap (λ (b : Bool). before || b)
     (let same : ((nat_le (64 * low) i && nat_lt i (64 * w)) || (nat_le (64 * w) i && nat_le i (64 * w + 63))) ≡ (nat_le (64 * low) i && nat_lt i (64 * (w + 1))) = grind (arith, nat_tests) in same)
-  where
-    assoc : (a b c : Bool) → ((a || b) || c) ≡ (a || (b || c))
-    assoc true b c = refl
-    assoc false b c = refl
 
 not_one : (b : ℕ) → b < 2 → (b == 1) ≡ false → b ≡ 0
 not_one b small e = grind (arith, nat_tests)

@@ -49,6 +49,15 @@ impl Asked {
         }
     }
 
+    /// The chunks that were asked for and haven't come, by rising number.
+    pub fn entries(&self) -> &[Asking]
+        ensures same { result.now ≡ self.now }
+        ensures rising { IsRisingFrom 0 self.now }
+        ensures few { length self.now ≤ 32 }
+    {
+        self.entries.as_slice()
+    }
+
     /// How many more may be asked for.
     pub fn room(&self) -> u32
         ensures room { result + length self.now ≡ 32 }
@@ -166,7 +175,8 @@ mod tests {
                 asked.ask(100 - i, u64::from(i % 2));
             }
         }
-        assert_eq!(rt; asked.room(), 0);
+        assert_eq!(rt; (asked.room(), asked.entries().len()), (0, 32));
+        assert_eq!(rt; asked.entries().first().map(|first| first.chunk), Some(69));
         assert_eq!(rt; asked.expired(9_999_999), None);
         // Those asked for at moment 0 have even numbers.
         assert_eq!(rt; asked.expired(10_000_000), Some(70));

@@ -7,7 +7,7 @@ mod laws;
 mod listing;
 mod seating;
 
-pub use asking::Asked;
+pub use asking::{Asked, Asking};
 pub use laws::laws_of_requests;
 pub use listing::{Cancelled, Requests};
 pub use seating::Slots;

@@ -20,7 +20,7 @@ ghost use Rattle.pp_seat.specs.Follows.{Frame, Lost, Follows, Goes, Stays, Says,
 
 use crate::seat::Seat;
 use pp_ranges::ChunkRange;
-use pp_requests::Asked;
+use pp_requests::{Asked, Asking};
 
 impl Seat {
     /// A CHOKE came: none of this peer's requests will be answered (RFC 7574, section 3.9).
@@ -99,6 +99,14 @@ impl Seat {
         ensures { result ≡ is_some (asked_at self.now.own i) }
     {
         self.own.contains(i)
+    }
+
+    /// The chunks that this peer waits for, by rising number, each with the moment in microseconds at which it was asked for.
+    pub fn awaited(&self) -> &[Asking]
+        ensures same { result.now ≡ self.now.own }
+        ensures few { length self.now.own ≤ 32 }
+    {
+        self.own.entries()
     }
 
     /// Takes out the least chunk that this peer asked for 10 seconds ago or longer, and stops asking.

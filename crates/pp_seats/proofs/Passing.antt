@@ -14,17 +14,11 @@ runs_low from (x ∷ xs) k r e = ⊎_elim
     (λ later. let low = runs_low (x.last + 2) xs k r.2 later in omega (arith, low, r.0, r.1))
     (or_cases (within x k) (has xs k) e)
 
-past_is : (i : ℕ) (x : Span) (xs : List Span) → x.last < i → without_below i (x ∷ xs) ≡ without_below i xs
-past_is i x xs lt = rw (lt-ltb x.last i lt, without_below) refl
-
-reaching_is : (i : ℕ) (x : Span) (xs : List Span) → i ≤ x.last → without_below i (x ∷ xs) ≡ record { first = max x.first i; last = x.last } ∷ xs
-reaching_is i x xs le = rw (le-ltb x.last i le, without_below) refl
-
 below_less : (i : ℕ) (xs : List Span) → number_count (without_below i xs) ≤ number_count xs
 below_less i [] = omega arith
 below_less i (x ∷ xs) = ⊎_elim
-    (λ (lt : x.last < i). let is = ap number_count (past_is i x xs lt) in let rest = below_less i xs in omega (arith, is, rest))
-    (λ (le : i ≤ x.last). let is = ap number_count (reaching_is i x xs le) in omega (arith, is))
+    (λ (lt : x.last < i). rw (lt-ltb x.last i lt, without_below) (let rest = below_less i xs in omega (arith, rest)))
+    (λ (le : i ≤ x.last). rw (le-ltb x.last i le, without_below) (omega arith))
     (cases_lt x.last i)
 
 -- where the least chunk is below a number, fewer are left from the number on
@@ -41,6 +35,6 @@ below_fewer i (x ∷ xs) k r least lt =
     (λ later. let far = runs_low (x.last + 2) xs k r.2 later in absurd (omega (arith, far, low, r.1)))
     (or_cases (within x k) (has xs k) least.listed) in
     ⊎_elim
-    (λ (past : x.last < i). let is = ap number_count (past_is i x xs past) in let rest = below_less i xs in omega (arith, is, rest, r.1))
-    (λ (reach : i ≤ x.last). let is = ap number_count (reaching_is i x xs reach) in omega (arith, is, first, lt, reach))
+    (λ (past : x.last < i). rw (lt-ltb x.last i past, without_below) (let rest = below_less i xs in omega (arith, rest, r.1)))
+    (λ (reach : i ≤ x.last). rw (le-ltb x.last i reach, without_below) (omega (arith, first, lt, reach)))
     (cases_lt x.last i)

@@ -22,10 +22,6 @@ use Rattle.pp_seats.specs.Sending.{HoldsAnnounced, Announces, MaySay, with_told,
 use Rattle.pp_seats.proofs.Lists.{set_holds, set_length, refilled}
 use Rattle.pp_seats.proofs.Outgoing.{W, After, far_is, spoken, told_held}
 
-pub was_begun : (b : Bool) → not b ≡ false → b ≡ true
-was_begun true e = refl
-was_begun false e = absurd cc
-
 -- the channels by whether something was sent
 pub with_some : (t : Seats) (k sent at : ℕ) → 0 < sent → with_datagram t k false at ≡ with_sent t k sent at
 with_some t k sent at some = ap (λ (b : Bool). cond b (with_datagram t k false at) t) (sym (lt-ltb 0 sent some))

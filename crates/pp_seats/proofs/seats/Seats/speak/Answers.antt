@@ -5,7 +5,8 @@ use Rattle.pp_channels.specs.Seats.{Seats}
 use Rattle.pp_seat.specs.Seats.{SeatState}
 use Rattle.pp_seats.specs.Standing.{SeatsState}
 use Rattle.pp_seats.proofs.Lists.{got}
-use Rattle.pp_seats.proofs.Speaking.{speaks, kept_whole, was_begun, with_some, with_none}
+use Rattle.std.proofs.lemmas.Bool.{not-false}
+use Rattle.pp_seats.proofs.Speaking.{speaks, kept_whole, with_some, with_none}
 use Rattle.pp_seats.proofs.seats.Seats.speak.Goals as goal
 
 pub invariant_of-self : goal.invariant_of-self
@@ -30,7 +31,7 @@ pub returns-then-delivered-gt0 : goal.returns-then-delivered-gt0
 returns-then-delivered-gt0 g c =
     let p : SeatsState = record { descriptor = c.self.inside.descriptor; table = c.self.inside.lives; seats = c.self.inside.seats.items; moment = c.self.inside.moment } in
     rw (← c.self.view_is) (speaks p _ c.args.seat c.args.notes.now _ c.deliver-delivered.result _ _ c.in_ok-far.far c.index_mut.result.now c.deliver-delivered.new.seat
-    (sym c.far.ensures.exact ∙ c.in_ok-far.was) (was_begun c.in_ok-far.far.begun c.if-not-far.false)
+    (sym c.far.ensures.exact ∙ c.in_ok-far.was) (not-false c.in_ok-far.far.begun c.if-not-far.false)
     (got c.self.inside.seats.items c.args.seat c.index_mut.result.now (omega (arith, c.self.invariant.0, c.requires.seat)) ∙ ap (λ (s : SeatState). Some s) (sym c.index_mut.ensures.value))
     c.requires.plain c.deliver-delivered.ensures.delivers
     (ap (λ (t : Seats). record p { table = t; seats = set c.self.inside.seats.items c.args.seat c.deliver-delivered.new.seat }) (c.sent.ensures ∙ with_some c.self.inside.lives c.args.seat c.deliver-delivered.result.sent c.self.inside.moment c.if-delivered-gt0.true)))
@@ -39,7 +40,7 @@ pub returns-else-delivered-gt0 : goal.returns-else-delivered-gt0
 returns-else-delivered-gt0 g c =
     let p : SeatsState = record { descriptor = c.self.inside.descriptor; table = c.self.inside.lives; seats = c.self.inside.seats.items; moment = c.self.inside.moment } in
     rw (← c.self.view_is) (speaks p _ c.args.seat c.args.notes.now _ c.deliver-delivered.result _ _ c.in_ok-far.far c.index_mut.result.now c.deliver-delivered.new.seat
-    (sym c.far.ensures.exact ∙ c.in_ok-far.was) (was_begun c.in_ok-far.far.begun c.if-not-far.false)
+    (sym c.far.ensures.exact ∙ c.in_ok-far.was) (not-false c.in_ok-far.far.begun c.if-not-far.false)
     (got c.self.inside.seats.items c.args.seat c.index_mut.result.now (omega (arith, c.self.invariant.0, c.requires.seat)) ∙ ap (λ (s : SeatState). Some s) (sym c.index_mut.ensures.value))
     c.requires.plain c.deliver-delivered.ensures.delivers
     (ap (λ (t : Seats). record p { table = t; seats = set c.self.inside.seats.items c.args.seat c.deliver-delivered.new.seat }) (with_none c.self.inside.lives c.args.seat c.deliver-delivered.result.sent c.self.inside.moment c.if-delivered-gt0.false)))
