@@ -6,3 +6,4 @@ pub mod Follows
 pub mod Laws
 pub mod Frames
 pub mod Awaited
+pub mod Turns

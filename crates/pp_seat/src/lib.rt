@@ -17,7 +17,7 @@ mod tests;
 
 pub use hashes::Claimed;
 pub use seat::Seat;
-pub use service::Listed;
+pub use service::{Listed, Turn};
 
 /// What stays of a seat while nothing is called, and what follows from the story that it follows. It does nothing.
 pub fn laws_of_seats()

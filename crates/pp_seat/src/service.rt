@@ -8,6 +8,7 @@ ghost use Rattle.pp_traffic.specs.Meter as terms;
 ghost use Rattle.pp_traffic.specs.Story.{Heard, Said, Taken};
 ghost use Rattle.pp_requests.specs.Lists.{IsLeast, are_too_many, cancelled, without, chunk_count};
 ghost use Rattle.pp_seat.specs.Lines.{Tale};
+ghost use Rattle.pp_seat.specs.Turns.{due_turn};
 ghost use Rattle.pp_seat.specs.Follows.{Frame, Lost, Follows, Goes, Stays, GivesUp, Always, IsCut, IsUnannounced, AreUnannounced, IsNext, IsDone, Answers};
 
 use crate::seat::Seat;
@@ -23,6 +24,13 @@ pub enum Listed {
     Full,
     /// It isn't, since the channel has no slot.
     Choked,
+}
+
+/// Which of the two messages is to be sent (RFC 7574, section 3.9).
+#[derive(Clone, Copy, PartialEq, Eq, Debug)]
+pub enum Turn {
+    Choke,
+    Unchoke,
 }
 
 impl Seat {
@@ -149,6 +157,19 @@ impl Seat {
         ensures stays { Stays Always self.old self.new }
     {
         self.owes = true;
+    }
+
+    /// Which of CHOKE and UNCHOKE is to be sent, if one is: CHOKE on a channel that has a slot or was never choked, else UNCHOKE.
+    pub fn due(&self) -> Option<Turn>
+        ensures { result ≡ due_turn self.now }
+    {
+        if !self.owes {
+            return None;
+        }
+        if self.slot || !self.choked {
+            return Some(Turn::Choke);
+        }
+        Some(Turn::Unchoke)
     }
 
     pub fn has_slot(&self) -> bool

@@ -5,3 +5,4 @@ pub mod Sending
 pub mod Serving
 pub mod Greeting
 pub mod Turning
+pub mod Reading

@@ -5,6 +5,7 @@
 ghost use Rattle.pp_seats.specs.Laws.{HearingComposes, NothingYet, KnownChanges};
 
 mod greeting;
+mod reading;
 mod seats;
 mod sending;
 mod serving;

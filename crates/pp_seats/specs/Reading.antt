@@ -1,0 +1,14 @@
+-- Which channels something is due on.
+use Rattle.std.specs.Prelude.{ℕ, Bool, false, Option, Some, None}
+use Rattle.pp_channels.specs.Timing.{handshake_due, is_silent}
+use Rattle.pp_channels.specs.declared.channel.Channel.{Channel}
+
+-- this peer's handshake is due on the channel of a seat
+abbrev pub is_due_at : ℕ → Option Channel → Bool
+is_due_at now None = false
+is_due_at now (Some c) = handshake_due now c
+
+-- nothing went there for 120 seconds
+abbrev pub is_silent_at : ℕ → Option Channel → Bool
+is_silent_at now None = false
+is_silent_at now (Some c) = is_silent now c
