@@ -17,8 +17,8 @@ use pp_seat::{Claimed, Listed, Seat};
 use pp_tree::Digest;
 use pp_wire::{Message, Span};
 
-// What of a span lies in a content of so many chunks.
-fn inside(span: Span, chunks: u32) -> Option<ChunkRange>
+/// What of a span lies in a content of so many chunks.
+pub fn inside(span: Span, chunks: u32) -> Option<ChunkRange>
     ensures { result ≡ inside chunks (span_of span) }
 {
     let end = u64::from(chunks);

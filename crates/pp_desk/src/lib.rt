@@ -13,7 +13,7 @@ mod stored;
 pub use chunk::{Service, deliver_chunk};
 pub use delivery::{Outgoing, deliver};
 pub use greeting::{close, greet};
-pub use hearing::hear;
+pub use hearing::{hear, inside};
 pub use steps::Delivered;
 pub use stored::CommittedChunks;
 

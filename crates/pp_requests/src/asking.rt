@@ -90,8 +90,8 @@ impl Asked {
         holds(&self.entries, i)
     }
 
-    /// Takes out a chunk that came, and says whether it was asked for.
-    pub fn answered(&mut self, i: u32) -> bool
+    /// Takes out a chunk that came, and says whether it was asked for. No number above the greatest chunk's ever was.
+    pub fn answered(&mut self, i: u64) -> bool
         ensures was { result ≡ is_some (asked_at self.old i) }
         ensures taken { Changes i None self.old self.new }
         ensures len { length self.new + (if result then 1 else 0) ≡ length self.old }
@@ -148,10 +148,10 @@ fn holds(entries: &[Asking], i: u32) -> bool
     entries.iter().any(|x| x.chunk == i)
 }
 
-fn find(entries: &[Asking], i: u32) -> Option<usize>
+fn find(entries: &[Asking], i: u64) -> Option<usize>
     ensures { result ≡ position (λ x. x.chunk == i) entries.now }
 {
-    entries.iter().position(|x| x.chunk == i)
+    entries.iter().position(|x| u64::from(x.chunk) == i)
 }
 
 // the first that was asked for 10 seconds ago or longer

@@ -1,5 +1,5 @@
 // The slots of the channels that are not choked, and the seats that wait for one.
-ghost use Rattle.std.specs.Prelude.{◌≡◌, ◌↔◌, ℕ, ◌<◌, ◌≤◌, ◌^◌, None, Some, is_some, IsTrue, IsSome, IfSome, MatchOption, nat_le, slice_set, replicate, if◌then◌else◌};
+ghost use Rattle.std.specs.Prelude.{◌≡◌, ◌↔◌, ℕ, ◌<◌, ◌≤◌, ◌^◌, None, Some, is_some, IsTrue, IsSome, IfSome, MatchOption, nat_le, nat_lt, slice_set, replicate, if◌then◌else◌};
 ghost use Rattle.std.specs.Bool.{OnTrue, OnFalse};
 ghost use Rattle.pp_requests.specs.Seats.{since, seat_count, IsLongest, IsNone, IsDue};
 
@@ -63,6 +63,13 @@ impl Slots {
         self.slots[seat as usize] = Some(now);
         self.waiting[seat as usize] = None;
         true
+    }
+
+    /// Whether a slot is free.
+    pub fn is_free(&self) -> bool
+        ensures { result ≡ nat_lt (seat_count self.now.slots) 8 }
+    {
+        count(&self.slots) < SLOTS
     }
 
     /// Puts a seat that has no slot into the line, where it keeps its place if it waits already.

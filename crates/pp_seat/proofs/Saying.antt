@@ -260,16 +260,10 @@ cancel_goes s own i now span is = record {
       })).follows f lost t tt h);
 }
 
--- one that is waited for no longer, if any is
-pub fewer_stays : (s : SeatState) (own : List Asking) (o : Option ℕ) → MatchOption o (own ≡ s.own) (λ i. Changes i None s.own own)
-    → Stays Always s (record s { own = own })
-fewer_stays s own None same = own_stays Always s own s.stopped (λ f t so a. record {
-  named = λ j m e. a.named j m (subst (λ (xs : List Asking). asked_at xs j ≡ Some m) same e);
-  expired = a.expired;
-  choked = a.choked;
-})
-fewer_stays s own (Some i) is = own_stays Always s own s.stopped (λ f t so a. record {
-  named = λ j m e. a.named j m (fewer_asked i s.own own is j m e);
+-- none is waited for any longer
+pub none_stays : (s : SeatState) → Stays Always s (record s { own = [] })
+none_stays s = own_stays Always s [] s.stopped (λ f t so a. record {
+  named = λ j m e. absurd cc;
   expired = a.expired;
   choked = a.choked;
 })

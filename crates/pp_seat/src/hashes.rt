@@ -16,6 +16,7 @@ ghost use Rattle.pp_seat.specs.Follows.{Frame, Lost, Follows, Goes, IsCut};
 
 use crate::seat::Seat;
 use arrayvec::ArrayVec;
+use pp_paths::Claims;
 use pp_plan::plan;
 use pp_ranges::ChunkRange;
 use pp_tree::{Digest, Node};
@@ -77,6 +78,13 @@ impl Seat {
             }
             None => Claimed::NotANode,
         }
+    }
+
+    /// The latest 128 claims that came since the channel was proven, by which a chunk from it is judged.
+    pub fn claims(&self) -> &Claims
+        ensures { result.now ≡ self.now.claims }
+    {
+        &self.claims
     }
 
     /// The nodes whose hashes go before a chunk (RFC 7574, section 5.3).

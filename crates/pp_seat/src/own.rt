@@ -42,8 +42,8 @@ impl Seat {
         self.chokes = false;
     }
 
-    /// A chunk came, whatever it is worth. It answers whether this peer waited for it.
-    pub fn heard_data(&mut self, i: u32) -> bool
+    /// A chunk came, whatever it is worth and whether or not it is one of the content. It answers whether this peer waited for it.
+    pub fn heard_data(&mut self, i: u64) -> bool
         ensures was { result ≡ is_some (asked_at self.old.own i) }
         ensures rest { self.new ≡ record self.old { own = self.new.own } }
         ensures taken { Changes i None self.old.own self.new.own }
@@ -71,7 +71,7 @@ impl Seat {
         ensures goes { (now : ℕ) (span : Span) → Goes Always (Said now (Cancel span)) self.old self.new }
         ensures awaits { (now : ℕ) (span : Span) → ((j : ℕ) → within span j ≡ (i == j)) → KeepsAwaited (Said now (Cancel span)) self.old.own self.new.own }
     {
-        self.own.answered(i);
+        self.own.answered(u64::from(i));
     }
 
     /// How many chunks more this peer may ask for.
@@ -122,15 +122,13 @@ impl Seat {
         Some(i)
     }
 
-    /// Takes out the least chunk that this peer waits for: it will be asked of another peer. The own requests are no longer those of the
-    /// channel's story, until a CHOKE comes or the seat begins anew.
-    pub fn give_back(&mut self) -> Option<u32>
-        ensures least { MatchOption result (self.old.own ≡ []) (IsLeastAsked self.old.own) }
-        ensures taken { MatchOption result (self.new ≡ self.old)
-            (λ i. (self.new ≡ record self.old { own = self.new.own }) × Changes i None self.old.own self.new.own) }
+    /// This peer waits for nothing here any more: its requests will be made of other peers. They are no longer those of the channel's
+    /// story, until a CHOKE comes or the seat begins anew.
+    pub fn forget_requests(&mut self)
+        ensures exact { self.new ≡ record self.old { own = [] } }
         ensures stays { Stays Always self.old self.new }
     {
-        self.own.drop_one()
+        self.own.clear();
     }
 
     /// A datagram came on the channel: this peer may ask again.

@@ -251,16 +251,19 @@ fn asks_no_more_after_an_expiry(rt: HostRuntime) -> Result<(), Fail> {
 }
 
 #[test]
-fn gives_back_what_it_asked_for(rt: HostRuntime) -> Result<(), Fail> {
+fn forgets_what_it_asked_for(rt: HostRuntime) -> Result<(), Fail> {
     let mut seat = Seat::new(rt.alloc(), 70, 1024)?;
     asked(&mut seat, 0, 40, 0);
     assert_eq!(rt; seat.room(), 0);
     assert!(rt; seat.awaits(31) && !seat.awaits(32));
     seat.said_cancel(1);
-    assert_eq!(rt; (seat.give_back(), seat.give_back()), (Some(0), Some(2)));
-    assert_eq!(rt; seat.room(), 3);
+    assert_eq!(rt; (seat.room(), seat.awaited().len()), (1, 31));
     seat.heard_choke();
     assert!(rt; !seat.may_ask());
+    assert_eq!(rt; seat.room(), 32);
+    asked(&mut seat, 40, 41, 0);
+    assert_eq!(rt; seat.room(), 30);
+    seat.forget_requests();
     assert_eq!(rt; seat.room(), 32);
     seat.heard_unchoke();
     assert!(rt; seat.may_ask());

@@ -21,7 +21,7 @@ use Rattle.pp_seat.specs.Awaited.{AreAwaited}
 use Rattle.pp_seat.proofs.Framing.{reads_come}
 use Rattle.pp_seat.proofs.Passing.{known_stays}
 use Rattle.pp_seats.specs.Standing.{SeatsState, Setting, at_seat, frame_in, IsFollowed, StandsFor}
-use Rattle.pp_seats.specs.Turning.{Rewinds, GivesUpRequest, HasNoneExpired, GivesBack, WaitsForNone, Turns}
+use Rattle.pp_seats.specs.Turning.{Rewinds, GivesUpRequest, HasNoneExpired, ForgetsRequests, Turns}
 use Rattle.pp_seats.specs.Laws.{KnownChanges}
 use Rattle.pp_seats.proofs.Lists.{get_set_there, get_set_other}
 use Rattle.pp_seats.proofs.Outgoing.{more_followed}
@@ -140,7 +140,7 @@ turns p q k before after there exact stays is = record {
 }
 
 -- what stands at a place is put there
-set_there : (xs : List SeatState) (k : ℕ) (s : SeatState) → slice_get xs k ≡ Some s → set xs k s ≡ xs
+pub set_there : (xs : List SeatState) (k : ℕ) (s : SeatState) → slice_get xs k ≡ Some s → set xs k s ≡ xs
 set_there [] k s e = refl
 set_there (y ∷ ys) zero s e = ap (λ (o : SeatState). o ∷ ys) (sym (same_Some y s e))
 set_there (y ∷ ys) (suc k) s e = ap (λ (os : List SeatState). y ∷ os) (set_there ys k s e)
@@ -165,32 +165,13 @@ given_so p q k None before after there least g stays awaits is = record {
 }
 given_so p q k (Some i) before after there least g stays awaits is = gives_up_request p q k i before after there least g.1 g.0 stays awaits is
 
--- A chunk that is waited for was given back, or there was none to be.
-abbrev GivenBack : Option ℕ → SeatState → SeatState → Type 0
-GivenBack o before after = MatchOption o (after ≡ before) (λ i. (after ≡ record before { own = after.own }) × Changes i None before.own after.own)
-
-pub back_room : (o : Option ℕ) (before after : SeatState) → GivenBack o before after → after.told.chunks ≡ before.told.chunks
-back_room None before after g = ap (λ (s : SeatState). s.told.chunks) g
-back_room (Some i) before after g = ap (λ (s : SeatState). s.told.chunks) g.0
-
-pub back_so : (p q : SeatsState) (k : ℕ) (o : Option ℕ) (before after : SeatState) → slice_get p.seats k ≡ Some before → channel_at p.table k ≡ None
-    → MatchOption o (before.own ≡ []) (IsLeastAsked before.own) → GivenBack o before after
-    → q ≡ record p { seats = set p.seats k after } → MatchOption o (WaitsForNone k p q) (λ i. GivesBack k i p q)
-back_so p q k None before after there free least g is = record {
-  known = before;
-  there = there;
-  none = least;
-  same = is ∙ ap (λ (xs : List SeatState). record p { seats = xs }) (ap (set p.seats k) g ∙ set_there p.seats k before there);
-}
-back_so p q k (Some i) before after there free least g is = record {
+pub forgets_requests : (p q : SeatsState) (k : ℕ) (before : SeatState) → slice_get p.seats k ≡ Some before → channel_at p.table k ≡ None
+    → q ≡ record p { seats = set p.seats k (record before { own = [] }) } → ForgetsRequests k p q
+forgets_requests p q k before there free is = record {
   before = before;
-  after = after;
   there = there;
-  least = least;
-  taken = g.1;
-  exact = g.0;
   is = is;
-  stands = λ x most past h. subst (λ (o : SeatsState). StandsFor x most o past) (sym is) (free_changed x most p k after past free h);
+  stands = λ x most past h. subst (λ (o : SeatsState). StandsFor x most o past) (sym is) (free_changed x most p k (record before { own = [] }) past free h);
 }
 
 pub known_changes : KnownChanges

@@ -1,7 +1,7 @@
 -- What becomes of one seat, or of the setting, with no message.
 use Rattle.std.specs.Prelude.{◌≡◌, ℕ, ◌+◌, min, true, false, Some, None, List, slice_get, slice_set, []}
 use Rattle.pp_terms.specs.format.Traffic.{Record}
-use Rattle.pp_requests.specs.Moments.{Changes, IsLeastAsked, IsLeastExpired, NoneExpired}
+use Rattle.pp_requests.specs.Moments.{Changes, IsLeastExpired, NoneExpired}
 use Rattle.pp_seat.specs.Seats.{SeatState}
 use Rattle.pp_seats.specs.Standing.{SeatsState, Setting, StandsFor}
 
@@ -33,23 +33,12 @@ pub record HasNoneExpired (seat : ℕ) (old new : SeatsState) : Type 0 where
   pub none : NoneExpired known.own old.moment
   pub same : new ≡ old
 
--- The least chunk that this peer waits for on a seat without a channel was taken out.
-pub record GivesBack (seat i : ℕ) (old new : SeatsState) : Type 0 where
+-- What this peer waits for on a seat without a channel was given up.
+pub record ForgetsRequests (seat : ℕ) (old new : SeatsState) : Type 0 where
   pub before : SeatState
-  pub after : SeatState
   pub there : slice_get old.seats seat ≡ Some before
-  pub least : IsLeastAsked before.own i
-  pub taken : Changes i None before.own after.own
-  pub exact : after ≡ record before { own = after.own }
-  pub is : new ≡ record old { seats = slice_set old.seats seat after }
+  pub is : new ≡ record old { seats = slice_set old.seats seat (record before { own = [] }) }
   pub stands : (x : Setting) (most : ℕ) (past : List Record) → StandsFor x most old past → StandsFor x most new past
-
--- It waits for none there.
-pub record WaitsForNone (seat : ℕ) (old new : SeatsState) : Type 0 where
-  pub known : SeatState
-  pub there : slice_get old.seats seat ≡ Some known
-  pub none : known.own ≡ []
-  pub same : new ≡ old
 
 -- On a seat's channel a CHOKE is due if it has a slot, else an UNCHOKE.
 pub record Turns (seat : ℕ) (old new : SeatsState) : Type 0 where

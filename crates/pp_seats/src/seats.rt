@@ -173,7 +173,7 @@ impl Seats {
     }
 
     /// A DATA came on a seat's channel, whatever its bytes are worth. It answers whether this peer waited for the chunk.
-    pub fn heard_data(&mut self, seat: u8, chunk: u32) -> bool
+    pub fn heard_data(&mut self, seat: u8, chunk: u64) -> bool
         requires { seat < 64 }
         ensures { ChangesSeat seat (λ before after. IsAnswered chunk result before after
             × ((sent_at : ℕ) (bytes : List ℕ) → HearsAll self.old.moment (Data chunk sent_at bytes ∷ []) before after)) self.old self.new }

@@ -2,7 +2,7 @@
 
 ghost use Rattle.std.specs.Prelude.{◌≡◌, ◌<◌, None, Some, slice_get, MatchOption};
 ghost use Rattle.pp_channels.specs.Seats.{channel_at};
-ghost use Rattle.pp_seats.specs.Turning.{Rewinds, GivesUpRequest, HasNoneExpired, GivesBack, WaitsForNone, Turns};
+ghost use Rattle.pp_seats.specs.Turning.{Rewinds, GivesUpRequest, HasNoneExpired, ForgetsRequests, Turns};
 
 use crate::seats::Seats;
 use pp_seat::Seat;
@@ -33,14 +33,13 @@ impl Seats {
         self.seats[seat as usize].expired(self.moment)
     }
 
-    /// Takes out the least chunk that this peer waits for on a seat whose channel was dropped: it may be asked for elsewhere. None
-    /// where it waits for none there.
-    pub fn give_back(&mut self, seat: u8) -> Option<u32>
+    /// This peer waits for nothing any more on a seat whose channel was dropped.
+    pub fn forget_requests(&mut self, seat: u8)
         requires seat { seat < 64 }
         requires free { channel_at self.old.table seat ≡ None }
-        ensures { MatchOption result (WaitsForNone seat self.old self.new) (λ i. GivesBack seat i self.old self.new) }
+        ensures { ForgetsRequests seat self.old self.new }
     {
-        self.seats[seat as usize].give_back()
+        self.seats[seat as usize].forget_requests();
     }
 
     /// A CHOKE is due on a seat's channel if it has a slot, else an UNCHOKE.
