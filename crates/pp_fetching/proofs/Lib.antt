@@ -1,0 +1,4 @@
+pub mod GivenBack
+pub mod Counts
+pub mod Picked
+pub mod Owners

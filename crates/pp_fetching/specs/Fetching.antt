@@ -1,5 +1,5 @@
 -- Which chunks are asked for next, and of which seat.
-use Rattle.std.specs.Prelude.{◌≡◌, ◌⊎◌, ℕ, ◌+◌, ◌-◌, ◌^◌, ◌<◌, ◌≤◌, ◌==◌, Bool, true, false, ◌||◌, Option, Some, None, List, [], ◌∷◌, length, slice_set, slice_index_or}
+use Rattle.std.specs.Prelude.{◌≡◌, ◌⊎◌, ℕ, ◌-◌, ◌^◌, ◌<◌, ◌≤◌, ◌==◌, Bool, true, false, not, ◌&&◌, ◌||◌, Option, Some, None, List, [], ◌∷◌, length, slice_set, slice_index_or}
 use Rattle.std.specs.List.{list_any}
 use Rattle.pp_terms.specs.tree.Range.{Span, has, IsRunsFrom}
 use Rattle.pp_ranges.specs.Edits.{number_count}
@@ -29,6 +29,11 @@ with_request i s = with_asked (slice_set s.want.asked i true) s
 
 abbrev pub without_request : ℕ → FetchState → FetchState
 without_request i s = with_asked (slice_set s.want.asked i false) s
+
+-- The chunks that pass a test are asked for no more, and nothing else changed.
+pub record GivesBack (which : ℕ → Bool) (old new : FetchState) : Type 0 where
+  pub asked : (i : ℕ) → slice_index_or new.want.asked i false ≡ (slice_index_or old.want.asked i false && not (which i))
+  pub rest : new ≡ with_asked new.want.asked old
 
 -- The wanted chunk that the seat offers with the least rank and number; none where there is no such one.
 abbrev pub IsNextOf : Rank → (seat : ℕ) → FetchState → Option ℕ → Type 0

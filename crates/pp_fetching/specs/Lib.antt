@@ -1,1 +1,3 @@
 pub mod Fetching
+pub mod Owners
+pub mod Laws

@@ -7,9 +7,9 @@ ghost use Rattle.pp_requests.specs.Moments.{asked_at};
 ghost use Rattle.pp_avail.specs.Offers.{Deed, Offer, Leave, Tells};
 ghost use Rattle.pp_avail.specs.Offers as offers;
 ghost use Rattle.pp_wanting.specs.Wants.{is_wanted};
-ghost use Rattle.pp_fetching.specs.Fetching.{IsOnContent, with_asked, with_request, without_request, IsNextOf, HasPicked, ArePicked};
+ghost use Rattle.pp_fetching.specs.Fetching.{IsOnContent, with_request, without_request, GivesBack, IsNextOf, HasPicked, ArePicked};
 
-use pp_avail::Avail;
+use pp_avail::{Avail, Ranker};
 use pp_ranges::{ChunkRange, RangeList};
 use pp_requests::Asking;
 use pp_seat::Seat;
@@ -137,4 +137,89 @@ impl Fetching {
             self.wanting.give_back(i);
         }
     }
+
+    /// The chunks of a channel's own requests are asked for on no channel any more: it was choked or dropped. Those past the content
+    /// change nothing.
+    pub fn give_back_all(&mut self, entries: &[Asking])
+        ensures { GivesBack (λ i. is_some (asked_at entries.now i)) self.old self.new }
+    {
+        for entry in entries {
+            self.give_back(entry.chunk);
+        }
+    }
+
+    /// After the REQUESTs of these ranges were sent on a seat, or refused: each of their chunks for which the seat doesn't wait is
+    /// given back.
+    pub fn settle(&mut self, picks: &RangeList, seat: &Seat)
+        ensures { GivesBack (λ i. has picks.now i && not (is_some (asked_at seat.now.own i))) self.old self.new }
+    {
+        for n in 0..picks.count() {
+            self.settle_range(picks.range(n), seat);
+        }
+    }
+
+    // The same of one range.
+    fn settle_range(&mut self, range: ChunkRange, seat: &Seat)
+        ensures { GivesBack (λ i. within range i && not (is_some (asked_at seat.now.own i))) self.old self.new }
+    {
+        for i in u64::from(range.first())..u64::from(range.last()) + 1 {
+            self.settle_one(i as u32, seat);
+        }
+    }
+
+    // The same of one chunk.
+    fn settle_one(&mut self, i: u32, seat: &Seat)
+        ensures { GivesBack (λ k. i == k && not (is_some (asked_at seat.now.own k))) self.old self.new }
+    {
+        if !seat.awaits(i) {
+            self.give_back(i);
+        }
+    }
+
+    /// Picks chunks to ask of a seat, one after the other: each is the wanted one that the seat offers with the least rank and number,
+    /// and is noted as asked for at once. Picks as many as there is room for, or until the seat offers no wanted chunk. Answers the
+    /// chunks in as few ranges as there can be, in rising order.
+    pub fn pick(&mut self, seat: u8, room: u32, ranker: &Ranker) -> RangeList
+        requires seat { seat < 64 }
+        requires room { room ≤ 32 }
+        ensures in_turn { HasPicked ranker.now.kind seat room self.old result self.new }
+        ensures picked { ArePicked seat room self.old result self.new }
+    {
+        let mut picks = RangeList::new();
+        for _taken in 0..room {
+            let Some(i) = self.pick_one(seat, ranker) else {
+                return picks;
+            };
+            put(&mut picks, i);
+        }
+        picks
+    }
+
+    // Picks the next chunk of a seat, if there is one.
+    fn pick_one(&mut self, seat: u8, ranker: &Ranker) -> Option<u32>
+        requires { seat < 64 }
+        ensures content { IsOnContent self.old }
+        ensures next { IsNextOf ranker.now.kind seat self.old result }
+        ensures noted { MatchOption result (self.new ≡ self.old) (λ i. self.new ≡ with_request i self.old) }
+    {
+        let i = self.wanting.next(&self.avail, seat, ranker)?;
+        self.wanting.ask(i);
+        Some(i)
+    }
+}
+
+// Puts a chunk into a list that doesn't have it and has room for one range more.
+fn put(picks: &mut RangeList, i: u32)
+    requires room { length picks.old < 64 }
+    requires runs { IsRunsFrom 0 picks.old }
+    requires absent { has picks.old i ≡ false }
+    ensures each { (k : ℕ) → has picks.new k ≡ (i == k || has picks.old k) }
+    ensures count { number_count picks.new ≡ number_count picks.old + 1 }
+    ensures runs { IsRunsFrom 0 picks.new }
+    ensures few { length picks.new ≤ length picks.old + 1 }
+{
+    let Some(range) = ChunkRange::new(i, i) else {
+        return;
+    };
+    let _ = picks.insert(range);
 }

@@ -2,5 +2,7 @@
 #![tactic(auto)]
 
 mod fetching;
+mod laws;
 
 pub use fetching::Fetching;
+pub use laws::laws_of_fetching;
