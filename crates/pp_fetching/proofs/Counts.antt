@@ -1,7 +1,7 @@
 -- How many numbers a list of ranges has once one more was put in.
 use Rattle.std.proofs.Common.{◌≡◌, ◌⊎◌, inl, inr, ⊎_elim, ℕ, ◌+◌, ◌-◌, ◌<◌, ◌≤◌, eqb, nat_le, min, max, Bool, true, false, ◌&&◌, ◌||◌, Some, List, [], ◌∷◌, length, refl, sym, ◌∙◌, ap, arith}
 use Rattle.std.specs.Prelude.{Result, Ok, Err, OnOk, OnErr}
-use Rattle.std.proofs.lemmas.Bool.{cases_lt, cases_Bool, false≢true, eqb-true}
+use Rattle.std.proofs.lemmas.Bool.{or_parts, cases_lt, cases_Bool, false≢true, eqb-true}
 use Rattle.std.proofs.lemmas.Bool.Decides.{nat_tests}
 use Rattle.pp_terms.specs.tree.Range.{Span, within, has, IsRunsFrom}
 use Rattle.pp_ranges.specs.Edits.{joined, is_before, inserted, number_count}
@@ -11,10 +11,6 @@ use Rattle.pp_ranges.proofs.Lengths.{inserted_length}
 -- No number of the range is in the list.
 abbrev IsOutside : Span → List Span → Type 0
 IsOutside s xs = (k : ℕ) → within s k ≡ true → has xs k ≡ false
-
-or_parts : (a b : Bool) → (a || b) ≡ false → (a ≡ false) × (b ≡ false)
-or_parts true b h = absurd (false≢true (sym h))
-or_parts false b h = (refl, h)
 
 -- two ranges that don't meet, and between which no number lies, touch
 touching : (s x : Span) → s.first ≤ s.last → x.first ≤ x.last → is_before x s ≡ false → is_before s x ≡ false

@@ -5,6 +5,7 @@ use Rattle.std.proofs.lemmas.Bool.{cases_eq, cases_lt, eq-eqb}
 use Rattle.std.proofs.lemmas.Bool.Decides.{nat_tests}
 use Rattle.std.proofs.lemmas.List.{get_or-set_same, get_or-set_other, get_or_past, set_past, take_all}
 use Rattle.std.proofs.Math.Seq.{take-suc}
+use Rattle.std.proofs.Math.Bool.{and-or_distrib_right, and-true, and-false, or-false}
 use Rattle.pp_terms.specs.tree.Range.{Span, within, has}
 use Rattle.pp_requests.specs.declared.asking.Asking.{Asking}
 use Rattle.pp_requests.specs.Moments.{asked_at}
@@ -13,13 +14,9 @@ use Rattle.pp_fetching.specs.Fetching.{FetchState, with_asked, without_request, 
 
 -- ---- no chunk, one, and some after others
 
-and_not_none : (a : Bool) → a ≡ (a && true)
-and_not_none true = refl
-and_not_none false = refl
-
 pub none_back : (which : ℕ → Bool) (s : FetchState) → ((i : ℕ) → which i ≡ false) → GivesBack which s s
 none_back which s none = record {
-  asked = λ i. and_not_none (get_or s.want.asked i false) ∙ ap (λ (b : Bool). get_or s.want.asked i false && not b) (sym (none i));
+  asked = λ i. sym (and-true (get_or s.want.asked i false)) ∙ ap (λ (b : Bool). get_or s.want.asked i false && not b) (sym (none i));
   rest = refl;
 }
 
@@ -43,20 +40,16 @@ same_back p q old new back same = record {
 pub cleared : (xs : List Bool) (i k : ℕ) → get_or (set xs i false) k false ≡ (get_or xs k false && not (eqb i k))
 cleared xs i k = ⊎_elim
     (λ (same : i ≡ k). ap (λ (n : ℕ). get_or (set xs i false) n false) (sym same) ∙ here (cases_lt i (length xs))
-    ∙ sym (ap (λ (b : Bool). get_or xs k false && not b) (eq-eqb i k same) ∙ and_false (get_or xs k false)))
+    ∙ sym (ap (λ (b : Bool). get_or xs k false && not b) (eq-eqb i k same) ∙ and-false (get_or xs k false)))
     (λ other.
     let ne : k ≡ i → ⊥ = λ e. other (sym e) in
     let test : eqb i k ≡ false = grind (arith, nat_tests) in
-    get_or-set_other xs i k false false ne ∙ and_not_none (get_or xs k false) ∙ ap (λ (b : Bool). get_or xs k false && not b) (sym test))
+    get_or-set_other xs i k false false ne ∙ sym (and-true (get_or xs k false)) ∙ ap (λ (b : Bool). get_or xs k false && not b) (sym test))
     (cases_eq i k)
   where
     here : (i < length xs) ⊎ (length xs ≤ i) → get_or (set xs i false) i false ≡ false
     here (inl lt) = get_or-set_same xs i false false lt
     here (inr past) = ap (λ (ys : List Bool). get_or ys i false) (set_past xs i false past) ∙ get_or_past xs i false past
-
-    and_false : (a : Bool) → (a && false) ≡ false
-    and_false true = refl
-    and_false false = refl
 
 pub one_back : (i : ℕ) (old new : FetchState) → new ≡ without_request i old → GivesBack (λ k. eqb i k) old new
 one_back i old new is = record {
@@ -70,18 +63,14 @@ pub one_unless : (i : ℕ) (test : ℕ → Bool) (old new : FetchState)
     → GivesBack (λ k. eqb i k && not (test k)) old new
 one_unless i test old new (inl is) = same_back (λ k. eqb i k) (λ k. eqb i k && not (test k)) old new (one_back i old new is.1)
     (λ k. ⊎_elim
-    (λ (same : i ≡ k). sym (ap (λ (b : Bool). eqb i k && not b) (ap test (sym same) ∙ is.0) ∙ sym (and_not_none (eqb i k))))
+    (λ (same : i ≡ k). sym (ap (λ (b : Bool). eqb i k && not b) (ap test (sym same) ∙ is.0) ∙ and-true (eqb i k)))
     (λ other. let none : eqb i k ≡ false = grind (arith, nat_tests) in none ∙ sym (ap (λ (b : Bool). b && not (test k)) none))
     (cases_eq i k))
 one_unless i test old new (inr is) = subst (λ (s : FetchState). GivesBack (λ k. eqb i k && not (test k)) old s) (sym is.1)
     (none_back (λ k. eqb i k && not (test k)) old (λ k. ⊎_elim
-    (λ (same : i ≡ k). ap (λ (b : Bool). eqb i k && not b) (ap test (sym same) ∙ is.0) ∙ and_false (eqb i k))
+    (λ (same : i ≡ k). ap (λ (b : Bool). eqb i k && not b) (ap test (sym same) ∙ is.0) ∙ and-false (eqb i k))
     (λ other. let none : eqb i k ≡ false = grind (arith, nat_tests) in ap (λ (b : Bool). b && not (test k)) none)
     (cases_eq i k)))
-  where
-    and_false : (a : Bool) → (a && false) ≡ false
-    and_false true = refl
-    and_false false = refl
 
 -- ---- the chunks of own requests
 
@@ -110,13 +99,6 @@ entries_all xs n old new le back = same_back (λ i. is_some (asked_at (take n xs
 
 -- ---- the chunks of ranges that aren't awaited
 
-or_and : (a b c : Bool) → ((a && c) || (b && c)) ≡ ((a || b) && c)
-or_and true true true = refl
-or_and true true false = refl
-or_and true false true = refl
-or_and true false false = refl
-or_and false b c = refl
-
 -- of one range, from its first chunk on
 pub range_more : (first n : ℕ) (test : ℕ → Bool) (old mid new : FetchState) → first ≤ n
     → GivesBack (λ k. (nat_le first k && nat_lt k n) && not (test k)) old mid → GivesBack (λ k. eqb n k && not (test k)) mid new
@@ -124,7 +106,7 @@ pub range_more : (first n : ℕ) (test : ℕ → Bool) (old mid new : FetchState
 range_more first n test old mid new low back one =
     same_back (λ k. ((nat_le first k && nat_lt k n) && not (test k)) || (eqb n k && not (test k))) (λ k. (nat_le first k && nat_lt k (n + 1)) && not (test k)) old new
     (back_twice (λ k. (nat_le first k && nat_lt k n) && not (test k)) (λ k. eqb n k && not (test k)) old mid new back one)
-    (λ k. or_and (nat_le first k && nat_lt k n) (eqb n k) (not (test k)) ∙ ap (λ (b : Bool). b && not (test k)) (grown k))
+    (λ k. sym (and-or_distrib_right (nat_le first k && nat_lt k n) (eqb n k) (not (test k))) ∙ ap (λ (b : Bool). b && not (test k)) (grown k))
   where
     grown : (k : ℕ) → ((nat_le first k && nat_lt k n) || eqb n k) ≡ (nat_le first k && nat_lt k (n + 1))
     grown k = grind (arith, nat_tests)
@@ -149,12 +131,8 @@ ranges_more xs n x test old mid new lt at back one =
     let grown : take (n + 1) xs ≡ take n xs ++ x ∷ [] = ap (λ k. take k xs) more ∙ take-suc xs n x lt ∙ ap (λ z. take n xs ++ z ∷ []) (sym at) in
     same_back (λ i. (has (take n xs) i && not (test i)) || (within x i && not (test i))) (λ i. has (take (n + 1) xs) i && not (test i)) old new
     (back_twice (λ i. has (take n xs) i && not (test i)) (λ i. within x i && not (test i)) old mid new back one)
-    (λ i. or_and (has (take n xs) i) (within x i) (not (test i)) ∙ ap (λ (b : Bool). b && not (test i)) (sym
-    (ap (λ ys. has ys i) grown ∙ append_has (take n xs) (x ∷ []) i ∙ ap (λ (b : Bool). has (take n xs) i || b) (or_false (within x i)))))
-  where
-    or_false : (b : Bool) → (b || false) ≡ b
-    or_false true = refl
-    or_false false = refl
+    (λ i. sym (and-or_distrib_right (has (take n xs) i) (within x i) (not (test i))) ∙ ap (λ (b : Bool). b && not (test i)) (sym
+    (ap (λ ys. has ys i) grown ∙ append_has (take n xs) (x ∷ []) i ∙ ap (λ (b : Bool). has (take n xs) i || b) (or-false (within x i)))))
 
 pub ranges_all : (xs : List Span) (n : ℕ) (test : ℕ → Bool) (old new : FetchState) → length xs ≤ n
     → GivesBack (λ i. has (take n xs) i && not (test i)) old new → GivesBack (λ i. has xs i && not (test i)) old new

@@ -3,6 +3,7 @@ use Rattle.std.proofs.Common.{◌≡◌, ◌≢◌, ◌⊎◌, inl, inr, ℕ, �
 use Rattle.std.specs.Prelude.{is_some}
 use Rattle.std.proofs.lemmas.Bool.{cases_eq, eq-eqb, eqb-true, false≢true}
 use Rattle.std.proofs.lemmas.Bool.Decides.{nat_tests}
+use Rattle.std.proofs.Math.Bool.{and-true, and-false, or-true, or-false}
 use Rattle.pp_terms.specs.tree.Range.{Span, has, IsRunsFrom}
 use Rattle.pp_requests.specs.declared.asking.Asking.{Asking}
 use Rattle.pp_requests.specs.Moments.{asked_at, Changes}
@@ -24,28 +25,12 @@ owner_after seat was true owner = Some seat
 owner_after seat true false owner = None
 owner_after seat false false owner = owner
 
-and_false : (a : Bool) → (a && false) ≡ false
-and_false true = refl
-and_false false = refl
-
-and_true : (a : Bool) → (a && true) ≡ a
-and_true true = refl
-and_true false = refl
-
-or_true : (a : Bool) → (a || true) ≡ true
-or_true true = refl
-or_true false = refl
-
-or_false : (a : Bool) → (a || false) ≡ a
-or_false true = refl
-or_false false = refl
-
 noted_after : (seat : ℕ) (asked asked' was is : Bool) (owner : Option ℕ) → GoesAlong asked asked' was is → asked ≡ is_some owner
     → asked' ≡ is_some (owner_after seat was is owner)
-noted_after seat asked asked' true true owner goes noted = goes.noted ∙ or_true (asked && false)
-noted_after seat asked asked' false true owner goes noted = goes.noted ∙ or_true (asked && true)
-noted_after seat asked asked' true false owner goes noted = goes.noted ∙ or_false (asked && false) ∙ and_false asked
-noted_after seat asked asked' false false owner goes noted = goes.noted ∙ or_false (asked && true) ∙ and_true asked ∙ noted
+noted_after seat asked asked' true true owner goes noted = goes.noted ∙ or-true (asked && false)
+noted_after seat asked asked' false true owner goes noted = goes.noted ∙ or-true (asked && true)
+noted_after seat asked asked' true false owner goes noted = goes.noted ∙ or-false (asked && false) ∙ and-false asked
+noted_after seat asked asked' false false owner goes noted = goes.noted ∙ or-false (asked && true) ∙ and-true asked ∙ noted
 
 here_after : (seat : ℕ) (was is : Bool) (owner : Option ℕ) → was ≡ is_at seat owner → is ≡ is_at seat (owner_after seat was is owner)
 here_after seat true true owner e = sym (eq-eqb seat seat refl)
@@ -104,18 +89,18 @@ left : (i k : ℕ) (old new : List Asking) → Changes i None old new → awaits
 left i k old new changes = ap (λ (o : Option ℕ). is_some o) (changes k) ∙ of (eqb i k) (asked_at old k)
   where
     of : (b : Bool) (o : Option ℕ) → is_some (cond b None o) ≡ (is_some o && not b)
-    of true o = sym (and_false (is_some o))
-    of false o = sym (and_true (is_some o))
+    of true o = sym (and-false (is_some o))
+    of false o = sym (and-true (is_some o))
 
 taken_out : (asked asked' was is here : Bool) → asked' ≡ (asked && not here) → is ≡ (was && not here) → (here ≡ true → was ≡ true)
     → (was ≡ true → asked ≡ true) → GoesAlong asked asked' was is
 taken_out asked asked' was is here noted left awaited known = record { noted = noted ∙ of asked was here awaited known ∙ ap (λ (b : Bool). (asked && not was) || b) (sym left); begins = λ e f. absurd (false≢true (sym (left ∙ ap (λ (b : Bool). b && not here) f) ∙ e)) }
   where
     of : (a w h : Bool) → (h ≡ true → w ≡ true) → (w ≡ true → a ≡ true) → (a && not h) ≡ ((a && not w) || (w && not h))
-    of a true true p q = and_false a ∙ sym (or_false (a && false) ∙ and_false a)
-    of a true false p q = and_true a ∙ q refl ∙ sym (or_true (a && false))
+    of a true true p q = and-false a ∙ sym (or-false (a && false) ∙ and-false a)
+    of a true false p q = and-true a ∙ q refl ∙ sym (or-true (a && false))
     of a false true p q = absurd (false≢true (p refl))
-    of a false false p q = sym (or_false (a && true))
+    of a false false p q = sym (or-false (a && true))
 
 awaited_is_noted : (asked : List Bool) (own_of : ℕ → List Asking) (seat i : ℕ) → AreOwned asked own_of → awaits (own_of seat) i ≡ true
     → get_or asked i false ≡ true
@@ -140,8 +125,8 @@ stays_along asked was is same known = record {
 }
   where
     of : (a w : Bool) → (w ≡ true → a ≡ true) → a ≡ ((a && not w) || w)
-    of a true q = q refl ∙ sym (or_true (a && false))
-    of a false q = sym (or_false (a && true) ∙ and_true a)
+    of a true q = q refl ∙ sym (or-true (a && false))
+    of a false q = sym (or-false (a && true) ∙ and-true a)
 
 unawaited_stays : UnawaitedStays
 unawaited_stays seat i asked old new owned same changes absent = goes_on seat asked asked old new owned same
@@ -152,22 +137,22 @@ unawaited_stays seat i asked old new owned same changes absent = goes_on seat as
     of k (inl same) =
         let none : awaits (old seat) k ≡ false = ap (λ (m : ℕ). awaits (old seat) m) (sym same) ∙ absent in
         ap (λ (b : Bool). b && not (eqb i k)) none ∙ sym none
-    of k (inr other) = let test : eqb i k ≡ false = grind (arith, nat_tests) in ap (λ (b : Bool). awaits (old seat) k && not b) test ∙ and_true (awaits (old seat) k)
+    of k (inr other) = let test : eqb i k ≡ false = grind (arith, nat_tests) in ap (λ (b : Bool). awaits (old seat) k && not b) test ∙ and-true (awaits (old seat) k)
 
 cancelled_stays : CancelledStays
 cancelled_stays seat asked asked' old new owned same fewer noted = goes_on seat asked asked' old new owned same
     (λ k. of (get_or asked k false) (get_or asked' k false) (awaits (old seat) k) (awaits (new seat) k) (noted k) (fewer k) (awaited_is_noted asked old seat k owned))
   where
     of : (a a' w is : Bool) → a' ≡ (a && not (w && not is)) → (is ≡ true → w ≡ true) → (w ≡ true → a ≡ true) → GoesAlong a a' w is
-    of a a' true true e p q = record { noted = e ∙ and_true a ∙ q refl ∙ sym (or_true (a && false)); begins = λ f g. absurd (false≢true (sym g)) }
-    of a a' true false e p q = record { noted = e ∙ sym (or_false (a && false)); begins = λ f g. absurd (false≢true f) }
+    of a a' true true e p q = record { noted = e ∙ and-true a ∙ q refl ∙ sym (or-true (a && false)); begins = λ f g. absurd (false≢true (sym g)) }
+    of a a' true false e p q = record { noted = e ∙ sym (or-false (a && false)); begins = λ f g. absurd (false≢true f) }
     of a a' false true e p q = absurd (false≢true (p refl))
-    of a a' false false e p q = record { noted = e ∙ sym (or_false (a && true)); begins = λ f g. absurd (false≢true f) }
+    of a a' false false e p q = record { noted = e ∙ sym (or-false (a && true)); begins = λ f g. absurd (false≢true f) }
 
 dropped_stays : DroppedStays
 dropped_stays seat asked asked' old new owned same none noted = cancelled_stays seat asked asked' old new owned same
     (λ i e. absurd (false≢true (sym (nothing i) ∙ e)))
-    (λ i. noted i ∙ ap (λ (b : Bool). get_or asked i false && not b) (sym (and_true (awaits (old seat) i)) ∙ ap (λ (b : Bool). awaits (old seat) i && not b) (sym (nothing i))))
+    (λ i. noted i ∙ ap (λ (b : Bool). get_or asked i false && not b) (sym (and-true (awaits (old seat) i)) ∙ ap (λ (b : Bool). awaits (old seat) i && not b) (sym (nothing i))))
   where
     nothing : (i : ℕ) → awaits (new seat) i ≡ false
     nothing i = ap (λ (own : List Asking). awaits own i) none
@@ -181,12 +166,12 @@ asks_stay seat picks asked noted asked' old new owned same fresh picked others s
         → GoesAlong a a' w is
     of a n a' false w is fresh noted others settled known =
         let along = stays_along a w is (others refl) known in
-        record { noted = settled ∙ and_true n ∙ noted ∙ or_false a ∙ along.noted; begins = along.begins }
+        record { noted = settled ∙ and-true n ∙ noted ∙ or-false a ∙ along.noted; begins = along.begins }
     of a n a' true true is fresh noted others settled known = absurd (false≢true (sym (fresh refl) ∙ known refl))
     of a n a' true false true fresh noted others settled known =
-        record { noted = settled ∙ and_true n ∙ noted ∙ or_true a ∙ sym (or_true (a && true)); begins = λ e f. fresh refl }
+        record { noted = settled ∙ and-true n ∙ noted ∙ or-true a ∙ sym (or-true (a && true)); begins = λ e f. fresh refl }
     of a n a' true false false fresh noted others settled known =
-        record { noted = settled ∙ and_false n ∙ sym (or_false (a && true) ∙ and_true a ∙ fresh refl); begins = λ e f. absurd (false≢true e) }
+        record { noted = settled ∙ and-false n ∙ sym (or-false (a && true) ∙ and-true a ∙ fresh refl); begins = λ e f. absurd (false≢true e) }
 
 same_stays : SameStays
 same_stays asked asked' old new owned same noted = record {

@@ -1,9 +1,11 @@
 -- Chunks that are picked one after the other.
 use Rattle.std.proofs.Common.{◌≡◌, ◌⊎◌, inl, inr, ⊎_elim, ℕ, ◌+◌, ◌-◌, ◌<◌, ◌≤◌, eqb, nat_lt, Bool, true, false, not, ◌&&◌, ◌||◌, Some, None, List, [], ◌∷◌, ◌++◌, length, get_or, set, refl, sym, ◌∙◌, ap, subst, arith, length-append}
 use Rattle.std.specs.List.{list_any}
-use Rattle.std.proofs.lemmas.Bool.{cases_eq, and_parts, and_from, ltb-true, false≢true, eq-eqb}
+use Rattle.std.proofs.lemmas.Bool.{or_parts, or_right, not-true, cases_eq, and_parts, and_from, ltb-true, false≢true, eq-eqb}
 use Rattle.std.proofs.lemmas.Bool.Decides.{nat_tests}
 use Rattle.std.proofs.lemmas.List.{get_or-set_same, get_or-set_other}
+use Rattle.std.proofs.Math.Bool.{or-false}
+use Rattle.pp_ranges.proofs.Runs.{or_swap}
 use Rattle.pp_terms.specs.tree.Range.{Span, has, IsRunsFrom}
 use Rattle.pp_ranges.specs.Edits.{number_count}
 use Rattle.pp_avail.specs.declared.ranker.Rank.{Rank}
@@ -33,13 +35,7 @@ taken_in_turn kind seat room old now (i ∷ rest) taken few (inr none) =
 
 any_append : (xs : List ℕ) (x i : ℕ) → list_any (λ k. eqb k i) (xs ++ x ∷ []) ≡ (eqb x i || list_any (λ k. eqb k i) xs)
 any_append [] x i = refl
-any_append (y ∷ ys) x i = ap (λ (b : Bool). eqb y i || b) (any_append ys x i) ∙ swap (eqb y i) (eqb x i) (list_any (λ k. eqb k i) ys)
-  where
-    swap : (a b c : Bool) → (a || (b || c)) ≡ (b || (a || c))
-    swap true true c = refl
-    swap true false c = refl
-    swap false true c = refl
-    swap false false c = refl
+any_append (y ∷ ys) x i = ap (λ (b : Bool). eqb y i || b) (any_append ys x i) ∙ or_swap (eqb y i) (eqb x i) (list_any (λ k. eqb k i) ys)
 
 -- ---- the next chunk of a seat
 
@@ -60,15 +56,11 @@ fresh_next kind seat i old asked next =
     let parts = and_four len low missing free all.0 in
     record {
       inside = ltb-true i (length old.want.had) parts.0;
-      free = not_true (get_or asked i false) parts.3;
+      free = not-true (get_or asked i false) parts.3;
       whenever = λ none. and_from (is_wanted old.want i) given
           (four_and len low missing (not (get_or old.want.asked i false)) parts.0 parts.1 parts.2 (ap (λ (b : Bool). not b) none)) all.1;
     }
   where
-    not_true : (b : Bool) → not b ≡ true → b ≡ false
-    not_true true e = absurd (false≢true e)
-    not_true false e = refl
-
     and_four : (a b c d : Bool) → (a && b && c && d) ≡ true → (a ≡ true) × (b ≡ true) × (c ≡ true) × (d ≡ true)
     and_four true true true true e = (refl, refl, refl, refl)
     and_four true true true false e = absurd (false≢true e)
@@ -108,7 +100,7 @@ picked_none kind seat n old ranges zero_is none = record {
     wanted = λ i is. absurd (false≢true (sym (nothing i) ∙ is));
     inside = λ i is. absurd (false≢true (sym (nothing i) ∙ is));
     fresh = λ i is. absurd (false≢true (sym (nothing i) ∙ is));
-    asked = λ i. or_none (get_or old.want.asked i false) ∙ ap (λ (b : Bool). get_or old.want.asked i false || b) (sym (nothing i));
+    asked = λ i. sym (or-false (get_or old.want.asked i false)) ∙ ap (λ (b : Bool). get_or old.want.asked i false || b) (sym (nothing i));
     few = (let e = ap (λ (xs : List Span). number_count xs) none in omega arith);
     runs = subst (λ (xs : List Span). IsRunsFrom 0 xs) (sym none) tt;
     rest = refl;
@@ -118,20 +110,12 @@ picked_none kind seat n old ranges zero_is none = record {
     nothing : (i : ℕ) → has ranges i ≡ false
     nothing i = ap (λ (xs : List Span). has xs i) none
 
-    or_none : (a : Bool) → a ≡ (a || false)
-    or_none true = refl
-    or_none false = refl
-
 -- the next chunk, where some were picked
 pub next_after : (kind : Rank) (seat n i : ℕ) (old : FetchState) (ranges : List Span) (now : FetchState) → IsPickedTo kind seat n old ranges now
     → IsNextOf kind seat now (Some i) → IsFreshNext seat i old now.want.asked × (has ranges i ≡ false)
 next_after kind seat n i old ranges now so_far next =
     let fresh = fresh_next kind seat i old now.want.asked (subst (λ (s : FetchState). IsNextOf kind seat s (Some i)) so_far.picked.rest next) in
     (fresh, (or_parts (get_or old.want.asked i false) (has ranges i) (sym (so_far.picked.asked i) ∙ fresh.free)).1)
-  where
-    or_parts : (a b : Bool) → (a || b) ≡ false → (a ≡ false) × (b ≡ false)
-    or_parts true b h = absurd (false≢true (sym h))
-    or_parts false b h = (refl, h)
 
 -- what putting a chunk into the list does
 pub record HasPut (i : ℕ) (old new : List Span) : Type 0 where
@@ -173,11 +157,7 @@ picked_more kind seat n i old ranges now ranges' new so_far content next is put 
     fresh_i = next_after kind seat n i old ranges now so_far next
 
     free_before : get_or old.want.asked i false ≡ false
-    free_before = of (get_or old.want.asked i false) (has ranges i) (sym (so_far.picked.asked i) ∙ fresh_i.0.free)
-      where
-        of : (a b : Bool) → (a || b) ≡ false → a ≡ false
-        of true b h = absurd (false≢true (sym h))
-        of false b h = refl
+    free_before = (or_parts (get_or old.want.asked i false) (has ranges i) (sym (so_far.picked.asked i) ∙ fresh_i.0.free)).0
 
     cases : (k : ℕ) → has ranges' k ≡ true → (i ≡ k) ⊎ (has ranges k ≡ true)
     cases k there = ⊎_elim
@@ -212,14 +192,10 @@ picked_more kind seat n i old ranges now ranges' new so_far content next is put 
         let same = ap (λ (s : FetchState). length s.want.had) so_far.picked.rest in
         omega arith
 
-    or_true : (a b : Bool) → b ≡ true → (a || b) ≡ true
-    or_true true b e = refl
-    or_true false b e = e
-
     noted : (k : ℕ) → (i ≡ k) ⊎ (i ≡ k → ⊥) → get_or (set now.want.asked i true) k false ≡ (get_or old.want.asked k false || has ranges' k)
     noted k (inl same) =
         ap (λ (m : ℕ). get_or (set now.want.asked i true) m false) (sym same) ∙ get_or-set_same now.want.asked i true false within_asked
-        ∙ sym (or_true (get_or old.want.asked k false) (has ranges' k) (put.each k ∙ ap (λ (b : Bool). b || has ranges k) (eq-eqb i k same)))
+        ∙ sym (or_right (get_or old.want.asked k false) (has ranges' k) (put.each k ∙ ap (λ (b : Bool). b || has ranges k) (eq-eqb i k same)))
     noted k (inr other) =
         let ne : k ≡ i → ⊥ = λ e. other (sym e) in
         let none : eqb i k ≡ false = grind (arith, nat_tests) in

@@ -39,8 +39,8 @@ pub record GivesBack (which : ℕ → Bool) (old new : FetchState) : Type 0 wher
 abbrev pub IsNextOf : Rank → (seat : ℕ) → FetchState → Option ℕ → Type 0
 IsNextOf kind seat s result = IsNext kind s.want s.offers seat result
 
--- The chunks were picked one after the other, each the next of the seat then, and each was noted as asked for at once: as many as there
--- was room for, or until there was no next one.
+-- The chunks were picked one after the other, each the next of the seat then, and each was noted as asked for at once: as many as
+-- there was room for, or until there was no next one.
 abbrev pub PicksInTurn : Rank → (seat room : ℕ) → FetchState → List ℕ → FetchState → Type 0
 PicksInTurn kind seat room old [] new = (new ≡ old) × ((room ≡ 0) ⊎ IsNextOf kind seat old None)
 PicksInTurn kind seat room old (i ∷ rest) new =
@@ -53,8 +53,8 @@ pub record HasPicked (kind : Rank) (seat room : ℕ) (old : FetchState) (ranges 
   pub each : (i : ℕ) → has ranges i ≡ list_any (λ k. k == i) picks
   pub count : number_count ranges ≡ length picks
 
--- Each chunk of the ranges was wanted, not asked for, and offered by the seat; and is asked for from now on. There are no more of them
--- than there was room for, and no chunk is in two of the ranges. Nothing else changed.
+-- Each chunk of the ranges was wanted, not asked for, and offered by the seat; and is asked for from now on. There are no more of
+-- them than there was room for, and no chunk is in two of the ranges. Nothing else changed.
 pub record ArePicked (seat room : ℕ) (old : FetchState) (ranges : List Span) (new : FetchState) : Type 0 where
   pub wanted : (i : ℕ) → has ranges i ≡ true → is_for old.want old.offers seat i ≡ true
   pub inside : (i : ℕ) → has ranges i ≡ true → i < length old.want.had

@@ -9,10 +9,10 @@ use Rattle.pp_fetching.specs.Owners.{awaits, AreOwned, SameElsewhere}
 
 -- ---- how the tie stays, while one seat's own requests change and what is noted changes with them
 
--- It holds where nothing is noted, and no seat has own requests.
+-- Nothing is noted, and no seat has own requests.
 abbrev pub NoneOwned : Type 0
-NoneOwned = (asked : List Bool) (own_of : ℕ → List Asking) → ((i : ℕ) → slice_index_or asked i false ≡ false) → ((seat : ℕ) → own_of seat ≡ [])
-    → AreOwned asked own_of
+NoneOwned = (asked : List Bool) (own_of : ℕ → List Asking) → ((i : ℕ) → slice_index_or asked i false ≡ false)
+    → ((seat : ℕ) → own_of seat ≡ []) → AreOwned asked own_of
 
 -- A chunk that was awaited on the seat came, expired or was taken out there, and was given back.
 abbrev pub AnsweredStays : Type 0
@@ -26,10 +26,13 @@ UnawaitedStays = (seat i : ℕ) (asked : List Bool) (old new : ℕ → List Aski
 
 -- The seat has no own requests any more, and all that it had were given back.
 abbrev pub DroppedStays : Type 0
-DroppedStays = (seat : ℕ) (asked asked' : List Bool) (old new : ℕ → List Asking) → AreOwned asked old → SameElsewhere seat old new → new seat ≡ []
-    → ((i : ℕ) → slice_index_or asked' i false ≡ (slice_index_or asked i false && not (awaits (old seat) i))) → AreOwned asked' new
+DroppedStays = (seat : ℕ) (asked asked' : List Bool) (old new : ℕ → List Asking) → AreOwned asked old → SameElsewhere seat old new
+    → new seat ≡ []
+    → ((i : ℕ) → slice_index_or asked' i false ≡ (slice_index_or asked i false && not (awaits (old seat) i)))
+    → AreOwned asked' new
 
--- Chunks that weren't asked for were picked and noted, own requests of some of them came in at the seat, and the others were given back.
+-- Chunks that weren't asked for were picked and noted, own requests of some of them came in at the seat, and the others were
+-- given back.
 abbrev pub AsksStay : Type 0
 AsksStay = (seat : ℕ) (picks : List Span) (asked noted asked' : List Bool) (old new : ℕ → List Asking) → AreOwned asked old
     → SameElsewhere seat old new
@@ -41,9 +44,11 @@ AsksStay = (seat : ℕ) (picks : List Span) (asked noted asked' : List Bool) (ol
 
 -- Own requests left the seat and none came in, as with CANCELs, and those that left were given back.
 abbrev pub CancelledStays : Type 0
-CancelledStays = (seat : ℕ) (asked asked' : List Bool) (old new : ℕ → List Asking) → AreOwned asked old → SameElsewhere seat old new
+CancelledStays = (seat : ℕ) (asked asked' : List Bool) (old new : ℕ → List Asking) → AreOwned asked old
+    → SameElsewhere seat old new
     → ((i : ℕ) → awaits (new seat) i ≡ true → awaits (old seat) i ≡ true)
-    → ((i : ℕ) → slice_index_or asked' i false ≡ (slice_index_or asked i false && not (awaits (old seat) i && not (awaits (new seat) i))))
+    → ((i : ℕ) → slice_index_or asked' i false
+    ≡ (slice_index_or asked i false && not (awaits (old seat) i && not (awaits (new seat) i))))
     → AreOwned asked' new
 
 -- Own requests and notes stay, whatever else changes of them, as the moments of the requests.
@@ -66,18 +71,18 @@ pub record TieStays : Type 0 where
 
 -- A chunk that isn't asked for is awaited on no seat.
 abbrev pub NotElsewhere : Type 0
-NotElsewhere = (asked : List Bool) (own_of : ℕ → List Asking) (seat i : ℕ) → AreOwned asked own_of → slice_index_or asked i false ≡ false
-    → asked_at (own_of seat) i ≡ None
+NotElsewhere = (asked : List Bool) (own_of : ℕ → List Asking) (seat i : ℕ) → AreOwned asked own_of
+    → slice_index_or asked i false ≡ false → asked_at (own_of seat) i ≡ None
 
--- A chunk that is awaited on a seat is asked for, and is one of the content.
+-- A chunk that is awaited on a seat is asked for.
 abbrev pub AwaitedIsAsked : Type 0
-AwaitedIsAsked = (asked : List Bool) (own_of : ℕ → List Asking) (seat i : ℕ) → AreOwned asked own_of → awaits (own_of seat) i ≡ true
-    → slice_index_or asked i false ≡ true
+AwaitedIsAsked = (asked : List Bool) (own_of : ℕ → List Asking) (seat i : ℕ) → AreOwned asked own_of
+    → awaits (own_of seat) i ≡ true → slice_index_or asked i false ≡ true
 
 -- No chunk is awaited on two seats.
 abbrev pub OnOneSeat : Type 0
-OnOneSeat = (asked : List Bool) (own_of : ℕ → List Asking) (one other i : ℕ) → AreOwned asked own_of → awaits (own_of one) i ≡ true
-    → awaits (own_of other) i ≡ true → one ≡ other
+OnOneSeat = (asked : List Bool) (own_of : ℕ → List Asking) (one other i : ℕ) → AreOwned asked own_of
+    → awaits (own_of one) i ≡ true → awaits (own_of other) i ≡ true → one ≡ other
 
 -- no chunk is in two of the ranges
 abbrev pub AreApart : List Span → Type 0

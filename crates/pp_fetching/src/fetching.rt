@@ -34,12 +34,13 @@ impl Model for Fetching {
 
     ghost view = { λ f. record { want = f.wanting; offers = f.avail } };
 
-    ghost invariant = { λ f. (f.chunks ≡ length f.wanting.had) × IsOnContent (record { want = f.wanting; offers = f.avail }) };
+    ghost invariant = { λ f.
+        (f.chunks ≡ length f.wanting.had) × IsOnContent (record { want = f.wanting; offers = f.avail }) };
 }
 
 impl Fetching {
-    /// Nothing is asked for, no seat offers any chunk, and all chunks of the content, 1 to 2^20, may be asked for but those that are
-    /// held: committed or pending.
+    /// Nothing is asked for, no seat offers any chunk, and all chunks of the content, 1 to 2^20, may be asked for but those that
+    /// are held: committed or pending.
     pub fn new(alloc: Global, chunks: u32, held: &ChunkSet) -> Result<Fetching, AllocError>
         requires some { 0 < chunks }
         requires most { chunks ≤ 2 ^ 20 }
@@ -103,8 +104,10 @@ impl Fetching {
         requires inside { range.last < length self.old.want.had }
         ensures rest { self.new ≡ record self.old { offers = self.new.offers } }
         ensures chunks { self.new.offers.chunks ≡ self.old.offers.chunks }
-        ensures seats { (s i : ℕ) → offers.has self.new.offers s i ≡ (offers.has self.old.offers s i || (s == seat && within range i)) }
-        ensures deeds { (deeds : List Deed) → Tells deeds self.old.offers → Tells (Offer seat range ∷ deeds) self.new.offers }
+        ensures seats { (s i : ℕ) → offers.has self.new.offers s i
+            ≡ (offers.has self.old.offers s i || (s == seat && within range i)) }
+        ensures deeds { (deeds : List Deed) → Tells deeds self.old.offers
+            → Tells (Offer seat range ∷ deeds) self.new.offers }
     {
         self.avail.offer(seat, range);
     }
@@ -114,8 +117,10 @@ impl Fetching {
         requires seat { seat < 64 }
         ensures rest { self.new ≡ record self.old { offers = self.new.offers } }
         ensures chunks { self.new.offers.chunks ≡ self.old.offers.chunks }
-        ensures seats { (s i : ℕ) → offers.has self.new.offers s i ≡ (not (s == seat) && offers.has self.old.offers s i) }
-        ensures deeds { (deeds : List Deed) → Tells deeds self.old.offers → Tells (Leave seat ∷ deeds) self.new.offers }
+        ensures seats { (s i : ℕ) → offers.has self.new.offers s i
+            ≡ (not (s == seat) && offers.has self.old.offers s i) }
+        ensures deeds { (deeds : List Deed) → Tells deeds self.old.offers
+            → Tells (Leave seat ∷ deeds) self.new.offers }
     {
         self.avail.leave(seat);
     }
@@ -123,13 +128,14 @@ impl Fetching {
     /// The peer has a chunk: it was stored.
     pub fn got(&mut self, i: u32)
         requires { i < length self.old.want.had }
-        ensures { self.new ≡ record self.old { want = record self.old.want { had = slice_set self.old.want.had i true } } }
+        ensures { self.new
+            ≡ record self.old { want = record self.old.want { had = slice_set self.old.want.had i true } } }
     {
         self.wanting.got(i);
     }
 
-    /// A chunk is asked for on no channel any more: it came, its request expired, or it was cancelled. A number past the content changes
-    /// nothing.
+    /// A chunk is asked for on no channel any more: it came, its request expired, or it was cancelled. A number past the content
+    /// changes nothing.
     pub fn give_back(&mut self, i: u32)
         ensures { self.new ≡ without_request i self.old }
     {
@@ -138,8 +144,8 @@ impl Fetching {
         }
     }
 
-    /// The chunks of a channel's own requests are asked for on no channel any more: it was choked or dropped. Those past the content
-    /// change nothing.
+    /// The chunks of a channel's own requests are asked for on no channel any more: a CHOKE came (RFC 7574, section 3.9), or the
+    /// channel was dropped. Those past the content change nothing.
     pub fn give_back_all(&mut self, entries: &[Asking])
         ensures { GivesBack (λ i. is_some (asked_at entries.now i)) self.old self.new }
     {
@@ -148,8 +154,8 @@ impl Fetching {
         }
     }
 
-    /// After the REQUESTs of these ranges were sent on a seat, or refused: each of their chunks for which the seat doesn't wait is
-    /// given back.
+    /// After the REQUESTs of these ranges were sent on a seat, or refused: each of their chunks for which the seat doesn't wait
+    /// is given back.
     pub fn settle(&mut self, picks: &RangeList, seat: &Seat)
         ensures { GivesBack (λ i. has picks.now i && not (is_some (asked_at seat.now.own i))) self.old self.new }
     {
@@ -176,9 +182,9 @@ impl Fetching {
         }
     }
 
-    /// Picks chunks to ask of a seat, one after the other: each is the wanted one that the seat offers with the least rank and number,
-    /// and is noted as asked for at once. Picks as many as there is room for, or until the seat offers no wanted chunk. Answers the
-    /// chunks in as few ranges as there can be, in rising order.
+    /// Picks chunks to ask of a seat, one after the other: each is the wanted one that the seat offers with the least rank and
+    /// number, and is noted as asked for at once. Picks as many as there is room for, or until the seat offers no wanted chunk.
+    /// Answers the chunks in as few ranges as there can be, in rising order.
     pub fn pick(&mut self, seat: u8, room: u32, ranker: &Ranker) -> RangeList
         requires seat { seat < 64 }
         requires room { room ≤ 32 }
