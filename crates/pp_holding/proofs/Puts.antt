@@ -29,7 +29,7 @@ use Rattle.pp_store.proofs.Puttings.{either_case}
 use Rattle.pp_promises.specs.Batches.{most_pending, after_commit, after_puts}
 use Rattle.pp_holding.specs.declared.queue.Ticket.{Ticket}
 use Rattle.pp_holding.specs.declared.queue.Waiting.{Waiting}
-use Rattle.pp_holding.specs.Queue.{QueueState, most_tickets, waiting_at, with_waiting, with_tickets, tickets_of, pending_of, released}
+use Rattle.pp_holding.specs.Queue.{QueueState, HasRoom, GrowsByOne, most_tickets, waiting_at, with_waiting, with_tickets, tickets_of, pending_of, released, with_repeat}
 use Rattle.pp_holding.specs.Stock.{Advances}
 use Rattle.pp_holding.specs.Holding.{HoldingState, batch_from, batch_of, stock_of, HasWaiting, AreTied}
 use Rattle.pp_holding.specs.Answers.{answer_to, learned_from, FitsUnheld, stored_by, waiting_with, is_filled_by, queue_after}
@@ -129,38 +129,46 @@ tickets_many waiting = length-map (reverse waiting) (λ w. w.ticket) ∙ length-
 
 -- an answer adds at most one to what waits and what is to be acknowledged
 pub record HasRoomLeft (old new : QueueState) : Type 0 where
-  pub one : length new.tickets + length new.waiting ≤ length old.tickets + length old.waiting + 1
-  pub few : length new.tickets ≤ most_tickets
+  pub one : GrowsByOne old new
+  pub few : HasRoom new
 
-waits_room : (w : Waiting) (q : QueueState) → length q.tickets ≤ most_tickets → HasRoomLeft q (with_waiting w q)
-waits_room w q few = record { one = omega arith; few = few }
+waits_room : (w : Waiting) (q : QueueState) → HasRoom q → HasRoomLeft q (with_waiting w q)
+waits_room w q few = record { one = record { news = omega arith; repeats = omega arith; all = omega arith }; few = record { tickets = few.tickets; repeats = few.repeats } }
 
-released_room : (w : Waiting) (q : QueueState) → HasRoomLeft q (released (with_waiting w q))
-released_room w q =
-    let some = with_few q.tickets (tickets_of (w ∷ q.waiting)) in let many = tickets_many (w ∷ q.waiting) in
-    record { one = omega (arith, some.0, many); few = some.1 }
+released_room : (w : Waiting) (q : QueueState) → HasRoom q → HasRoomLeft q (released (with_waiting w q))
+released_room w q few =
+    let some = with_few q.tickets (tickets_of (w ∷ q.waiting)) in let many = tickets_many (w ∷ q.waiting) in record {
+      one = record { news = omega (arith, some.0, many); repeats = omega arith; all = omega (arith, some.0, many) };
+      few = record { tickets = some.1; repeats = few.repeats };
+    }
 
-same_room : (q : QueueState) → length q.tickets ≤ most_tickets → HasRoomLeft q q
-same_room q few = record { one = omega arith; few = few }
+repeated_room : (ticket : Ticket) (q : QueueState) → HasRoom q → HasRoomLeft q (with_repeat ticket q)
+repeated_room ticket q few =
+    let some = with_few q.repeats (ticket ∷ []) in record {
+      one = record { news = omega arith; repeats = omega (arith, some.0); all = omega (arith, some.0) };
+      few = record { tickets = few.tickets; repeats = some.1 };
+    }
 
-queue_room : (put : Put) (is : Bool) (ticket : Ticket) (at : ℕ) (q : QueueState) → length q.tickets ≤ most_tickets → HasRoomLeft q (queue_after put is ticket at q)
+same_room : (q : QueueState) → HasRoom q → HasRoomLeft q q
+same_room q few = record { one = record { news = omega arith; repeats = omega arith; all = omega arith }; few = few }
+
+queue_room : (put : Put) (is : Bool) (ticket : Ticket) (at : ℕ) (q : QueueState) → HasRoom q → HasRoomLeft q (queue_after put is ticket at q)
 queue_room Stored is ticket at q few = pick (is_filled_by Stored q.waiting)
   where
     pick : (b : Bool) → HasRoomLeft q (let more = with_waiting (waiting_at ticket at) q in if b then released more else more)
-    pick true = released_room (waiting_at ticket at) q
+    pick true = released_room (waiting_at ticket at) q few
     pick false = waits_room (waiting_at ticket at) q few
-queue_room Held true ticket at q few =
-    let some = with_few q.tickets (ticket ∷ []) in record { one = omega (arith, some.0); few = some.1 }
+queue_room Held true ticket at q few = repeated_room ticket q few
 queue_room Held false ticket at q few = same_room q few
 queue_room (Missing node) is ticket at q few = same_room q few
 queue_room (Wrong node found kept) is ticket at q few = same_room q few
 queue_room (Length found want) is ticket at q few = same_room q few
 
-pub few_tickets : (result : Result Put DiskFault) (put : Put) (is : Bool) (ticket : Ticket) (at : ℕ) (s s' : StoreState) (q q' : QueueState) → length q.tickets ≤ most_tickets
+pub few_tickets : (result : Result Put DiskFault) (put : Put) (is : Bool) (ticket : Ticket) (at : ℕ) (s s' : StoreState) (q q' : QueueState) → HasRoom q
     → OnOk result (q' ≡ queue_after put is ticket at q) → OnErr result ((s' ≡ record s { live = false }) × (q' ≡ with_waiting (waiting_at ticket at) q))
-    → length q'.tickets ≤ most_tickets
-few_tickets (Ok x) put is ticket at s s' q q' few ok err = subst (λ (x : QueueState). length x.tickets ≤ most_tickets) (sym ok) (queue_room put is ticket at q few).few
-few_tickets (Err x) put is ticket at s s' q q' few ok err = subst (λ (x : QueueState). length x.tickets ≤ most_tickets) (sym err.1) few
+    → HasRoom q'
+few_tickets (Ok x) put is ticket at s s' q q' few ok err = subst (λ (x : QueueState). HasRoom x) (sym ok) (queue_room put is ticket at q few).few
+few_tickets (Err x) put is ticket at s s' q q' few ok err = subst (λ (x : QueueState). HasRoom x) (sym err.1) (waits_room (waiting_at ticket at) q few).few
 
 pub dead_after : (result : Result Put DiskFault) (s s' : StoreState) (q q' : QueueState) → OnErr result ((s' ≡ record s { live = false }) × (q' ≡ q))
     → OnErr result (s'.live ≡ false)
@@ -174,11 +182,12 @@ pub record PutDone (s s' : HoldingState) (claims : LookUp) (ticket : Ticket) (at
   pub refused : OnErr result (s.store.live ≡ true → answer_to s claims ticket.chunk bytes ≡ Stored)
   pub batch : IfOk result (λ put. batch_of s' ≡ after_puts (stored_by put ticket.chunk) at (batch_of s))
   pub queue : IfOk result (λ put. s'.queue ≡ queue_after put (is_committed s.store ticket.chunk) ticket at s.queue)
-  pub failed : OnErr result ((s'.store.live ≡ false) × (s'.store.committed ≡ s.store.committed) × (s'.queue.tickets ≡ s.queue.tickets))
+  pub failed : OnErr result ((s'.store.live ≡ false) × (s'.store.committed ≡ s.store.committed) × (s'.queue.tickets ≡ s.queue.tickets)
+      × (s'.queue.repeats ≡ s.queue.repeats))
   pub untouched : (result ≡ Ok Stored → ⊥) → IsOk result → (s'.store ≡ s.store) × (disk' ≡ disk)
   pub held : s.store.live ≡ true → FitsUnheld s claims ticket.chunk bytes → (is_held s'.store ticket.chunk ≡ true) ⊎ HasRisen disk.hard disk'.hard
   pub learned : s.store.live ≡ true → (k j : ℕ) → entry s'.book k j ≡ learned_from s claims ticket.chunk bytes k j
-  pub room : length s'.queue.tickets + length s'.queue.waiting ≤ length s.queue.tickets + length s.queue.waiting + 1
+  pub room : GrowsByOne s.queue s'.queue
   pub advances : Advances (stock_of s disk) (stock_of s' disk')
 
 fits_stored : (s : HoldingState) (claims : LookUp) (i : ℕ) (bytes : List ℕ) → FitsUnheld s claims i bytes → answer_to s claims i bytes ≡ Stored
@@ -287,6 +296,7 @@ module _ (store store1 store2 : StoreState) (book book1 : BookState) (queue queu
       ap (λ (x : StoreState). x.live) is.0,
       ap (λ (x : StoreState). x.committed) is.0 ∙ committed_is,
       ap (λ (q : QueueState). q.tickets) is.1,
+      ap (λ (q : QueueState). q.repeats) is.1,
     )) dead;
     untouched = λ differ ok.
         let other : put ≡ Stored → ⊥ = ok_other result same differ ok in

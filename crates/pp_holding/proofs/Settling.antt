@@ -5,7 +5,7 @@ use Rattle.pp_outside.specs.declared.disk.DiskFault.{DiskFault}
 use Rattle.pp_store.specs.Store.{StoreState}
 use Rattle.pp_promises.specs.Batches.{most_pending}
 use Rattle.pp_holding.specs.declared.queue.Waiting.{Waiting}
-use Rattle.pp_holding.specs.Queue.{QueueState, most_tickets, tickets_of, with_tickets, released}
+use Rattle.pp_holding.specs.Queue.{QueueState, HasRoom, tickets_of, with_tickets, released}
 use Rattle.pp_holding.proofs.Tickets.{add_nothing}
 use Rattle.pp_holding.proofs.Puts.{with_few}
 
@@ -23,24 +23,25 @@ pub dead_settled : (result : Result (Unit {0}) DiskFault) (s s' : StoreState) (q
 dead_settled (Ok x) s s' q q' dead = tt
 dead_settled (Err x) s s' q q' dead = ap (λ (x : StoreState). x.live) dead.0
 
-pub room_settled : (result : Result (Unit {0}) DiskFault) (due : Bool) (s s' : StoreState) (q q' : QueueState) → length q.tickets ≤ most_tickets
-    → OnOk result (q' ≡ (if due then released q else q)) → OnErr result ((s' ≡ record s { live = false }) × (q' ≡ q)) → length q'.tickets ≤ most_tickets
-room_settled (Ok x) due s s' q q' few is dead = subst (λ (x : QueueState). length x.tickets ≤ most_tickets) (sym is) (pick due)
+pub room_settled : (result : Result (Unit {0}) DiskFault) (due : Bool) (s s' : StoreState) (q q' : QueueState) → HasRoom q
+    → OnOk result (q' ≡ (if due then released q else q)) → OnErr result ((s' ≡ record s { live = false }) × (q' ≡ q)) → HasRoom q'
+room_settled (Ok x) due s s' q q' few is dead = subst (λ (x : QueueState). HasRoom x) (sym is) (pick due)
   where
-    pick : (b : Bool) → length (if b then released q else q).tickets ≤ most_tickets
-    pick true = (with_few q.tickets (tickets_of q.waiting)).1
+    pick : (b : Bool) → HasRoom (if b then released q else q)
+    pick true = record { tickets = (with_few q.tickets (tickets_of q.waiting)).1; repeats = few.repeats }
     pick false = few
-room_settled (Err x) due s s' q q' few is dead = subst (λ (x : QueueState). length x.tickets ≤ most_tickets) (sym dead.1) few
+room_settled (Err x) due s s' q q' few is dead = subst (λ (x : QueueState). HasRoom x) (sym dead.1) few
 
 -- with nothing that waits
-pub same_queue : (result : Result (Unit {0}) DiskFault) (due : Bool) (q q' : QueueState) → length q.tickets ≤ most_tickets → q.waiting ≡ [] → result ≡ Ok tt
+pub same_queue : (result : Result (Unit {0}) DiskFault) (due : Bool) (q q' : QueueState) → HasRoom q → q.waiting ≡ [] → result ≡ Ok tt
     → OnOk result (q' ≡ (if due then released q else q)) → q' ≡ q
 same_queue (Ok x) due q q' few none ok is = is ∙ pick due
   where
     pick : (b : Bool) → (if b then released q else q) ≡ q
     pick true = λ t. record {
       waiting = sym none t;
-      tickets = (ap (λ (ws : List Waiting). with_tickets q.tickets (tickets_of ws)) none ∙ sym (add_nothing q.tickets few)) t;
+      tickets = (ap (λ (ws : List Waiting). with_tickets q.tickets (tickets_of ws)) none ∙ sym (add_nothing q.tickets few.tickets)) t;
+      repeats = q.repeats;
     }
     pick false = λ t. q
 same_queue (Err x) due q q' few none ok is = absurd cc

@@ -1,12 +1,12 @@
 -- A holding's parts stay tied.
-use Rattle.std.proofs.Common.{◌≡◌, ◌<◌, ◌≤◌, true, false, Some, length, Result, Ok, Err, sym, ◌∙◌, ap, subst}
+use Rattle.std.proofs.Common.{◌≡◌, ◌<◌, true, false, Some, length, Result, Ok, Err, sym, ◌∙◌, ap, subst}
 use Rattle.std.specs.Prelude.{OnOk, OnErr}
 use Rattle.pp_terms.specs.tree.Book.{IsRooted}
 use Rattle.pp_terms.specs.format.Descriptor.{Descriptor}
 use Rattle.pp_tree.specs.Book.{BookState, entry, IsBookOf}
 use Rattle.pp_store.specs.Store.{StoreState, KnowsHeld}
 use Rattle.pp_promises.specs.Batches.{most_pending}
-use Rattle.pp_holding.specs.Queue.{QueueState, most_tickets}
+use Rattle.pp_holding.specs.Queue.{QueueState, HasRoom}
 use Rattle.pp_holding.specs.Holding.{HasWaiting, AreTied}
 use Rattle.pp_holding.proofs.Waitings.{waiting_same}
 
@@ -33,7 +33,7 @@ tied_refused store store' book book' queue tied dead is knows = record {
 -- what a call leaves that may have committed
 pub tied_after : {T E : Type 0} (store' : StoreState) (book : BookState) (queue : QueueState) (result : Result T E) → IsBookOf store'.descriptor book
     → KnowsHeld store' (entry book) → HasWaiting store' queue.waiting → OnOk result (length queue.waiting < most_pending)
-    → OnErr result (store'.live ≡ false) → length queue.tickets ≤ most_tickets → AreTied (record { store = store'; book = book; queue = queue })
+    → OnErr result (store'.live ≡ false) → HasRoom queue → AreTied (record { store = store'; book = book; queue = queue })
 tied_after {T} {E} store' book queue result is knows waits few dead room = record {
   book_is = is;
   knows = knows;

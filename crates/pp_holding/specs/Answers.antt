@@ -14,7 +14,7 @@ use Rattle.pp_store.specs.Store.{is_held}
 use Rattle.pp_promises.specs.Batches.{most_pending}
 use Rattle.pp_holding.specs.declared.queue.Ticket.{Ticket}
 use Rattle.pp_holding.specs.declared.queue.Waiting.{Waiting}
-use Rattle.pp_holding.specs.Queue.{QueueState, waiting_at, released, with_waiting, with_ticket}
+use Rattle.pp_holding.specs.Queue.{QueueState, waiting_at, released, with_waiting, with_repeat}
 use Rattle.pp_holding.specs.Holding.{HoldingState}
 
 -- the answer to bytes that came as a chunk, by what is held and by the claims; and what the book has afterwards
@@ -61,7 +61,7 @@ after_stored ticket at q =
 
 -- The sender of a chunk that is committed already is acknowledged again; for one that is pending nothing is done.
 abbrev pub after_held : (is_committed : Bool) → Ticket → QueueState → QueueState
-after_held is_committed ticket q = if is_committed then with_ticket ticket q else q
+after_held is_committed ticket q = if is_committed then with_repeat ticket q else q
 
 -- what an answer does to the queue
 abbrev pub queue_after : Put → (is_committed : Bool) → Ticket → (at : ℕ) → QueueState → QueueState

@@ -7,7 +7,7 @@ use Rattle.pp_tree.specs.Book.{BookState, entry, IsBookOf}
 use Rattle.pp_store.specs.Store.{StoreState, KnowsHeld}
 use Rattle.pp_promises.specs.Batches.{Batch, most_pending}
 use Rattle.pp_holding.specs.declared.queue.Waiting.{Waiting}
-use Rattle.pp_holding.specs.Queue.{QueueState, most_tickets, pending_of}
+use Rattle.pp_holding.specs.Queue.{QueueState, HasRoom, pending_of}
 use Rattle.pp_holding.specs.Stock.{Stock}
 
 -- An open store and its book; the chunks that are pending, and whom to acknowledge.
@@ -46,7 +46,7 @@ pub record AreTied (s : HoldingState) : Type 0 where
   pub knows : KnowsHeld s.store (entry s.book)
   pub waits : HasWaiting s.store s.queue.waiting
   pub few : s.store.live ≡ true → length s.queue.waiting < most_pending
-  pub room : length s.queue.tickets ≤ most_tickets
+  pub room : HasRoom s.queue
 
 -- The number is how many chunks are neither committed nor pending.
 abbrev pub IsLeft : HoldingState → ℕ → Type 0

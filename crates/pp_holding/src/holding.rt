@@ -16,7 +16,7 @@ ghost use Rattle.pp_store.specs.Sound.{StaysSound};
 ghost use Rattle.pp_store.specs.Store.{is_committed, is_held, KnowsHeld, IsOpened, GoesOn};
 ghost use Rattle.pp_holding.specs.Opening.{HasBegun, IsOpenFault};
 ghost use Rattle.pp_promises.specs.Batches.{most_pending, is_full, is_due, is_all_in, after_commit, after_puts, after_read};
-ghost use Rattle.pp_holding.specs.Queue.{empty_queue, waiting_at, released, with_waiting};
+ghost use Rattle.pp_holding.specs.Queue.{empty_queue, waiting_at, released, with_waiting, HasRoom, GrowsByOne};
 ghost use Rattle.pp_holding.specs.Stock.{IsKept, Advances};
 ghost use Rattle.pp_holding.specs.Holding.{batch_from, batch_of, stock_of, HasWaiting, AreTied, IsLeft};
 ghost use Rattle.pp_holding.specs.Answers.{answer_to, learned_from, stored_by, waiting_with, is_filled_by, queue_after, queue_settled, FitsUnheld};
@@ -38,8 +38,8 @@ pub struct Parcel<'a> {
     pub at: u64,
 }
 
-/// What a peer holds: its open store and the store's book, the chunks that are pending, and the tickets of what was committed since
-/// they were last taken.
+/// What a peer holds: its open store and the store's book, the chunks that are pending, and the tickets of what was committed, or came
+/// again, since they were last taken.
 #[derive(Drop)]
 pub struct Holding {
     store: Store,
@@ -212,7 +212,7 @@ impl Holding {
 
     /// Takes bytes that came as a chunk. The store judges them by its book and by what is claimed; where they are the chunk they are
     /// written, and the chunk is pending. With 64 chunks pending all are committed at once, and then each sender has a ticket. The
-    /// sender of a chunk that is committed already has one at once; for one that is pending nothing is done. After a fault the store
+    /// sender of a chunk that is committed already has one among the repeats at once; for one that is pending nothing is done. After a fault the store
     /// isn't live, and the fault is answered without a call of the disk.
     pub fn put<D: Disk>(
         &mut self,
@@ -236,7 +236,7 @@ impl Holding {
         ensures queue { IfOk result (λ put. self.new.queue
             ≡ queue_after put (is_committed self.old.store parcel.now.ticket.chunk) parcel.now.ticket parcel.now.at self.old.queue) }
         ensures failed { OnErr result ((self.new.store.live ≡ false) × (self.new.store.committed ≡ self.old.store.committed)
-            × (self.new.queue.tickets ≡ self.old.queue.tickets)) }
+            × (self.new.queue.tickets ≡ self.old.queue.tickets) × (self.new.queue.repeats ≡ self.old.queue.repeats)) }
         ensures live { OnOk result (self.new.store.live ≡ true) }
         ensures untouched { (result ≡ Ok Put.Stored → ⊥) → IsOk result
             → (self.new.store ≡ self.old.store) × (D.state disk.new ≡ D.state disk.old) }
@@ -245,8 +245,7 @@ impl Holding {
             → (is_held self.new.store parcel.now.ticket.chunk ≡ true) ⊎ HasRisen (D.state disk.old).hard (D.state disk.new).hard }
         ensures learned { self.old.store.live ≡ true → (k j : ℕ)
             → entry self.new.book k j ≡ learned_from self.old (latest claims.now) parcel.now.ticket.chunk parcel.now.bytes.now k j }
-        ensures room { length self.new.queue.tickets + length self.new.queue.waiting
-            ≤ length self.old.queue.tickets + length self.old.queue.waiting + 1 }
+        ensures room { GrowsByOne self.old.queue self.new.queue }
 
         ensures descriptor { self.new.store.descriptor ≡ self.old.store.descriptor }
         ensures advances { Advances (stock_of self.old (D.state disk.old)) (stock_of self.new (D.state disk.new)) }
@@ -305,16 +304,26 @@ impl Holding {
         commit_if(is_due, &mut self.store, &mut self.queue, disk)
     }
 
-    /// Whom to acknowledge, the oldest ticket first. One datagram, after which they are taken, needs no more room than there is.
+    /// The tickets of chunks that were just committed, the oldest first: news for each channel, and whom to acknowledge. One datagram,
+    /// after which they are taken, needs no more room than there is.
     pub fn tickets(&self) -> &[Ticket]
-        ensures { result.now ≡ self.now.queue.tickets }
+        ensures same { result.now ≡ self.now.queue.tickets }
+        ensures few { HasRoom self.now.queue }
     {
         self.queue.tickets()
     }
 
-    /// The tickets were taken.
+    /// The tickets of chunks that came again when they were committed already, the oldest first: whom to acknowledge, and no news.
+    pub fn repeats(&self) -> &[Ticket]
+        ensures same { result.now ≡ self.now.queue.repeats }
+        ensures few { HasRoom self.now.queue }
+    {
+        self.queue.repeats()
+    }
+
+    /// All tickets were taken, those of repeats too.
     pub fn forget_tickets(&mut self)
-        ensures { self.new ≡ record self.old { queue = record self.old.queue { tickets = [] } } }
+        ensures { self.new ≡ record self.old { queue = record self.old.queue { tickets = []; repeats = [] } } }
     {
         self.queue.forget_tickets();
     }

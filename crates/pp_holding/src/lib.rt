@@ -8,7 +8,7 @@ mod queue;
 
 pub use holding::{Holding, Parcel};
 pub use laws::laws_of_holdings;
-pub use queue::Ticket;
+pub use queue::{MOST_TICKETS, Ticket};
 
 #[cfg(test)]
 mod tests;

@@ -1,8 +1,8 @@
-//! Chunks that wait for a commit, and the tickets of those that were committed.
+//! Chunks that wait for a commit, and the tickets of those that were committed, just now or before they came.
 
 ghost use Rattle.std.specs.Prelude.{◌≡◌, ◌<◌, ◌≤◌, [], ◌∷◌, ◌++◌, length, map, take, IfOk, vec_capacity, vec_len};
 ghost use Rattle.pp_promises.specs.Batches.{most_pending};
-ghost use Rattle.pp_holding.specs.Queue.{empty_queue, most_tickets, with_tickets, waiting_at, released, with_waiting, with_ticket, is_any_late};
+ghost use Rattle.pp_holding.specs.Queue.{empty_queue, most_tickets, with_tickets, waiting_at, released, with_waiting, with_repeat, HasRoom, is_any_late};
 
 use arrayvec::ArrayVec;
 use std::alloc::{AllocError, Global};
@@ -14,8 +14,9 @@ pub(crate) const MOST_WAITING: usize = 64;
 // How long a chunk is pending at the most while something comes, in microseconds.
 const LONGEST_WAIT: u64 = 100_000;
 
-// A datagram has room for 243 DATA, and fewer than 64 chunks were pending before it.
-const MOST_TICKETS: usize = 307;
+/// So many tickets there are at the most, and as many repeats: a datagram has room for 243 DATA, and fewer than 64 chunks were pending
+/// before it.
+pub const MOST_TICKETS: usize = 307;
 
 /// Whom a chunk came from: a seat, from 0 to 63, and the delay sample for its ACK.
 #[derive(Clone, Copy, PartialEq, Eq, Debug, Default)]
@@ -32,13 +33,15 @@ pub(crate) struct Waiting {
     put_at: u64,
 }
 
-/// What waits for a commit, and the tickets of what was committed since they were last taken.
+/// What waits for a commit, the tickets of what was committed since they were last taken, and those of DATA that repeated what was
+/// committed already.
 #[derive(Drop)]
 pub(crate) struct Queue {
     // the oldest first
     waiting: ArrayVec<Waiting, MOST_WAITING>,
-    // with room for the most
+    // both with room for the most
     tickets: Vec<Ticket>,
+    repeats: Vec<Ticket>,
 }
 
 impl Model for Queue {
@@ -47,9 +50,10 @@ impl Model for Queue {
 
     ghost Value = { QueueState };
 
-    ghost view = { λ q. record { waiting = reverse q.waiting.items; tickets = q.tickets.items } };
+    ghost view = { λ q. record { waiting = reverse q.waiting.items; tickets = q.tickets.items; repeats = q.repeats.items } };
 
-    ghost invariant = { λ q. (vec_len q.tickets ≤ 307) × (307 ≤ vec_capacity q.tickets) };
+    ghost invariant = { λ q. (vec_len q.tickets ≤ 307) × (307 ≤ vec_capacity q.tickets)
+        × (vec_len q.repeats ≤ 307) × (307 ≤ vec_capacity q.repeats) };
 }
 
 // A ticket more, where there is room.
@@ -95,6 +99,7 @@ impl Queue {
         Ok(Queue {
             waiting: ArrayVec::new(),
             tickets: Vec::with_capacity(alloc, MOST_TICKETS)?,
+            repeats: Vec::with_capacity(alloc, MOST_TICKETS)?,
         })
     }
 
@@ -106,11 +111,11 @@ impl Queue {
         self.waiting.push(Waiting { ticket, put_at: at });
     }
 
-    /// Someone is to be acknowledged.
+    /// A chunk came that is committed already, and its sender is to be acknowledged.
     pub(crate) fn acknowledge(&mut self, ticket: Ticket)
-        ensures { self.new ≡ with_ticket ticket self.old }
+        ensures { self.new ≡ with_repeat ticket self.old }
     {
-        add(&mut self.tickets, ticket);
+        add(&mut self.repeats, ticket);
     }
 
     /// All that waits was committed.
@@ -135,18 +140,27 @@ impl Queue {
         is_any_late(self.waiting.as_slice(), now)
     }
 
-    /// Whom to acknowledge, the oldest first.
+    /// Whose chunks were just committed, the oldest first.
     pub(crate) fn tickets(&self) -> &[Ticket]
         ensures same { result.now ≡ self.now.tickets }
-        ensures few { length self.now.tickets ≤ most_tickets }
+        ensures few { HasRoom self.now }
     {
         self.tickets.as_slice()
     }
 
-    /// They were taken.
+    /// Whose chunks were committed already, the oldest first.
+    pub(crate) fn repeats(&self) -> &[Ticket]
+        ensures same { result.now ≡ self.now.repeats }
+        ensures few { HasRoom self.now }
+    {
+        self.repeats.as_slice()
+    }
+
+    /// All of them were taken.
     pub(crate) fn forget_tickets(&mut self)
-        ensures { self.new ≡ record self.old { tickets = [] } }
+        ensures { self.new ≡ record self.old { tickets = []; repeats = [] } }
     {
         self.tickets.clear();
+        self.repeats.clear();
     }
 }

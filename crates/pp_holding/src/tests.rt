@@ -121,14 +121,14 @@ enum Step {
     Refuse,
 }
 
-// Takes a step. How many chunks are committed, pending and to be acknowledged then.
+// Takes a step. How many chunks are committed and pending then, and how many tickets and repeats there are.
 fn take(
     alloc: Global,
     swarm: &Swarm,
     step: Step,
     holding: &mut Holding,
     disk: &mut MemoryDisk,
-) -> Result<(u32, u32, usize), Fail> {
+) -> Result<(u32, u32, usize, usize), Fail> {
     match step {
         Step::Put(first, last) => {
             for i in first..last.min(1000) {
@@ -145,11 +145,16 @@ fn take(
         holding.committed().count(),
         holding.pending(),
         holding.tickets().len(),
+        holding.repeats().len(),
     ))
 }
 
 // Takes steps from a new store on. Whether each came to what is wanted, and the tickets are then those of the first chunks.
-fn keeps_to(alloc: Global, size: usize, steps: &[(Step, (u32, u32, usize))]) -> Result<bool, Fail> {
+fn keeps_to(
+    alloc: Global,
+    size: usize,
+    steps: &[(Step, (u32, u32, usize, usize))],
+) -> Result<bool, Fail> {
     let swarm = Swarm::of_size(alloc, size)?;
     let mut disk = MemoryDisk::new(alloc, &[])?;
     let mut holding = opened(alloc, &swarm.descriptor, &mut disk)?;
@@ -177,11 +182,11 @@ fn are_in_order(tickets: &[Ticket]) -> bool {
 #[test]
 fn sixty_four_chunks_are_committed_at_once(rt: HostRuntime) -> Result<(), Fail> {
     let steps = [
-        (Step::Put(0, 63), (0, 63, 0)),
-        (Step::Put(63, 64), (64, 0, 64)),
-        (Step::Put(64, 65), (64, 1, 64)),
-        (Step::Settle(false, 10), (64, 1, 64)),
-        (Step::Settle(true, 10), (65, 0, 65)),
+        (Step::Put(0, 63), (0, 63, 0, 0)),
+        (Step::Put(63, 64), (64, 0, 64, 0)),
+        (Step::Put(64, 65), (64, 1, 64, 0)),
+        (Step::Settle(false, 10), (64, 1, 64, 0)),
+        (Step::Settle(true, 10), (65, 0, 65, 0)),
     ];
     assert!(rt; keeps_to(rt.alloc(), 25_600, &steps)?);
     Ok(())
@@ -190,14 +195,15 @@ fn sixty_four_chunks_are_committed_at_once(rt: HostRuntime) -> Result<(), Fail> 
 #[test]
 fn a_chunk_is_pending_for_a_tenth_of_a_second_at_most(rt: HostRuntime) -> Result<(), Fail> {
     let steps = [
-        (Step::Put(3, 4), (0, 1, 0)),
+        (Step::Put(3, 4), (0, 1, 0, 0)),
         // the same again, which is pending
-        (Step::Put(3, 4), (0, 1, 0)),
-        (Step::Settle(false, 100_009), (0, 1, 0)),
-        (Step::Settle(false, 100_010), (1, 0, 1)),
-        // and once more, which is committed
-        (Step::Put(3, 4), (1, 0, 2)),
-        (Step::Forget, (1, 0, 0)),
+        (Step::Put(3, 4), (0, 1, 0, 0)),
+        (Step::Settle(false, 100_009), (0, 1, 0, 0)),
+        (Step::Settle(false, 100_010), (1, 0, 1, 0)),
+        // twice more, which is committed
+        (Step::Put(3, 4), (1, 0, 1, 1)),
+        (Step::Put(3, 4), (1, 0, 1, 2)),
+        (Step::Forget, (1, 0, 0, 0)),
     ];
     assert!(rt; keeps_to(rt.alloc(), 25_600, &steps)?);
     Ok(())
@@ -206,8 +212,8 @@ fn a_chunk_is_pending_for_a_tenth_of_a_second_at_most(rt: HostRuntime) -> Result
 #[test]
 fn the_last_chunk_is_committed_with_its_event(rt: HostRuntime) -> Result<(), Fail> {
     let steps = [
-        (Step::Put(0, 1), (0, 1, 0)),
-        (Step::Settle(false, 10), (1, 0, 1)),
+        (Step::Put(0, 1), (0, 1, 0, 0)),
+        (Step::Settle(false, 10), (1, 0, 1, 0)),
     ];
     assert!(rt; keeps_to(rt.alloc(), 3, &steps)?);
     Ok(())
@@ -216,12 +222,12 @@ fn the_last_chunk_is_committed_with_its_event(rt: HostRuntime) -> Result<(), Fai
 #[test]
 fn a_refused_sync_ends_it(rt: HostRuntime) -> Result<(), Fail> {
     let steps = [
-        (Step::Put(3, 4), (0, 1, 0)),
-        (Step::Refuse, (0, 1, 0)),
-        (Step::Settle(true, 10), (0, 1, 0)),
+        (Step::Put(3, 4), (0, 1, 0, 0)),
+        (Step::Refuse, (0, 1, 0, 0)),
+        (Step::Settle(true, 10), (0, 1, 0, 0)),
         // The disk would take it now.
-        (Step::Settle(true, 11), (0, 1, 0)),
-        (Step::Put(4, 5), (0, 1, 0)),
+        (Step::Settle(true, 11), (0, 1, 0, 0)),
+        (Step::Put(4, 5), (0, 1, 0, 0)),
     ];
     assert!(rt; keeps_to(rt.alloc(), 25_600, &steps)?);
     Ok(())

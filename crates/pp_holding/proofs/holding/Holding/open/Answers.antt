@@ -1,11 +1,11 @@
-use Rattle.std.proofs.Common.{◌≡◌, ◌∙◌, ◌<◌, ◌≤◌, false, length, replicate, ap, subst, sym, arith}
+use Rattle.std.proofs.Common.{◌≡◌, ◌∙◌, ◌<◌, false, length, replicate, ap, subst, sym, arith}
 use Rattle.pp_terms.specs.format.Descriptor.{Descriptor, chunks_of}
 use Rattle.pp_terms.specs.disk.Disk.{Throughout, moment_of}
 use Rattle.pp_tree.specs.Book.{entry, IsBookOf}
 use Rattle.pp_store.specs.Sound.{IsGated}
 use Rattle.pp_store.specs.Store.{is_committed, AllStand}
 use Rattle.pp_promises.specs.Batches.{most_pending}
-use Rattle.pp_holding.specs.Queue.{QueueState, most_tickets}
+use Rattle.pp_holding.specs.Queue.{QueueState, HasRoom}
 use Rattle.pp_holding.specs.Holding.{HasWaiting}
 use Rattle.pp_holding.proofs.Advancing.{known_kept}
 use Rattle.pp_holding.proofs.Begins.{begun_waiting, begun_kept}
@@ -25,7 +25,7 @@ invariant_of-result g c =
         waits = subst (λ (q : QueueState). HasWaiting c.in-Ok-open.store q.waiting) (sym queue)
             (begun_waiting c.in-Ok-open.store (none g c) (c.in-Ok-open.ensures.found.count ∙ ap (λ (d : Descriptor). chunks_of d) (sym same)));
         few = λ live. subst (λ (q : QueueState). length q.waiting < most_pending) (sym queue) (omega arith);
-        room = subst (λ (q : QueueState). length q.tickets ≤ most_tickets) (sym queue) (omega arith);
+        room = subst (λ (q : QueueState). HasRoom q) (sym queue) (record { tickets = omega arith; repeats = omega arith });
       },
     )
 
