@@ -1,5 +1,5 @@
 -- What a peer holds, as contracts see it.
-use Rattle.std.specs.Prelude.{◌≡◌, ℕ, ◌+◌, ◌<◌, ◌≤◌, ◌==◌, Bool, true, false, List, length, map, count_by, slice_index_or}
+use Rattle.std.specs.Prelude.{◌≡◌, ℕ, ◌+◌, ◌<◌, ◌==◌, Bool, true, false, List, length, map, count_by, slice_index_or}
 use Rattle.std.specs.List.{list_any}
 use Rattle.pp_terms.specs.format.Descriptor.{chunks_of}
 use Rattle.pp_terms.specs.disk.Disk.{DiskState}
