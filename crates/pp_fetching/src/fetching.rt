@@ -98,18 +98,20 @@ impl Fetching {
         self.wanting.want_below(limit);
     }
 
-    /// A seat offers the chunks of a range, which lies in the content.
+    /// A seat offers the chunks of a range. One that doesn't lie in the content changes nothing.
     pub fn offer(&mut self, seat: u8, range: ChunkRange)
-        requires seat { seat < 64 }
-        requires inside { range.last < length self.old.want.had }
+        requires { seat < 64 }
         ensures rest { self.new ≡ record self.old { offers = self.new.offers } }
         ensures chunks { self.new.offers.chunks ≡ self.old.offers.chunks }
-        ensures seats { (s i : ℕ) → offers.has self.new.offers s i
+        ensures outside { length self.old.want.had ≤ range.last → self.new ≡ self.old }
+        ensures seats { range.last < length self.old.want.had → (s i : ℕ) → offers.has self.new.offers s i
             ≡ (offers.has self.old.offers s i || (s == seat && within range i)) }
-        ensures deeds { (deeds : List Deed) → Tells deeds self.old.offers
+        ensures deeds { range.last < length self.old.want.had → (deeds : List Deed) → Tells deeds self.old.offers
             → Tells (Offer seat range ∷ deeds) self.new.offers }
     {
-        self.avail.offer(seat, range);
+        if range.last() < self.chunks {
+            self.avail.offer(seat, range);
+        }
     }
 
     /// A seat offers nothing any more.
@@ -125,13 +127,14 @@ impl Fetching {
         self.avail.leave(seat);
     }
 
-    /// The peer has a chunk: it was stored.
+    /// The peer has a chunk: it was stored. A number past the content changes nothing.
     pub fn got(&mut self, i: u32)
-        requires { i < length self.old.want.had }
         ensures { self.new
             ≡ record self.old { want = record self.old.want { had = slice_set self.old.want.had i true } } }
     {
-        self.wanting.got(i);
+        if i < self.chunks {
+            self.wanting.got(i);
+        }
     }
 
     /// A chunk is asked for on no channel any more: it came, its request expired, or it was cancelled. A number past the content
