@@ -1,2 +1,4 @@
 pub mod Filling
 pub mod Awaiting
+pub mod Parts
+pub mod Telling
