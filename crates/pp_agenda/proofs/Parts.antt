@@ -3,6 +3,8 @@ use Rattle.std.proofs.Common.{◌≡◌, ◌⊎◌, inl, inr, ℕ, ◌+◌, ◌<
 use Rattle.std.specs.List.{AllByRecursion, list_any}
 use Rattle.std.proofs.lemmas.List.Folds.{list_any-append}
 use Rattle.pp_terms.specs.tree.Range.{Span}
+use Rattle.pp_outside.specs.declared.link.Address.{Address}
+use Rattle.pp_outside.specs.declared.link.Address.TheVariants.{V4, V6}
 use Rattle.pp_draft.specs.declared.note.Note.{Note}
 use Rattle.pp_draft.specs.declared.note.Note.TheVariants as notes
 use Rattle.pp_seat.specs.Seats.{SeatState}
@@ -100,3 +102,37 @@ any_spoken p s due rows cancels t a n r q c x y et ea en er eq ec ex ey =
   where
     more : (xs ys : List Note) (b d : Bool) → list_any p xs ≡ b → list_any p ys ≡ d → list_any p (xs ++ ys) ≡ (b || d)
     more xs ys b d eb ed = list_any-append p xs ys ∙ (λ t. eb t || ed t)
+
+-- a fact of an address's note
+pub address_is : (P : Note → Type 0) → ((bytes : List ℕ) (port : ℕ) → P (notes.Pex4 bytes port)) → ((bytes : List ℕ) (port : ℕ) → P (notes.Pex6 bytes port))
+    → (address : Address) → P (address_note address)
+address_is P four six (V4 bytes port) = four bytes port
+address_is P four six (V6 bytes port) = six bytes port
+
+-- ---- lists that are read of the notes
+
+pub read_kept : {X : Type 0} (f : List Note → List X) (b : Bool) (xs : List Note) → f (notes.KeepAlive ∷ []) ≡ f [] → f (or_keep_alive b xs) ≡ f xs
+read_kept f true [] alive = alive
+read_kept f false [] alive = refl
+read_kept f b (x ∷ xs) alive = refl
+
+pub read_only : {X : Type 0} (f : List Note → List X) (b : Bool) (xs : List Note) (ys : List X) → f [] ≡ [] → f xs ≡ ys → f (only b xs) ≡ cond b ys []
+read_only f true xs ys none is = is
+read_only f false xs ys none is = none
+
+-- kind by kind
+pub read_spoken : {X : Type 0} (f : List Note → List X) → ((xs ys : List Note) → f (xs ++ ys) ≡ f xs ++ f ys) → (s : SeatState) (due : Due) (rows cancels : List Span) (t a n r q c x y : List X)
+    → f (turn_notes s.proven (due_turn s)) ≡ t
+    → f (only s.proven (map ack_note due.acknowledgements.now)) ≡ a
+    → f (only (due.tells && s.proven) (map have_note (parts_below s.cursor due.news.now))) ≡ n
+    → f (map have_note rows) ≡ r
+    → f (only s.proven (map request_note due.requests.now)) ≡ q
+    → f (map cancel_note cancels) ≡ c
+    → f (only (s.proven && due.asks_addresses) (notes.PexReq ∷ [])) ≡ x
+    → f (only s.proven (map address_note due.addresses.now)) ≡ y
+    → f (spoken_notes s due rows cancels) ≡ t ++ a ++ n ++ r ++ q ++ c ++ x ++ y
+read_spoken {X = X} f both s due rows cancels t a n r q c x y et ea en er eq ec ex ey =
+    more _ _ _ _ (more _ _ _ _ (more _ _ _ _ (more _ _ _ _ (more _ _ _ _ (more _ _ _ _ (more _ _ _ _ et ea) en) er) eq) ec) ex) ey
+  where
+    more : (xs ys : List Note) (b d : List X) → f xs ≡ b → f ys ≡ d → f (xs ++ ys) ≡ b ++ d
+    more xs ys b d eb ed = both xs ys ∙ (λ i. eb i ++ ed i)

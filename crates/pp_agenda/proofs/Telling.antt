@@ -2,7 +2,8 @@
 use Rattle.std.proofs.Common.{◌≡◌, ◌⊎◌, inl, inr, ⊎_elim, ℕ, ◌+◌, ◌-◌, ◌<◌, ◌≤◌, Bool, true, false, cond, nat_lt, nat_le, min, ◌&&◌, ◌||◌, List, [], ◌∷◌, ◌++◌, length, map, get_or, refl, sym, ◌∙◌, ap, subst, arith}
 use Rattle.std.specs.List.{AllByRecursion, list_any}
 use Rattle.std.proofs.lemmas.Bool.{and_parts, and_from, or_cases, or_left, or_right, leb-true, le-leb, lt-ltb, ltb-true, cases_Bool, cases_lt, both_ways}
-use Rattle.pp_terms.specs.tree.Range.{Span, within, has}
+use Rattle.pp_terms.specs.tree.Range.{Span, within, has, IsRunsFrom}
+use Rattle.pp_terms.proofs.Facts.{member_below}
 use Rattle.pp_draft.specs.declared.note.Note.{Note}
 use Rattle.pp_seats.specs.Sending.{tells_note}
 use Rattle.pp_agenda.specs.Agendas.{have_note, cancel_note, parts_below, AreRows}
@@ -15,6 +16,9 @@ haves_tell (x ∷ xs) i = ap (λ (b : Bool). within x i || b) (haves_tell xs i)
 pub cancels_drop : (xs : List Span) (i : ℕ) → list_any (cancels_note i) (map cancel_note xs) ≡ has xs i
 cancels_drop [] i = refl
 cancels_drop (x ∷ xs) i = ap (λ (b : Bool). within x i || b) (cancels_drop xs i)
+
+pub ends_within : (x : Span) → x.first ≤ x.last → within x x.last ≡ true
+ends_within x order = and_from (nat_le x.first x.last) (nat_le x.last x.last) (le-leb x.first x.last order) (le-leb x.last x.last (omega arith))
 
 -- ---- news below the cursor
 
@@ -105,3 +109,15 @@ parts_known committed limit (x ∷ xs) i a at = ⊎_elim
     (λ more. parts_known committed limit xs i a.1 more)
     (or_cases (within x i) (has xs i) at)
 parts_known committed limit [] i a at = absurd cc
+
+-- ---- inside the content
+
+pub committed_below : (committed : List Bool) (range : Span) → IsCommitted committed range → range.last < length committed
+committed_below committed range is = member_below committed range.last (is.each range.last (ends_within range is.order))
+
+pub runs_inside : (committed : List Bool) (from : ℕ) (xs : List Span) → IsRunsFrom from xs → ((i : ℕ) → has xs i ≡ true → get_or committed i false ≡ true)
+    → AllByRecursion (λ (x : Span). x.last < length committed) xs
+runs_inside committed from [] runs h = tt
+runs_inside committed from (x ∷ xs) runs h =
+    (member_below committed x.last (h x.last (or_left (within x x.last) (has xs x.last) (ends_within x runs.1))),
+    runs_inside committed (x.last + 2) xs runs.2 (λ i at. h i (or_right (within x i) (has xs i) at)))

@@ -2,7 +2,21 @@
 //! memory.
 #![tactic(auto)]
 
+ghost use Rattle.pp_agenda.specs.Laws.{MayBeSaid, CoversNews, CoversRows, KnowsNoMore, ExchangesAll, CancelsAll, ChokesWhereDue, IsNeverSilent};
+
 mod agenda;
 mod ranges;
 
 pub use agenda::{Acknowledgement, Agenda, Due};
+
+/// The notes that are due may be said, tell of committed chunks alone and leave nothing out. It does nothing.
+pub fn laws_of_agendas()
+    ensures said { MayBeSaid }
+    ensures news { CoversNews }
+    ensures rows { CoversRows }
+    ensures known { KnowsNoMore }
+    ensures exchanges { ExchangesAll }
+    ensures cancels { CancelsAll }
+    ensures turns { ChokesWhereDue }
+    ensures silence { IsNeverSilent }
+{}
