@@ -64,14 +64,14 @@ pub telling : (s : SeatState) (due : Due) (agenda : List Note) (g : IsAgenda s d
 telling s due agenda g i =
     ap (list_any (tells_note i)) g.is ∙ any_kept (tells_note i) _ (spoken_notes s due g.rows g.cancels) refl
     ∙ any_spoken (tells_note i) s due g.rows g.cancels false false ((due.tells && s.proven) && has (parts_below s.cursor due.news.now) i) (has g.rows i) false false false false
-      (none_of_turn (tells_note i) s.proven (due_turn s) refl refl)
-      (none_mapped (tells_note i) ack_note s.proven due.acknowledgements.now (λ x. refl))
-      (any_only (tells_note i) (due.tells && s.proven) _ ∙ ap (λ (b : Bool). (due.tells && s.proven) && b) (haves_tell (parts_below s.cursor due.news.now) i))
-      (haves_tell g.rows i)
-      (none_mapped (tells_note i) request_note s.proven due.requests.now (λ x. refl))
-      (none_mapped (tells_note i) cancel_note true g.cancels (λ x. refl))
-      (any_only (tells_note i) (s.proven && due.asks_addresses) _ ∙ and_nothing (s.proven && due.asks_addresses))
-      (none_of_address (tells_note i) s.proven due.addresses.now (λ bytes port. refl) (λ bytes port. refl))
+    (none_of_turn (tells_note i) s.proven (due_turn s) refl refl)
+    (none_mapped (tells_note i) ack_note s.proven due.acknowledgements.now (λ x. refl))
+    (any_only (tells_note i) (due.tells && s.proven) _ ∙ ap (λ (b : Bool). (due.tells && s.proven) && b) (haves_tell (parts_below s.cursor due.news.now) i))
+    (haves_tell g.rows i)
+    (none_mapped (tells_note i) request_note s.proven due.requests.now (λ x. refl))
+    (none_mapped (tells_note i) cancel_note true g.cancels (λ x. refl))
+    (any_only (tells_note i) (s.proven && due.asks_addresses) _ ∙ and_nothing (s.proven && due.asks_addresses))
+    (none_of_address (tells_note i) s.proven due.addresses.now (λ bytes port. refl) (λ bytes port. refl))
     ∙ or_end4 _
   where
     and_nothing : (b : Bool) → (b && false) ≡ false
@@ -98,9 +98,9 @@ covers_rows s due agenda g tells = ⊎_elim
 pub knows_no_more : KnowsNoMore
 knows_no_more s due agenda new g i told = ⊎_elim
     (λ (below : ((due.tells && s.proven) && has (parts_below s.cursor due.news.now) i) ≡ true).
-      parts_known due.committed.now s.cursor (parts_below s.cursor due.news.now) i (parts_are due.committed.now s.cursor due.news.now new) (and_parts (due.tells && s.proven) _ below).1)
+    parts_known due.committed.now s.cursor (parts_below s.cursor due.news.now) i (parts_are due.committed.now s.cursor due.news.now new) (and_parts (due.tells && s.proven) _ below).1)
     (λ (row : has g.rows i ≡ true).
-      parts_known due.committed.now (length due.committed.now) g.rows i (rows_are_committed s.cursor due.committed.now (most_rows due.tells) g.rows g.are_rows) row)
+    parts_known due.committed.now (length due.committed.now) g.rows i (rows_are_committed s.cursor due.committed.now (most_rows due.tells) g.rows g.are_rows) row)
     (or_cases ((due.tells && s.proven) && has (parts_below s.cursor due.news.now) i) (has g.rows i) (sym (telling s due agenda g i) ∙ told))
 
 -- ---- what is cancelled
@@ -109,14 +109,14 @@ pub cancels_all : CancelsAll
 cancels_all s due agenda g i =
     ap (list_any (cancels_note i)) g.is ∙ any_kept (cancels_note i) _ (spoken_notes s due g.rows g.cancels) refl
     ∙ any_spoken (cancels_note i) s due g.rows g.cancels false false false false false (has g.cancels i) false false
-      (none_of_turn (cancels_note i) s.proven (due_turn s) refl refl)
-      (none_mapped (cancels_note i) ack_note s.proven due.acknowledgements.now (λ x. refl))
-      (none_mapped (cancels_note i) have_note (due.tells && s.proven) (parts_below s.cursor due.news.now) (λ x. refl))
-      (none_mapped (cancels_note i) have_note true g.rows (λ x. refl))
-      (none_mapped (cancels_note i) request_note s.proven due.requests.now (λ x. refl))
-      (cancels_drop g.cancels i)
-      (any_only (cancels_note i) (s.proven && due.asks_addresses) _ ∙ and_nothing (s.proven && due.asks_addresses))
-      (none_of_address (cancels_note i) s.proven due.addresses.now (λ bytes port. refl) (λ bytes port. refl))
+    (none_of_turn (cancels_note i) s.proven (due_turn s) refl refl)
+    (none_mapped (cancels_note i) ack_note s.proven due.acknowledgements.now (λ x. refl))
+    (none_mapped (cancels_note i) have_note (due.tells && s.proven) (parts_below s.cursor due.news.now) (λ x. refl))
+    (none_mapped (cancels_note i) have_note true g.rows (λ x. refl))
+    (none_mapped (cancels_note i) request_note s.proven due.requests.now (λ x. refl))
+    (cancels_drop g.cancels i)
+    (any_only (cancels_note i) (s.proven && due.asks_addresses) _ ∙ and_nothing (s.proven && due.asks_addresses))
+    (none_of_address (cancels_note i) s.proven due.addresses.now (λ bytes port. refl) (λ bytes port. refl))
     ∙ or_end2 _ ∙ g.cancelled i
   where
     and_nothing : (b : Bool) → (b && false) ≡ false
@@ -147,13 +147,13 @@ turn_alone : (p : Note → Bool) (s : SeatState) (due : Due) (agenda : List Note
 turn_alone p s due agenda t g alive acks haves requests cancels question four six is =
     ap (list_any p) g.is ∙ any_kept p _ (spoken_notes s due g.rows g.cancels) alive
     ∙ any_spoken p s due g.rows g.cancels t false false false false false false false is
-      (none_mapped p ack_note s.proven due.acknowledgements.now acks)
-      (none_mapped p have_note (due.tells && s.proven) (parts_below s.cursor due.news.now) haves)
-      (none_mapped p have_note true g.rows haves)
-      (none_mapped p request_note s.proven due.requests.now requests)
-      (none_mapped p cancel_note true g.cancels cancels)
-      (any_only p (s.proven && due.asks_addresses) _ ∙ and_nothing (s.proven && due.asks_addresses) (p notes.PexReq) question)
-      (none_of_address p s.proven due.addresses.now four six)
+    (none_mapped p ack_note s.proven due.acknowledgements.now acks)
+    (none_mapped p have_note (due.tells && s.proven) (parts_below s.cursor due.news.now) haves)
+    (none_mapped p have_note true g.rows haves)
+    (none_mapped p request_note s.proven due.requests.now requests)
+    (none_mapped p cancel_note true g.cancels cancels)
+    (any_only p (s.proven && due.asks_addresses) _ ∙ and_nothing (s.proven && due.asks_addresses) (p notes.PexReq) question)
+    (none_of_address p s.proven due.addresses.now four six)
     ∙ or_end7 t
   where
     and_nothing : (b q : Bool) → q ≡ false → (b && (q || false)) ≡ false
@@ -238,14 +238,14 @@ question_is : (s : SeatState) (due : Due) (agenda : List Note) → IsAgenda s du
 question_is s due agenda g =
     ap (list_any is_address_request) g.is ∙ any_kept is_address_request _ (spoken_notes s due g.rows g.cancels) refl
     ∙ any_spoken is_address_request s due g.rows g.cancels false false false false false false (s.proven && due.asks_addresses) false
-      (none_of_turn is_address_request s.proven (due_turn s) refl refl)
-      (none_mapped is_address_request ack_note s.proven due.acknowledgements.now (λ x. refl))
-      (none_mapped is_address_request have_note (due.tells && s.proven) (parts_below s.cursor due.news.now) (λ x. refl))
-      (none_mapped is_address_request have_note true g.rows (λ x. refl))
-      (none_mapped is_address_request request_note s.proven due.requests.now (λ x. refl))
-      (none_mapped is_address_request cancel_note true g.cancels (λ x. refl))
-      (any_only is_address_request (s.proven && due.asks_addresses) _ ∙ and_all (s.proven && due.asks_addresses))
-      (none_of_address is_address_request s.proven due.addresses.now (λ bytes port. refl) (λ bytes port. refl))
+    (none_of_turn is_address_request s.proven (due_turn s) refl refl)
+    (none_mapped is_address_request ack_note s.proven due.acknowledgements.now (λ x. refl))
+    (none_mapped is_address_request have_note (due.tells && s.proven) (parts_below s.cursor due.news.now) (λ x. refl))
+    (none_mapped is_address_request have_note true g.rows (λ x. refl))
+    (none_mapped is_address_request request_note s.proven due.requests.now (λ x. refl))
+    (none_mapped is_address_request cancel_note true g.cancels (λ x. refl))
+    (any_only is_address_request (s.proven && due.asks_addresses) _ ∙ and_all (s.proven && due.asks_addresses))
+    (none_of_address is_address_request s.proven due.addresses.now (λ bytes port. refl) (λ bytes port. refl))
     ∙ or_end1 _
   where
     and_all : (b : Bool) → (b && true) ≡ b
@@ -319,10 +319,10 @@ passes_are : (held : ℕ → Bool) (s : SeatState) (due : Due) (agenda : List No
 passes_are held s due agenda chunks f same g =
     passes_both held s.cursor _ _ (passes_both held s.cursor _ _ (passes_both held s.cursor _ _ (passes_both held s.cursor _ _
     (passes_both held s.cursor (quiet ++ news) (map have_note g.rows)
-      (passes_both held s.cursor quiet news (quiet_passes held s.cursor quiet quiets)
-        (subst (λ (n : ℕ). PassesAll held n news) (sym (quiet_stays s.cursor quiet quiets)) (news_pass (due.tells && s.proven))))
-      (subst (λ (n : ℕ). PassesAll held n (map have_note g.rows)) (sym (stays_both s.cursor quiet news (quiet_stays s.cursor quiet quiets) (news_stay (due.tells && s.proven))))
-        (rows_pass held s.cursor due.committed.now (most_rows due.tells) g.rows same g.are_rows)))
+    (passes_both held s.cursor quiet news (quiet_passes held s.cursor quiet quiets)
+    (subst (λ (n : ℕ). PassesAll held n news) (sym (quiet_stays s.cursor quiet quiets)) (news_pass (due.tells && s.proven))))
+    (subst (λ (n : ℕ). PassesAll held n (map have_note g.rows)) (sym (stays_both s.cursor quiet news (quiet_stays s.cursor quiet quiets) (news_stay (due.tells && s.proven))))
+    (rows_pass held s.cursor due.committed.now (most_rows due.tells) g.rows same g.are_rows)))
     (quiet_passes held _ _ (of_kind s.proven request_note due.requests.now (λ x. tt))))
     (quiet_passes held _ _ (of_kind true cancel_note g.cancels (λ x. tt))))
     (quiet_passes held _ _ (all_only IsQuiet (s.proven && due.asks_addresses) (notes.PexReq ∷ []) (tt, tt))))
@@ -357,11 +357,11 @@ first_are : (s : SeatState) (due : Due) (rows cancels : List Span) → AsksFirst
 first_are s due rows cancels =
     first_behind (front ++ dropped ++ question) answers (first_behind (front ++ dropped) question (first_behind front dropped (first_alone front
     (all_both IsNoCancel _ _ (all_both IsNoCancel _ _ (all_both IsNoCancel _ _ (all_both IsNoCancel _ _
-      (all_turn IsNoCancel s.proven (due_turn s) tt tt)
-      (uncancelled s.proven ack_note due.acknowledgements.now (λ x. tt)))
-      (uncancelled (due.tells && s.proven) have_note (parts_below s.cursor due.news.now) (λ x. tt)))
-      (uncancelled true have_note rows (λ x. tt)))
-      (uncancelled s.proven request_note due.requests.now (λ x. tt))))
+    (all_turn IsNoCancel s.proven (due_turn s) tt tt)
+    (uncancelled s.proven ack_note due.acknowledgements.now (λ x. tt)))
+    (uncancelled (due.tells && s.proven) have_note (parts_below s.cursor due.news.now) (λ x. tt)))
+    (uncancelled true have_note rows (λ x. tt)))
+    (uncancelled s.proven request_note due.requests.now (λ x. tt))))
     (unasked true cancel_note cancels (λ x. tt)))
     (all_only IsNoRequest (s.proven && due.asks_addresses) (notes.PexReq ∷ []) (tt, tt)))
     (unasked s.proven address_note due.addresses.now (address_is IsNoRequest (λ b p. tt) (λ b p. tt)))

@@ -36,7 +36,7 @@ both_none (x ∷ own) committed i = refl
 pub both_more : (own : List Asking) (committed : List Bool) (k : ℕ) (x : Asking) (ranges new : List Span) → k < length own
     → ((i : ℕ) → has ranges i ≡ is_both (take k own) committed i)
     → ((get_or committed (get_or own k x).chunk false ≡ true) × ((i : ℕ) → has new i ≡ (i == (get_or own k x).chunk || has ranges i)))
-      ⊎ ((get_or committed (get_or own k x).chunk false ≡ false) × (new ≡ ranges))
+    ⊎ ((get_or committed (get_or own k x).chunk false ≡ false) × (new ≡ ranges))
     → (i : ℕ) → has new i ≡ is_both (take (k + 1) own) committed i
 both_more own committed k x ranges new lt so_far step i =
     by step (cases_eq i y.chunk)

@@ -54,7 +54,7 @@ news_more limit xs i x part old so_far new lt at is step =
     by step ∙ append_assoc old (map have_note (parts_below limit (take i xs))) (map have_note (parts_below limit (x ∷ [])))
     ∙ ap (λ (ys : List Note). old ++ ys) (sym (map-append have_note (parts_below limit (take i xs)) (parts_below limit (x ∷ []))))
     ∙ ap (λ (ys : List Span). old ++ map have_note ys)
-        (sym (ap (parts_below limit) (take_more xs i x lt ∙ ap (λ (y : Span). take i xs ++ y ∷ []) (sym at)) ∙ parts-append limit (take i xs) (x ∷ [])))
+    (sym (ap (parts_below limit) (take_more xs i x lt ∙ ap (λ (y : Span). take i xs ++ y ∷ []) (sym at)) ∙ parts-append limit (take i xs) (x ∷ [])))
   where
     cut : Span
     cut = record { first = x.first; last = min x.last (limit - 1) }
@@ -67,7 +67,7 @@ news_more limit xs i x part old so_far new lt at is step =
     by (inl (below, same, put)) =
         put ∙ ap (λ (ys : List Note). ys ++ have_note part ∷ []) is
         ∙ ap (λ (ys : List Span). (old ++ map have_note (parts_below limit (take i xs))) ++ map have_note ys)
-            (ap (λ (z : Span). z ∷ []) same ∙ sym (one true (lt-ltb x.first limit below)))
+        (ap (λ (z : Span). z ∷ []) same ∙ sym (one true (lt-ltb x.first limit below)))
     by (inr (above, kept)) =
         kept ∙ is ∙ sym (append-nil (old ++ map have_note (parts_below limit (take i xs))))
         ∙ ap (λ (ys : List Span). (old ++ map have_note (parts_below limit (take i xs))) ++ map have_note ys) (sym (one false (le-ltb x.first limit above)))

@@ -43,9 +43,10 @@ pub record IsPassed (cursor : ℕ) (range : Span) : Type 0 where
 
 pub passed_pass : (held : ℕ → Bool) (cursor : ℕ) (xs : List Span) → AllByRecursion (IsPassed cursor) xs → PassesAll held cursor (map have_note xs)
 passed_pass held cursor [] a = tt
-passed_pass held cursor (x ∷ xs) a =
-    ((λ i low high. absurd (omega (arith, low, high, a.0.first))),
-    subst (λ (n : ℕ). PassesAll held n (map have_note xs)) same (passed_pass held cursor xs a.1))
+passed_pass held cursor (x ∷ xs) a = (
+  (λ i low high. absurd (omega (arith, low, high, a.0.first))),
+  subst (λ (n : ℕ). PassesAll held n (map have_note xs)) same (passed_pass held cursor xs a.1),
+)
   where
     same : cursor ≡ max cursor (x.last + 1)
     same = omega (arith, a.0.last)
@@ -60,9 +61,10 @@ passed_stay cursor (x ∷ xs) a = ap (λ (n : ℕ). cursor_after n (map have_not
 pub rows_pass : (held : ℕ → Bool) (from : ℕ) (committed : List Bool) (most : ℕ) (rows : List Span) → ((i : ℕ) → held i ≡ get_or committed i false)
     → AreRows from committed most rows → PassesAll held from (map have_note rows)
 rows_pass held from committed most [] is are = tt
-rows_pass held from committed most (row ∷ rows) is are =
-    ((λ i low high. is i ∙ are.1.passed i low high),
-    subst (λ (n : ℕ). PassesAll held n (map have_note rows)) same (rows_pass held (row.last + 1) committed (most - 1) rows is are.2))
+rows_pass held from committed most (row ∷ rows) is are = (
+  (λ i low high. is i ∙ are.1.passed i low high),
+  subst (λ (n : ℕ). PassesAll held n (map have_note rows)) same (rows_pass held (row.last + 1) committed (most - 1) rows is are.2),
+)
   where
     same : row.last + 1 ≡ max from (row.last + 1)
     same = omega (arith, are.1.low, are.1.order)

@@ -68,11 +68,13 @@ parts_are committed limit (x ∷ xs) a = by (nat_lt x.first limit) refl (parts_a
         → AllByRecursion (IsPart committed limit) (cond b (part ∷ parts_below limit xs) (parts_below limit xs))
     by false e rest = rest
     by true e rest =
-        let low : x.first < limit = ltb-true x.first limit e in
-        (record {
-          committed_is = record { order = (omega arith); each = λ i at. a.0.each i (inner i at) };
-          below = (omega arith);
-        }, rest)
+        let low : x.first < limit = ltb-true x.first limit e in (
+          record {
+            committed_is = record { order = (omega arith); each = λ i at. a.0.each i (inner i at) };
+            below = (omega arith);
+          },
+          rest,
+        )
 
 -- ---- rows
 
@@ -87,9 +89,9 @@ rows_cover from committed most (row ∷ rows) are = by (rows_cover (row.last + 1
         → ((i : ℕ) → from ≤ i → get_or committed i false ≡ true → has (row ∷ rows) i ≡ true) ⊎ (length (row ∷ rows) ≡ most)
     by (inl covers) = inl (λ i at is. ⊎_elim
         (λ low. ⊎_elim
-          (λ before. absurd (both_ways (get_or committed i false) (are.1.passed i at before) is))
-          (λ here. or_left (within row i) (has rows i) (and_from (nat_le row.first i) (nat_le i row.last) (le-leb row.first i here) (le-leb i row.last (omega (arith, low)))))
-          (cases_lt i row.first))
+        (λ before. absurd (both_ways (get_or committed i false) (are.1.passed i at before) is))
+        (λ here. or_left (within row i) (has rows i) (and_from (nat_le row.first i) (nat_le i row.last) (le-leb row.first i here) (le-leb i row.last (omega (arith, low)))))
+        (cases_lt i row.first))
         (λ high. or_right (within row i) (has rows i) (covers i (omega (arith, high)) is))
         (cases_lt i (row.last + 1)))
     by (inr full) = inr (omega (arith, full, are.0))
@@ -98,10 +100,13 @@ rows_cover from committed most (row ∷ rows) are = by (rows_cover (row.last + 1
 pub rows_are_committed : (from : ℕ) (committed : List Bool) (most : ℕ) (rows : List Span) → AreRows from committed most rows
     → AllByRecursion (IsPart committed (length committed)) rows
 rows_are_committed from committed most [] are = tt
-rows_are_committed from committed most (row ∷ rows) are = (record {
-  committed_is = record { order = are.1.order; each = are.1.members };
-  below = are.1.content;
-}, rows_are_committed (row.last + 1) committed (most - 1) rows are.2)
+rows_are_committed from committed most (row ∷ rows) are = (
+  record {
+    committed_is = record { order = are.1.order; each = are.1.members };
+    below = are.1.content;
+  },
+  rows_are_committed (row.last + 1) committed (most - 1) rows are.2,
+)
 
 pub parts_known : (committed : List Bool) (limit : ℕ) (xs : List Span) (i : ℕ) → AllByRecursion (IsPart committed limit) xs → has xs i ≡ true → get_or committed i false ≡ true
 parts_known committed limit (x ∷ xs) i a at = ⊎_elim
@@ -118,6 +123,7 @@ committed_below committed range is = member_below committed range.last (is.each 
 pub runs_inside : (committed : List Bool) (from : ℕ) (xs : List Span) → IsRunsFrom from xs → ((i : ℕ) → has xs i ≡ true → get_or committed i false ≡ true)
     → AllByRecursion (λ (x : Span). x.last < length committed) xs
 runs_inside committed from [] runs h = tt
-runs_inside committed from (x ∷ xs) runs h =
-    (member_below committed x.last (h x.last (or_left (within x x.last) (has xs x.last) (ends_within x runs.1))),
-    runs_inside committed (x.last + 2) xs runs.2 (λ i at. h i (or_right (within x i) (has xs i) at)))
+runs_inside committed from (x ∷ xs) runs h = (
+  member_below committed x.last (h x.last (or_left (within x x.last) (has xs x.last) (ends_within x runs.1))),
+  runs_inside committed (x.last + 2) xs runs.2 (λ i at. h i (or_right (within x i) (has xs i) at)),
+)

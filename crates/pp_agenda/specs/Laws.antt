@@ -63,7 +63,7 @@ CoversNews = (s : SeatState) (due : Due) (agenda : List Note) → IsAgenda s due
 abbrev pub CoversRows : Type 0
 CoversRows = (s : SeatState) (due : Due) (agenda : List Note) → IsAgenda s due agenda → due.tells ≡ true
     → ((i : ℕ) → s.cursor ≤ i → slice_index_or due.committed.now i false ≡ true → are_telling agenda i ≡ true)
-      ⊎ ((rows : List Span) × (length rows ≡ 64) × AreRows s.cursor due.committed.now 64 rows × ((i : ℕ) → has rows i ≡ true → are_telling agenda i ≡ true))
+    ⊎ ((rows : List Span) × (length rows ≡ 64) × AreRows s.cursor due.committed.now 64 rows × ((i : ℕ) → has rows i ≡ true → are_telling agenda i ≡ true))
 
 -- What is told of is committed.
 abbrev pub KnowsNoMore : Type 0

@@ -6,6 +6,8 @@ ghost use Rattle.pp_agenda.specs.Laws.{MayBeSaid, CoversNews, CoversRows, KnowsN
 
 mod agenda;
 mod ranges;
+#[cfg(test)]
+mod tests;
 
 pub use agenda::{Acknowledgement, Agenda, Due};
 

@@ -15,8 +15,8 @@ loop-one-preserved c = record {
     | else-is_committed w ↦ omega (arith, ap (λ (xs : List Span). length xs) w.ranges-is)
   ];
   each = both_more c.args.awaited.now c.args.committed.now c.loop-one.one-index _ c.loop-one.ranges c.if-is_committed.ranges c.loop-one-test.true c.loop-one.invariant.each
-    (elim c.if-is_committed.branch [
-      | then-is_committed w ↦ inl (sym c.is_committed.ensures ∙ w.if-is_committed.true, λ j. ap (λ (xs : List Span). has xs j) w.ranges-is ∙ w.add.ensures.each j)
-      | else-is_committed w ↦ inr (sym c.is_committed.ensures ∙ w.if-is_committed.false, w.ranges-is)
-    ]);
+      (elim c.if-is_committed.branch [
+        | then-is_committed w ↦ inl (sym c.is_committed.ensures ∙ w.if-is_committed.true, λ j. ap (λ (xs : List Span). has xs j) w.ranges-is ∙ w.add.ensures.each j)
+        | else-is_committed w ↦ inr (sym c.is_committed.ensures ∙ w.if-is_committed.false, w.ranges-is)
+      ]);
 }
