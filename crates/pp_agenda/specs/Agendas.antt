@@ -47,12 +47,14 @@ address_note (V6 bytes port) = notes.Pex6 bytes port
 abbrev pub parts_below : ℕ → List Span → List Span
 parts_below limit [] = []
 parts_below limit (x ∷ xs) =
-    if nat_lt x.first limit then record { first = x.first; last = min x.last (limit - 1) } ∷ parts_below limit xs else parts_below limit xs
+    if nat_lt x.first limit then record { first = x.first; last = min x.last (limit - 1) } ∷ parts_below limit xs
+    else parts_below limit xs
 
 -- The rows are the next ranges of committed chunks from a chunk on, one behind the other: so many, or all that there are.
 abbrev pub AreRows : ℕ → List Bool → (most : ℕ) → List Span → Type 0
 AreRows from committed most [] = (most ≡ 0) ⊎ ((i : ℕ) → from ≤ i → slice_index_or committed i false ≡ false)
-AreRows from committed most (row ∷ rows) = (0 < most) × IsNextRow from committed row × AreRows (row.last + 1) committed (most - 1) rows
+AreRows from committed most (row ∷ rows) =
+    (0 < most) × IsNextRow from committed row × AreRows (row.last + 1) committed (most - 1) rows
 
 -- how many rows are told of at the most
 abbrev pub most_rows : (tells : Bool) → ℕ

@@ -25,8 +25,8 @@ pub record IsCommitted (committed : List Bool) (range : Span) : Type 0 where
   pub order : range.first ≤ range.last
   pub each : (i : ℕ) → within range i ≡ true → slice_index_or committed i false ≡ true
 
--- What came and what is new is committed, and what is asked for are chunks of the content for which there is room, and none of which
--- is asked for already.
+-- What came and what is new is committed, and what is asked for are chunks of the content for which there is room, and none of
+-- which is asked for already.
 pub record IsFitting (chunks : ℕ) (s : SeatState) (due : Due) : Type 0 where
   pub size : length due.committed.now ≡ chunks
   pub came : AllByRecursion (λ (one : Acknowledgement). IsCommitted due.committed.now one.range) due.acknowledgements.now
@@ -63,11 +63,13 @@ CoversNews = (s : SeatState) (due : Due) (agenda : List Note) → IsAgenda s due
 abbrev pub CoversRows : Type 0
 CoversRows = (s : SeatState) (due : Due) (agenda : List Note) → IsAgenda s due agenda → due.tells ≡ true
     → ((i : ℕ) → s.cursor ≤ i → slice_index_or due.committed.now i false ≡ true → are_telling agenda i ≡ true)
-    ⊎ ((rows : List Span) × (length rows ≡ 64) × AreRows s.cursor due.committed.now 64 rows × ((i : ℕ) → has rows i ≡ true → are_telling agenda i ≡ true))
+    ⊎ ((rows : List Span) × (length rows ≡ 64) × AreRows s.cursor due.committed.now 64 rows
+    × ((i : ℕ) → has rows i ≡ true → are_telling agenda i ≡ true))
 
 -- What is told of is committed.
 abbrev pub KnowsNoMore : Type 0
-KnowsNoMore = (s : SeatState) (due : Due) (agenda : List Note) → AllByRecursion (IsCommitted due.committed.now) due.news.now → IsAgenda s due agenda
+KnowsNoMore = (s : SeatState) (due : Due) (agenda : List Note) → AllByRecursion (IsCommitted due.committed.now) due.news.now
+    → IsAgenda s due agenda
     → (i : ℕ) → are_telling agenda i ≡ true → slice_index_or due.committed.now i false ≡ true
 
 -- ---- what is exchanged
@@ -98,8 +100,8 @@ abbrev pub is_address_request : Note → Bool
 is_address_request PexReq = true
 is_address_request _ = false
 
--- On a proven channel all that came is acknowledged, all that is to be asked for is asked for, and addresses are asked for and told; else
--- nothing.
+-- On a proven channel all that came is acknowledged, all that is to be asked for is asked for, and addresses are asked for and
+-- told; else nothing.
 pub record Exchanges (s : SeatState) (due : Due) (agenda : List Note) : Type 0 where
   pub acknowledges : acked agenda ≡ (if s.proven then due.acknowledgements.now else [])
   pub asks : requested agenda ≡ (if s.proven then due.requests.now else [])
@@ -142,5 +144,5 @@ ChokesWhereDue = (s : SeatState) (due : Due) (agenda : List Note) → IsAgenda s
 
 -- A datagram goes where one is due and may go, even if there is nothing to say.
 abbrev pub IsNeverSilent : Type 0
-IsNeverSilent = (s : SeatState) (due : Due) (agenda : List Note) → IsAgenda s due agenda → (due.tells ≡ true) ⊎ (s.proven ≡ true) → due.is_silent ≡ true
-    → 0 < length agenda
+IsNeverSilent = (s : SeatState) (due : Due) (agenda : List Note) → IsAgenda s due agenda
+    → (due.tells ≡ true) ⊎ (s.proven ≡ true) → due.is_silent ≡ true → 0 < length agenda

@@ -48,7 +48,7 @@ pub struct Due<'a> {
     pub is_silent: bool,
 }
 
-/// The notes that are due on the channel of one seat, with room for the most that ever are. It serves one seat after the other.
+/// The notes that are due on the channel of one seat, with room for the most that ever are. One serves all seats in turn.
 #[derive(Drop)]
 pub struct Agenda {
     notes: Vec<Note>,
@@ -74,8 +74,8 @@ impl Agenda {
         Ok(Agenda { notes })
     }
 
-    /// The notes become those that are due on a seat's channel: CHOKE or UNCHOKE, ACK, HAVE, REQUEST, CANCEL, PEX_REQ and addresses, in
-    /// this order. Before the channel is proven these are only CHOKE and HAVE. KEEPALIVE is due alone.
+    /// The notes become those that are due on a seat's channel: CHOKE or UNCHOKE, ACK, HAVE, REQUEST, CANCEL, PEX_REQ and
+    /// addresses, in this order. Before the channel is proven these are only CHOKE and HAVE. KEEPALIVE is due alone.
     pub fn fill(&mut self, seat: &Seat, due: &Due<'_>)
         requires chunks { length due.now.committed.now ≡ seat.now.told.chunks }
         requires acknowledgements { length due.now.acknowledgements.now ≤ 614 }
@@ -141,7 +141,8 @@ impl Agenda {
     // News above the cursor are among the rows.
     fn add_news(&mut self, seat: &Seat, due: &Due<'_>)
         requires { length self.old + length due.now.news.now ≤ most_notes }
-        ensures exact { self.new ≡ self.old ++ only (due.now.tells && seat.now.proven) (map have_note (parts_below seat.now.cursor due.now.news.now)) }
+        ensures exact { self.new ≡ self.old
+            ++ only (due.now.tells && seat.now.proven) (map have_note (parts_below seat.now.cursor due.now.news.now)) }
         ensures few { length self.new ≤ length self.old + length due.now.news.now }
     {
         if !due.tells || !seat.is_proven() {

@@ -1,5 +1,5 @@
-//! What is due on one seat's channel, as notes in the order in which they are sent (RFC 7574, section 3). Only `Agenda::new` takes
-//! memory.
+//! What is due on one seat's channel, as notes in the order in which they are sent (RFC 7574, section 3).
+//! Only `Agenda::new` takes memory.
 #![tactic(auto)]
 
 ghost use Rattle.pp_agenda.specs.Laws.{MayBeSaid, CoversNews, CoversRows, KnowsNoMore, ExchangesAll, CancelsAll, ChokesWhereDue, IsNeverSilent};
