@@ -1,9 +1,9 @@
 -- The laws of agendas.
-use Rattle.std.proofs.Common.{◌≡◌, ◌⊎◌, inl, inr, ⊎_elim, ℕ, ◌+◌, ◌^◌, ◌<◌, ◌≤◌, Bool, true, false, cond, ◌&&◌, ◌||◌, Option, Some, None, is_some, List, [], ◌∷◌, ◌++◌, length, map, get_or, refl, sym, ◌∙◌, ap, subst, arith}
+use Rattle.std.proofs.Common.{◌≡◌, inl, inr, ⊎_elim, ℕ, ◌<◌, Bool, true, false, cond, ◌&&◌, ◌||◌, Option, Some, None, is_some, List, [], ◌∷◌, ◌++◌, length, map, get_or, refl, sym, ◌∙◌, ap, subst, arith}
 use Rattle.std.specs.List.{AllByRecursion, list_any}
 use Rattle.std.proofs.lemmas.Bool.{and_parts, and_from, or_cases, or_left, or_right}
 use Rattle.std.proofs.lemmas.List.{append-nil}
-use Rattle.pp_terms.specs.tree.Range.{Span, within, has}
+use Rattle.pp_terms.specs.tree.Range.{Span, has}
 use Rattle.pp_terms.specs.format.Descriptor.{Descriptor, chunks_of}
 use Rattle.pp_requests.specs.Moments.{asked_at}
 use Rattle.pp_outside.specs.declared.link.Address.{Address}
@@ -15,11 +15,11 @@ use Rattle.pp_seat.specs.Turns.{due_turn}
 use Rattle.pp_seat.specs.declared.service.Turn.{Turn}
 use Rattle.pp_seat.specs.declared.service.Turn.TheVariants.{Choke, Unchoke}
 use Rattle.pp_desk.specs.Steps.{IsPlain, cursor_after}
-use Rattle.pp_seats.specs.Sending.{Announces, PassesAll, requested, AsksFirst, FitAll, MaySay, tells_note}
+use Rattle.pp_seats.specs.Sending.{Announces, PassesAll, requested, AsksFirst, FitAll, tells_note}
 use Rattle.pp_agenda.specs.declared.agenda.Acknowledgement.{Acknowledgement}
 use Rattle.pp_agenda.specs.declared.agenda.Due.{Due}
-use Rattle.pp_agenda.specs.Agendas.{only, turn_notes, ack_note, have_note, request_note, cancel_note, address_note, parts_below, most_rows, AreRows, is_cancelled, spoken_notes, or_keep_alive, IsAgenda}
-use Rattle.pp_agenda.specs.Laws.{IsCommitted, IsFitting, MaySpeak, MayBeSaid, are_telling, CoversNews, CoversRows, KnowsNoMore, acked, addressed, cancels_note, are_cancelling, is_address_request, Exchanges, ExchangesAll, CancelsAll, is_choke, is_unchoke, is_choke_due, is_unchoke_due, TakesTurns, ChokesWhereDue, IsNeverSilent}
+use Rattle.pp_agenda.specs.Agendas.{only, turn_notes, ack_note, have_note, request_note, cancel_note, address_note, parts_below, most_rows, AreRows, spoken_notes, or_keep_alive, IsAgenda}
+use Rattle.pp_agenda.specs.Laws.{IsCommitted, IsFitting, MayBeSaid, are_telling, CoversNews, CoversRows, KnowsNoMore, acked, addressed, cancels_note, is_address_request, ExchangesAll, CancelsAll, is_choke, is_unchoke, is_choke_due, is_unchoke_due, ChokesWhereDue, IsNeverSilent}
 use Rattle.pp_agenda.proofs.Parts.{all_both, all_mapped, all_same, all_turned, all_only, all_turn, kept, OfEach, all_spoken, none_mapped, any_kept, any_spoken, address_is, read_kept, read_only, read_spoken}
 use Rattle.pp_agenda.proofs.Telling.{haves_tell, cancels_drop, parts_have, IsPart, parts_are, rows_cover, rows_are_committed, parts_known, committed_below, runs_inside}
 use Rattle.pp_agenda.proofs.Passing.{IsQuiet, quiet_passes, quiet_stays, passes_both, stays_both, IsPassed, passed_pass, passed_stay, rows_pass, IsNoRequest, IsNoCancel, requested-append, requested_none, requested-map, first_alone, first_behind}

@@ -1,13 +1,12 @@
 -- What the notes acknowledge and answer.
-use Rattle.std.proofs.Common.{◌≡◌, ℕ, Bool, true, false, cond, ◌&&◌, List, [], ◌∷◌, ◌++◌, map, refl, sym, ◌∙◌, ap, Option, Some, None}
+use Rattle.std.proofs.Common.{◌≡◌, List, [], ◌∷◌, ◌++◌, map, refl, ap}
 use Rattle.std.specs.List.{AllByRecursion}
-use Rattle.std.proofs.lemmas.List.{append-nil}
 use Rattle.pp_outside.specs.declared.link.Address.{Address}
 use Rattle.pp_outside.specs.declared.link.Address.TheVariants.{V4, V6}
 use Rattle.pp_draft.specs.declared.note.Note.{Note}
-use Rattle.pp_draft.specs.declared.note.Note.TheVariants.{KeepAlive, Handshake, Close, Choke, Unchoke, Ack, Have, Request, Cancel, PexReq, Pex4, Pex6}
+use Rattle.pp_draft.specs.declared.note.Note.TheVariants.{Ack, Pex4, Pex6}
 use Rattle.pp_agenda.specs.declared.agenda.Acknowledgement.{Acknowledgement}
-use Rattle.pp_agenda.specs.Agendas.{only, ack_note, address_note}
+use Rattle.pp_agenda.specs.Agendas.{ack_note, address_note}
 use Rattle.pp_agenda.specs.Laws.{acked, addressed}
 
 abbrev pub IsNoAck : Note → Type 0

@@ -1,9 +1,9 @@
 -- The notes pass no committed chunk, and ask before they cancel.
-use Rattle.std.proofs.Common.{◌≡◌, ℕ, ◌+◌, ◌-◌, ◌<◌, ◌≤◌, max, Bool, true, false, List, [], ◌∷◌, ◌++◌, map, get_or, refl, sym, ◌∙◌, ap, subst, arith}
+use Rattle.std.proofs.Common.{◌≡◌, ℕ, ◌+◌, ◌-◌, ◌<◌, max, Bool, false, List, [], ◌∷◌, ◌++◌, map, get_or, refl, ◌∙◌, ap, subst, arith}
 use Rattle.std.specs.List.{AllByRecursion}
 use Rattle.pp_terms.specs.tree.Range.{Span}
 use Rattle.pp_draft.specs.declared.note.Note.{Note}
-use Rattle.pp_draft.specs.declared.note.Note.TheVariants.{KeepAlive, Handshake, Close, Choke, Unchoke, Ack, Have, Request, Cancel, PexReq, Pex4, Pex6}
+use Rattle.pp_draft.specs.declared.note.Note.TheVariants.{Have, Request, Cancel}
 use Rattle.pp_desk.specs.Steps.{cursor_behind, cursor_after}
 use Rattle.pp_seats.specs.Sending.{PassesAll, requested, AsksFirst}
 use Rattle.pp_agenda.specs.Agendas.{have_note, request_note, AreRows}

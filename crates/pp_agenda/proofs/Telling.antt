@@ -1,10 +1,9 @@
 -- What the notes tell of.
-use Rattle.std.proofs.Common.{◌≡◌, ◌⊎◌, inl, inr, ⊎_elim, ℕ, ◌+◌, ◌-◌, ◌<◌, ◌≤◌, Bool, true, false, cond, nat_lt, nat_le, min, ◌&&◌, ◌||◌, List, [], ◌∷◌, ◌++◌, length, map, get_or, refl, sym, ◌∙◌, ap, subst, arith}
+use Rattle.std.proofs.Common.{◌≡◌, ◌⊎◌, inl, inr, ⊎_elim, ℕ, ◌+◌, ◌-◌, ◌<◌, ◌≤◌, Bool, true, false, cond, nat_lt, nat_le, min, ◌||◌, List, [], ◌∷◌, length, map, get_or, refl, sym, ap, arith}
 use Rattle.std.specs.List.{AllByRecursion, list_any}
-use Rattle.std.proofs.lemmas.Bool.{and_parts, and_from, or_cases, or_left, or_right, leb-true, le-leb, lt-ltb, ltb-true, cases_Bool, cases_lt, both_ways}
+use Rattle.std.proofs.lemmas.Bool.{and_parts, and_from, or_cases, or_left, or_right, leb-true, le-leb, lt-ltb, ltb-true, cases_lt, both_ways}
 use Rattle.pp_terms.specs.tree.Range.{Span, within, has, IsRunsFrom}
 use Rattle.pp_terms.proofs.Facts.{member_below}
-use Rattle.pp_draft.specs.declared.note.Note.{Note}
 use Rattle.pp_seats.specs.Sending.{tells_note}
 use Rattle.pp_agenda.specs.Agendas.{have_note, cancel_note, parts_below, AreRows}
 use Rattle.pp_agenda.specs.Laws.{IsCommitted, cancels_note}

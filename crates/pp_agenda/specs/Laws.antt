@@ -1,12 +1,12 @@
 -- What follows of the notes that are due: they may be said, and they leave nothing out.
-use Rattle.std.specs.Prelude.{◌≡◌, ◌⊎◌, ℕ, ◌+◌, ◌^◌, ◌<◌, ◌≤◌, Bool, true, false, ◌&&◌, if◌then◌else◌, Option, Some, None, List, [], ◌∷◌, length, slice_index_or}
+use Rattle.std.specs.Prelude.{◌≡◌, ◌⊎◌, ℕ, ◌^◌, ◌<◌, ◌≤◌, Bool, true, false, ◌&&◌, if◌then◌else◌, Option, Some, List, [], ◌∷◌, length, slice_index_or}
 use Rattle.std.specs.List.{AllByRecursion, list_any}
 use Rattle.pp_terms.specs.tree.Range.{Span, within, has}
 use Rattle.pp_terms.specs.format.Descriptor.{Descriptor, chunks_of}
 use Rattle.pp_outside.specs.declared.link.Address.{Address}
 use Rattle.pp_outside.specs.declared.link.Address.TheVariants.{V4, V6}
 use Rattle.pp_draft.specs.declared.note.Note.{Note}
-use Rattle.pp_draft.specs.declared.note.Note.TheVariants.{Choke, Unchoke, Ack, Cancel, PexReq, Pex4, Pex6, KeepAlive}
+use Rattle.pp_draft.specs.declared.note.Note.TheVariants.{Choke, Unchoke, Ack, Cancel, PexReq, Pex4, Pex6}
 use Rattle.pp_draft.specs.Notes.{IsInside}
 use Rattle.pp_seat.specs.Seats.{SeatState}
 use Rattle.pp_seat.specs.Turns.{due_turn}

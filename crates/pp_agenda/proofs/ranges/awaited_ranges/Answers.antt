@@ -1,4 +1,4 @@
-use Rattle.std.proofs.Common.{inl, inr, ◌≤◌, sym, ◌∙◌, ap, subst, arith, length, List}
+use Rattle.std.proofs.Common.{inl, inr, sym, ◌∙◌, ap, subst, arith, length, List}
 use Rattle.pp_terms.specs.tree.Range.{Span, has, IsRunsFrom}
 use Rattle.pp_agenda.proofs.Awaiting.{both_more}
 use Rattle.pp_agenda.proofs.ranges.awaited_ranges.Goals as goal

@@ -1,4 +1,4 @@
-use Rattle.std.proofs.Common.{◌≡◌, inl, inr, ◌++◌, ◌∷◌, [], List, length, refl, ap, ◌∙◌, arith}
+use Rattle.std.proofs.Common.{inl, inr, List, length, refl, ap, ◌∙◌, arith}
 use Rattle.pp_draft.specs.declared.note.Note.{Note}
 use Rattle.pp_agenda.proofs.Filling.{put_length, news_more}
 use Rattle.pp_agenda.proofs.agenda.Agenda.add_news.Goals as goal

@@ -1,4 +1,4 @@
-use Rattle.std.proofs.Common.{◌≡◌, ◌≤◌, ◌+◌, ◌-◌, length}
+use Rattle.std.proofs.Common.{◌≤◌, ◌+◌, ◌-◌, length}
 use Rattle.pp_agenda.proofs.Filling.{RowsRest}
 use Rattle.pp_agenda.proofs.agenda.Agenda.add_rows.Given as goal
 
