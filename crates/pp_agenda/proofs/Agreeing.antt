@@ -16,7 +16,7 @@ use Rattle.pp_seat.specs.declared.service.Turn.{Turn}
 use Rattle.pp_seat.specs.declared.service.Turn.TheVariants.{Choke, Unchoke}
 use Rattle.pp_desk.specs.Steps.{IsPlain, cursor_after}
 use Rattle.pp_seats.specs.Sending.{Announces, PassesAll, requested, AsksFirst, FitAll, tells_note}
-use Rattle.pp_agenda.specs.declared.agenda.Acknowledgement.{Acknowledgement}
+use Rattle.pp_news.specs.declared.acknowledgement.Acknowledgement.{Acknowledgement}
 use Rattle.pp_agenda.specs.declared.agenda.Due.{Due}
 use Rattle.pp_agenda.specs.Agendas.{only, turn_notes, ack_note, have_note, request_note, cancel_note, address_note, parts_below, most_rows, AreRows, spoken_notes, or_keep_alive, IsAgenda}
 use Rattle.pp_agenda.specs.Laws.{IsCommitted, IsFitting, MayBeSaid, are_telling, CoversNews, CoversRows, KnowsNoMore, acked, addressed, cancels_note, is_address_request, ExchangesAll, CancelsAll, is_choke, is_unchoke, is_choke_due, is_unchoke_due, ChokesWhereDue, IsNeverSilent}

@@ -5,7 +5,7 @@ use Rattle.pp_outside.specs.declared.link.Address.{Address}
 use Rattle.pp_outside.specs.declared.link.Address.TheVariants.{V4, V6}
 use Rattle.pp_draft.specs.declared.note.Note.{Note}
 use Rattle.pp_draft.specs.declared.note.Note.TheVariants.{Ack, Pex4, Pex6}
-use Rattle.pp_agenda.specs.declared.agenda.Acknowledgement.{Acknowledgement}
+use Rattle.pp_news.specs.declared.acknowledgement.Acknowledgement.{Acknowledgement}
 use Rattle.pp_agenda.specs.Agendas.{ack_note, address_note}
 use Rattle.pp_agenda.specs.Laws.{acked, addressed}
 

@@ -12,7 +12,7 @@ use Rattle.pp_seat.specs.Own.{IsNextRow}
 use Rattle.pp_seat.specs.Turns.{due_turn}
 use Rattle.pp_seat.specs.declared.service.Turn.{Turn}
 use Rattle.pp_seat.specs.declared.service.Turn.TheVariants.{Choke, Unchoke}
-use Rattle.pp_agenda.specs.declared.agenda.Acknowledgement.{Acknowledgement}
+use Rattle.pp_news.specs.declared.acknowledgement.Acknowledgement.{Acknowledgement}
 use Rattle.pp_agenda.specs.declared.agenda.Due.{Due}
 
 -- ---- one kind after the other

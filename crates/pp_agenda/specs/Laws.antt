@@ -14,7 +14,7 @@ use Rattle.pp_seat.specs.declared.service.Turn.{Turn}
 use Rattle.pp_seat.specs.declared.service.Turn.TheVariants as turns
 use Rattle.pp_desk.specs.Steps.{IsPlain}
 use Rattle.pp_seats.specs.Sending.{requested, tells_note, FitAll, MaySay}
-use Rattle.pp_agenda.specs.declared.agenda.Acknowledgement.{Acknowledgement}
+use Rattle.pp_news.specs.declared.acknowledgement.Acknowledgement.{Acknowledgement}
 use Rattle.pp_agenda.specs.declared.agenda.Due.{Due}
 use Rattle.pp_agenda.specs.Agendas.{AreRows, is_cancelled, IsAgenda}
 

@@ -7,6 +7,7 @@ ghost use Rattle.pp_agenda.specs.Agendas.{only, or_keep_alive, turn_notes, ack_n
 
 use crate::ranges::{awaited_ranges, next_row, part_below};
 use pp_draft::Note;
+use pp_news::Acknowledgement;
 use pp_outside::Address;
 use pp_ranges::{ChunkRange, RangeList};
 use pp_seat::{Seat, Turn};
@@ -19,13 +20,6 @@ const MOST_NOTES: usize = 1_099;
 
 // So many rows of committed chunks are told of at the most.
 const MOST_ROWS: u32 = 64;
-
-/// Chunks that came on a channel and are acknowledged together, with a sample of the one-way delay in microseconds.
-#[derive(Clone, Copy, PartialEq, Eq, Debug)]
-pub struct Acknowledgement {
-    pub range: ChunkRange,
-    pub delay: u64,
-}
 
 /// What is due on a channel beside what its seat tells itself.
 #[derive(Clone, Copy)]

@@ -9,7 +9,7 @@ mod ranges;
 #[cfg(test)]
 mod tests;
 
-pub use agenda::{Acknowledgement, Agenda, Due};
+pub use agenda::{Agenda, Due};
 
 /// The notes that are due may be said, tell of committed chunks alone and leave nothing out. It does nothing.
 pub fn laws_of_agendas()

@@ -1,8 +1,9 @@
 //! What is due on a channel, with the notes worked out by hand from RFC 7574 (sections 3.2 to 3.12).
 ghost use Rattle.std.specs.Prelude.{◌≡◌, ◌≤◌, length, IfOk};
 
-use crate::{Acknowledgement, Agenda, Due};
+use crate::{Agenda, Due};
 use pp_draft::Note;
+use pp_news::Acknowledgement;
 use pp_outside::Address;
 use pp_ranges::{ChunkRange, RangeList};
 use pp_seat::Seat;
