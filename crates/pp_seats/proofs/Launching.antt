@@ -362,6 +362,9 @@ passes_over p q k store far before after i end may absent lt runs none exact sta
       chunk = i;
       may = may;
       absent = absent;
+      end = end;
+      exact = exact;
+      gap = none;
       is = is;
       fewer = subst (λ (o : SeatState). chunk_count o.list < chunk_count before.list) (sym exact) (below_fewer end before.list i runs may.next.least lt);
       stands = λ x most past h holds. subst (λ (o : SeatsState). StandsFor x most o past) (sym is)
@@ -475,7 +478,7 @@ refused_so p q k store x before after link later disk left true e l h is = absur
 refused_so p q k store x before after link later disk left false e l h is = (
   x.chunk,
   h.bytes,
-  record { traffic = h.goes.0.outcome.0; risen = h.goes.0.outcome.1; nexts = h.goes.0.nexts; bound = h.goes.0.bound },
+  record { traffic = h.goes.0.outcome.0; risen = h.goes.0.outcome.1; grows = h.goes.0.later; nexts = h.goes.0.nexts; bound = h.goes.0.bound },
   h.given,
   gives_up p q k store l.readied.far before after x.chunk l.readied.may l.committed h.goes.1.exact h.goes.1.fewer h.goes.1.given is,
 )

@@ -1,5 +1,5 @@
 -- Chunks that go out on the seats' channels.
-use Rattle.std.specs.Prelude.{◌≡◌, ◌⊎◌, ℕ, ◌+◌, ◌<◌, Bool, true, false, Some, Ok, Err, List, ◌∷◌, slice_get, slice_set, slice_index_or}
+use Rattle.std.specs.Prelude.{◌≡◌, ◌⊎◌, ℕ, ◌+◌, ◌<◌, ◌≤◌, Bool, true, false, Some, Ok, Err, List, ◌∷◌, slice_get, slice_set, slice_index_or}
 use Rattle.pp_terms.specs.Count.{HasRisen}
 use Rattle.pp_terms.specs.disk.Disk.{DiskState, moment_of}
 use Rattle.pp_terms.specs.format.Traffic as traffic
@@ -11,6 +11,7 @@ use Rattle.pp_traffic.specs.Meter as meters
 use Rattle.pp_traffic.specs.Meter.{lets_send}
 use Rattle.pp_traffic.specs.Serving.{Serves}
 use Rattle.pp_promises.specs.Datagrams.{Plans}
+use Rattle.pp_ranges.specs.Edits.{without_below}
 use Rattle.pp_requests.specs.Lists.{without, chunk_count}
 use Rattle.pp_plan.specs.Told.{knows}
 use Rattle.pp_outside.specs.Outside.{address_of}
@@ -73,6 +74,10 @@ pub record PassesOver (seat : ℕ) (store : StoreState) (old new : SeatsState) :
   pub chunk : ℕ
   pub may : MayGo old seat far before chunk
   pub absent : is_committed store chunk ≡ false
+  -- those below this one
+  pub end : ℕ
+  pub exact : after ≡ record before { list = without_below end before.list }
+  pub gap : (i : ℕ) → chunk ≤ i → i < end → is_committed store i ≡ false
   pub is : new ≡ record old { seats = slice_set old.seats seat after }
   pub fewer : chunk_count after.list < chunk_count before.list
   pub stands : (x : Setting) (most : ℕ) (past : List Record) → StandsFor x most old past → HoldsAnnounced x (is_committed store) past
@@ -94,6 +99,7 @@ pub record GivesUpChunk (seat : ℕ) (store : StoreState) (chunk : ℕ) (old new
 pub record Refuses (link later : LinkState) : Type 0 where
   pub traffic : later.traffic ≡ link.traffic
   pub risen : HasRisen link.faults later.faults
+  pub grows : link.faults ≤ later.faults
   pub nexts : later.nexts ≡ link.nexts
   pub bound : later.bound ≡ link.bound
 

@@ -1,0 +1,14 @@
+pub mod Counted
+pub mod Known
+pub mod Fetched
+pub mod Ledgers
+pub mod Flushed
+pub mod Ending
+pub mod Heard
+pub mod Datagrams
+pub mod Arrived
+pub mod Greeted
+pub mod Parted
+pub mod GivenUp
+pub mod Chunks
+pub mod Rounds

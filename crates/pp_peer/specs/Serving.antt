@@ -1,0 +1,96 @@
+-- What becomes of the chunks that a peer is asked for.
+use Rattle.std.specs.Prelude.{◌≡◌, ◌≢◌, ◌⊎◌, ℕ, ◌<◌, Option, Some, None, List, ◌++◌, length, slice_get}
+use Rattle.std.specs.List.{AllByRecursion}
+use Rattle.pp_terms.specs.format.Traffic.{Record, Sent}
+use Rattle.pp_terms.specs.format.Descriptor.{Descriptor}
+use Rattle.pp_traffic.specs.Past.{read}
+use Rattle.pp_counts.specs.Counts.{after_note}
+use Rattle.pp_counts.specs.declared.counts.Counts.{Counts}
+use Rattle.pp_counts.specs.declared.note.Note.{Note}
+use Rattle.pp_counts.specs.declared.note.Note.TheVariants as notes
+use Rattle.pp_outside.specs.Outside.{address_of}
+use Rattle.pp_channels.specs.Seats.{channel_at}
+use Rattle.pp_lives.specs.Fars.{far_of}
+use Rattle.pp_lives.specs.declared.lives.Far.{Far}
+use Rattle.pp_draft.specs.declared.chunk.Unread.TheVariants as unread
+use Rattle.pp_seats.specs.declared.serving.Served.{Served}
+use Rattle.pp_seats.specs.declared.serving.Served.TheVariants as outcomes
+use Rattle.pp_seats.specs.Standing.{SeatsState}
+use Rattle.pp_seats.specs.Serving.{HasNothing}
+use Rattle.pp_peer.specs.declared.parts.Parts.{Parts}
+use Rattle.pp_peer.specs.Flushing.{Scene, Flushes}
+
+-- what is counted of what became of a chunk
+abbrev pub counted : Served → Option Note
+counted outcomes.Done = None
+counted outcomes.Passed = Some notes.Unheld
+counted outcomes.Sent = Some notes.Sent
+counted outcomes.Refused = Some notes.SendFault
+counted (outcomes.Unread unread.Absent) = Some notes.Unheld
+counted (outcomes.Unread unread.Disk) = Some notes.ReadFault
+counted (outcomes.Unread unread.Damaged) = Some notes.Damaged
+
+-- the counts with a note, if any
+abbrev pub with_note : Option Note → Counts → Counts
+with_note None k = k
+with_note (Some note) k = after_note note k
+
+-- how many chunks were sent, and how many given up
+abbrev pub sent_of : Served → ℕ
+sent_of outcomes.Done = 0
+sent_of outcomes.Passed = 0
+sent_of outcomes.Sent = 1
+sent_of outcomes.Refused = 0
+sent_of (outcomes.Unread why) = 0
+
+abbrev pub given_up : Served → ℕ
+given_up outcomes.Done = 0
+given_up outcomes.Passed = 0
+given_up outcomes.Sent = 0
+given_up outcomes.Refused = 1
+given_up (outcomes.Unread why) = 1
+
+-- The seats and the counts changed alone.
+abbrev pub OnlySeats : Parts → Parts → Type 0
+OnlySeats old new = new ≡ record old { seats = new.seats; counts = new.counts }
+
+-- how many chunks are sent on a seat's channel at a time
+abbrev pub most_sent : ℕ
+most_sent = 512
+
+-- The record went to the other peer of a channel, under its number.
+abbrev pub GoesTo : Descriptor → Far → Record → Type 0
+GoesTo d far (Sent moment receiver bytes) = (receiver ≡ address_of far.address)
+    × ((read d (Sent moment receiver bytes)).channel ≡ Some far.number)
+GoesTo d far _ = ⊥
+
+-- No seat changed but one, and no channel's peer.
+pub record ChangesOneSeat (seat : ℕ) (old new : SeatsState) : Type 0 where
+  pub far : (other : ℕ) → far_of (channel_at new.table other) ≡ far_of (channel_at old.table other)
+  pub others : (other : ℕ) → other ≢ seat → slice_get new.seats other ≡ slice_get old.seats other
+
+-- The chunks that may go on a seat's channel went, but for those that were given up: afterwards nothing may be sent there, or as
+-- many went as do at a time. All went there.
+pub record ServesSeat (seat refused : ℕ) (old new : Scene) : Type 0 where
+  pub flushes : Flushes refused old new
+  pub ends : HasNothing new.parts.seats seat ⊎ (length flushes.added ≡ most_sent)
+  pub to : (far : Far) → far_of (channel_at old.parts.seats.table seat) ≡ Some far
+      → AllByRecursion (GoesTo old.parts.seats.descriptor far) flushes.added
+  pub one : ChangesOneSeat seat old.parts.seats new.parts.seats
+
+-- Among what was sent, as many went on a seat's channel in a row as do at a time.
+pub record HasFull (seat : ℕ) (p : SeatsState) (added : List Record) : Type 0 where
+  pub far : Far
+  pub is_far : far_of (channel_at p.table seat) ≡ Some far
+  pub later : List Record
+  pub row : List Record
+  pub before : List Record
+  pub split : added ≡ later ++ (row ++ before)
+  pub many : length row ≡ most_sent
+  pub to : AllByRecursion (GoesTo p.descriptor far) row
+
+-- So it is with each seat below a number.
+pub record ServesBelow (seats refused : ℕ) (old new : Scene) : Type 0 where
+  pub flushes : Flushes refused old new
+  pub ends : (seat : ℕ) → seat < seats → HasNothing new.parts.seats seat ⊎ HasFull seat old.parts.seats flushes.added
+  pub far : (seat : ℕ) → far_of (channel_at new.parts.seats.table seat) ≡ far_of (channel_at old.parts.seats.table seat)
