@@ -132,9 +132,10 @@ impl Fetching {
         ensures { self.new
             ≡ record self.old { want = record self.old.want { had = slice_set self.old.want.had i true } } }
     {
-        if i < self.chunks {
-            self.wanting.got(i);
+        if i >= self.chunks {
+            return;
         }
+        self.wanting.got(i);
     }
 
     /// A chunk is asked for on no channel any more: it came, its request expired, or it was cancelled. A number past the content
