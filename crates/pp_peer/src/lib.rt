@@ -7,5 +7,7 @@ mod greeting;
 mod hearing;
 mod parts;
 mod serving;
+#[cfg(test)]
+mod tests;
 
 pub use parts::Parts;
