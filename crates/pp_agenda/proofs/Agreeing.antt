@@ -19,7 +19,7 @@ use Rattle.pp_seats.specs.Sending.{Announces, PassesAll, requested, AsksFirst, F
 use Rattle.pp_news.specs.declared.acknowledgement.Acknowledgement.{Acknowledgement}
 use Rattle.pp_agenda.specs.declared.agenda.Due.{Due}
 use Rattle.pp_agenda.specs.Agendas.{only, turn_notes, ack_note, have_note, request_note, cancel_note, address_note, parts_below, most_rows, AreRows, spoken_notes, or_keep_alive, IsAgenda}
-use Rattle.pp_agenda.specs.Laws.{IsCommitted, IsFitting, MayBeSaid, are_telling, CoversNews, CoversRows, KnowsNoMore, acked, addressed, cancels_note, is_address_request, ExchangesAll, CancelsAll, is_choke, is_unchoke, is_choke_due, is_unchoke_due, ChokesWhereDue, IsNeverSilent}
+use Rattle.pp_agenda.specs.Laws.{IsCommitted, IsPlaced, AllMayGo, MayBeSaid, are_telling, CoversNews, CoversRows, KnowsNoMore, acked, addressed, cancels_note, is_address_request, ExchangesAll, CancelsAll, is_choke, is_unchoke, is_choke_due, is_unchoke_due, ChokesWhereDue, IsNeverSilent}
 use Rattle.pp_agenda.proofs.Parts.{all_both, all_mapped, all_same, all_turned, all_only, all_turn, kept, OfEach, all_spoken, none_mapped, any_kept, any_spoken, address_is, read_kept, read_only, read_spoken}
 use Rattle.pp_agenda.proofs.Telling.{haves_tell, cancels_drop, parts_have, IsPart, parts_are, rows_cover, rows_are_committed, parts_known, committed_below, runs_inside}
 use Rattle.pp_agenda.proofs.Passing.{IsQuiet, quiet_passes, quiet_stays, passes_both, stays_both, IsPassed, passed_pass, passed_stay, rows_pass, IsNoRequest, IsNoCancel, requested-append, requested_none, requested-map, first_alone, first_behind}
@@ -275,7 +275,7 @@ plain_are s due rows cancels = record {
   answers = all_same (λ (x : Address). IsPlain (address_note x)) due.addresses.now (address_is IsPlain (λ b p. tt) (λ b p. tt));
 }
 
-inside_are : (d : Descriptor) (s : SeatState) (due : Due) (agenda : List Note) → IsFitting (chunks_of d) s due → (g : IsAgenda s due agenda) → OfEach (IsInside d) s due g.rows g.cancels
+inside_are : (d : Descriptor) (s : SeatState) (due : Due) (agenda : List Note) → IsPlaced (chunks_of d) due → (g : IsAgenda s due agenda) → OfEach (IsInside d) s due g.rows g.cancels
 inside_are d s due agenda f g = record {
   choke = tt;
   unchoke = tt;
@@ -297,7 +297,7 @@ inside_are d s due agenda f g = record {
     committed_too : (a b c : Bool) → (a && (b && c)) ≡ true → c ≡ true
     committed_too a b c all = (and_parts b c (and_parts a (b && c) all).1).1
 
-announced_are : (held : ℕ → Bool) (s : SeatState) (due : Due) (agenda : List Note) (chunks : ℕ) → IsFitting chunks s due → ((i : ℕ) → held i ≡ get_or due.committed.now i false)
+announced_are : (held : ℕ → Bool) (s : SeatState) (due : Due) (agenda : List Note) (chunks : ℕ) → IsPlaced chunks due → ((i : ℕ) → held i ≡ get_or due.committed.now i false)
     → (g : IsAgenda s due agenda) → OfEach (Announces held) s due g.rows g.cancels
 announced_are held s due agenda chunks f same g = record {
   choke = tt;
@@ -314,7 +314,7 @@ announced_are held s due agenda chunks f same g = record {
 }
 
 -- the notes before the rows leave the cursor where it is
-passes_are : (held : ℕ → Bool) (s : SeatState) (due : Due) (agenda : List Note) (chunks : ℕ) → IsFitting chunks s due → ((i : ℕ) → held i ≡ get_or due.committed.now i false)
+passes_are : (held : ℕ → Bool) (s : SeatState) (due : Due) (agenda : List Note) (chunks : ℕ) → IsPlaced chunks due → ((i : ℕ) → held i ≡ get_or due.committed.now i false)
     → (g : IsAgenda s due agenda) → PassesAll held s.cursor (spoken_notes s due g.rows g.cancels)
 passes_are held s due agenda chunks f same g =
     passes_both held s.cursor _ _ (passes_both held s.cursor _ _ (passes_both held s.cursor _ _ (passes_both held s.cursor _ _
@@ -385,24 +385,34 @@ first_are s due rows cancels =
     unasked : {X : Type 0} (b : Bool) (kind : X → Note) (xs : List X) → ((x : X) → IsNoRequest (kind x)) → AllByRecursion IsNoRequest (only b (map kind xs))
     unasked b kind xs h = all_only IsNoRequest b (map kind xs) (all_mapped IsNoRequest kind xs (all_same (λ x. IsNoRequest (kind x)) xs h))
 
+-- what holds of all notes and of KEEPALIVE
+of_agenda : (P : List Note → Type 0) (s : SeatState) (due : Due) (agenda : List Note) (g : IsAgenda s due agenda) → P (notes.KeepAlive ∷ [])
+    → P (spoken_notes s due g.rows g.cancels) → P agenda
+of_agenda P s due agenda g alive is =
+    subst P (sym g.is) (kept P ((due.tells || s.proven) && due.is_silent) (spoken_notes s due g.rows g.cancels) alive is)
+
+pub all_may_go : AllMayGo
+all_may_go d s due agenda f g = record {
+  plain = of_agenda (AllByRecursion IsPlain) s due agenda g (tt, tt) (all_spoken IsPlain s due g.rows g.cancels (plain_are s due g.rows g.cancels));
+  inside = of_agenda (AllByRecursion (IsInside d)) s due agenda g (tt, tt)
+      (all_spoken (IsInside d) s due g.rows g.cancels (inside_are d s due agenda f g));
+  few = (let a = g.few in omega arith);
+}
+
 pub may_be_said : MayBeSaid
 may_be_said d held s due agenda f same g = record {
-  plain = of IsPlain tt (all_spoken IsPlain s due g.rows g.cancels (plain_are s due g.rows g.cancels));
-  inside = of (IsInside d) tt (all_spoken (IsInside d) s due g.rows g.cancels (inside_are d s due agenda f g));
-  few = (let a = g.few in omega arith);
+  goes = all_may_go d s due agenda f.placed g;
   may = record {
-    announces = of (Announces held) tt (all_spoken (Announces held) s due g.rows g.cancels (announced_are held s due agenda (chunks_of d) f same g));
-    passes = by (PassesAll held s.cursor) (tt, tt) (passes_are held s due agenda (chunks_of d) f same g);
+    announces = by (AllByRecursion (Announces held)) (tt, tt)
+        (all_spoken (Announces held) s due g.rows g.cancels (announced_are held s due agenda (chunks_of d) f.placed same g));
+    passes = by (PassesAll held s.cursor) (tt, tt) (passes_are held s due agenda (chunks_of d) f.placed same g);
     first = by AsksFirst tt (first_are s due g.rows g.cancels);
     fit = subst (λ (ranges : List Span). FitAll ranges s.own) (sym (exchanges_all s due agenda g).asks) (fits s.proven);
   };
 }
   where
     by : (P : List Note → Type 0) → P (notes.KeepAlive ∷ []) → P (spoken_notes s due g.rows g.cancels) → P agenda
-    by P alive is = subst P (sym g.is) (kept P ((due.tells || s.proven) && due.is_silent) (spoken_notes s due g.rows g.cancels) alive is)
-
-    of : (P : Note → Type 0) → P notes.KeepAlive → AllByRecursion P (spoken_notes s due g.rows g.cancels) → AllByRecursion P agenda
-    of P alive is = by (AllByRecursion P) (alive, tt) is
+    by P alive is = of_agenda P s due agenda g alive is
 
     fits : (b : Bool) → FitAll (cond b due.requests.now []) s.own
     fits true = f.fit

@@ -25,22 +25,33 @@ pub record IsCommitted (committed : List Bool) (range : Span) : Type 0 where
   pub order : range.first ≤ range.last
   pub each : (i : ℕ) → within range i ≡ true → slice_index_or committed i false ≡ true
 
--- What came and what is new is committed, and what is asked for are chunks of the content for which there is room, and none of
--- which is asked for already.
-pub record IsFitting (chunks : ℕ) (s : SeatState) (due : Due) : Type 0 where
+-- What came and what is new is committed, and what is asked for are chunks of the content.
+pub record IsPlaced (chunks : ℕ) (due : Due) : Type 0 where
   pub size : length due.committed.now ≡ chunks
   pub came : AllByRecursion (λ (one : Acknowledgement). IsCommitted due.committed.now one.range) due.acknowledgements.now
   pub new : AllByRecursion (IsCommitted due.committed.now) due.news.now
   pub inside : AllByRecursion (λ (range : Span). range.last < chunks) due.requests.now
+
+-- What is due lies in the content; and for what is asked for there is room, and none of it is asked for already.
+pub record IsFitting (chunks : ℕ) (s : SeatState) (due : Due) : Type 0 where
+  pub placed : IsPlaced chunks due
   pub fit : FitAll due.requests.now s.own
 
 -- ---- the notes may be said
 
--- All that `speak` and its contract ask of notes, where a set has all that is announced.
-pub record MaySpeak (d : Descriptor) (held : ℕ → Bool) (s : SeatState) (agenda : List Note) : Type 0 where
+-- All that `speak` asks of notes.
+pub record MayGo (d : Descriptor) (agenda : List Note) : Type 0 where
   pub plain : AllByRecursion IsPlain agenda
   pub inside : AllByRecursion (IsInside d) agenda
   pub few : length agenda < 2 ^ 32
+
+abbrev pub AllMayGo : Type 0
+AllMayGo = (d : Descriptor) (s : SeatState) (due : Due) (agenda : List Note) → IsPlaced (chunks_of d) due → IsAgenda s due agenda
+    → MayGo d agenda
+
+-- The notes of an agenda may go, and may be said on their channel, where a set has all that is announced.
+pub record MaySpeak (d : Descriptor) (held : ℕ → Bool) (s : SeatState) (agenda : List Note) : Type 0 where
+  pub goes : MayGo d agenda
   pub may : MaySay held agenda s
 
 -- The set is that of the committed chunks.

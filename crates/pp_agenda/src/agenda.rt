@@ -26,7 +26,7 @@ const MOST_ROWS: u32 = 64;
 pub struct Due<'a> {
     /// The chunks of the content that may be told of.
     pub committed: &'a ChunkSet,
-    /// Whether HAVE may go: the channel is proven, or this peer's reply has just been sent.
+    /// Whether HAVE may go: the channel is proven, or this peer's reply goes before the notes.
     pub tells: bool,
     /// What came and is to be acknowledged, at most 614.
     pub acknowledgements: &'a [Acknowledgement],

@@ -2,7 +2,7 @@
 //! Only `Agenda::new` takes memory.
 #![tactic(auto)]
 
-ghost use Rattle.pp_agenda.specs.Laws.{MayBeSaid, CoversNews, CoversRows, KnowsNoMore, ExchangesAll, CancelsAll, ChokesWhereDue, IsNeverSilent};
+ghost use Rattle.pp_agenda.specs.Laws.{AllMayGo, MayBeSaid, CoversNews, CoversRows, KnowsNoMore, ExchangesAll, CancelsAll, ChokesWhereDue, IsNeverSilent};
 
 mod agenda;
 mod ranges;
@@ -10,9 +10,11 @@ mod ranges;
 mod tests;
 
 pub use agenda::{Agenda, Due};
+pub use ranges::awaited_ranges;
 
 /// The notes that are due may be said, tell of committed chunks alone and leave nothing out. It does nothing.
 pub fn laws_of_agendas()
+    ensures goes { AllMayGo }
     ensures said { MayBeSaid }
     ensures news { CoversNews }
     ensures rows { CoversRows }

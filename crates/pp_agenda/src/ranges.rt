@@ -32,7 +32,7 @@ pub(crate) fn part_below(range: ChunkRange, limit: u32) -> Option<ChunkRange>
 }
 
 /// The committed ones among chunks that are awaited, of a content of so many, in the fewest ranges.
-pub(crate) fn awaited_ranges(awaited: &[Asking], committed: &ChunkSet, chunks: u32) -> RangeList
+pub fn awaited_ranges(awaited: &[Asking], committed: &ChunkSet, chunks: u32) -> RangeList
     requires chunks { length committed.now ≡ chunks }
     requires few { length awaited.now ≤ 32 }
     ensures runs { IsRunsFrom 0 result }

@@ -1,13 +1,4 @@
-pub mod Counting
-pub mod Hearing
-pub mod Progress
-pub mod Taking
-pub mod Writing
-pub mod Announcing
-pub mod Sending
-pub mod Standing
-pub mod Events
 pub mod Peers
-pub mod Sends
-pub mod Serving
 pub mod Opening
+pub mod Keeping
+pub mod Turning

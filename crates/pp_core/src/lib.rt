@@ -1,21 +1,13 @@
-//! One peer of a swarm, turn by turn: what comes is absorbed, and what is due is sent.
+//! One peer of a swarm, turn by turn: what comes is absorbed, and what is due is sent (RFC 7574). Only `Peer::open` takes memory.
 #![tactic(auto)]
 
-mod announcing;
-mod channel;
-mod counts;
-mod flight;
-mod hearing;
+#[cfg(test)]
+mod by_datagrams;
+#[cfg(test)]
+mod by_rows;
 mod opening;
 mod peer;
-mod sending;
-mod serving;
-mod taking;
-mod writing;
-
-pub use counts::Counts;
-pub use opening::OpenFault;
-pub use peer::Peer;
-
 #[cfg(test)]
 mod tests;
+
+pub use peer::Peer;

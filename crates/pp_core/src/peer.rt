@@ -1,288 +1,255 @@
 //! A peer of one swarm.
 
-ghost use Rattle.std.specs.Prelude.{◌≡◌, ◌<◌, ◌≤◌, ◌⊎◌, ◌∷◌, ℕ, List, true, false, max, length, IsOk, MatchBool};
-ghost use Rattle.pp_terms.specs.Count.{HasRisen};
-ghost use Rattle.pp_terms.specs.disk.Disk.{moment_of};
-ghost use Rattle.pp_outside.specs.Arrivals.{IsEvent};
-ghost use Rattle.pp_core.specs.Events.{turned, reached, after_event, after_refusal};
-ghost use Rattle.pp_core.specs.Counting.{rise};
-ghost use Rattle.pp_core.specs.Sends.{Sends, Causes, OwesNone, LeavesNone, HasReplied, ServesNext, HasServed, HasFlushed, asked_count};
-ghost use Rattle.pp_core.specs.Serving.{HasPaths, ReadsAlone};
-ghost use Rattle.pp_terms.specs.format.Descriptor.{chunks_of};
-ghost use Rattle.pp_core.specs.Opening.{new_state};
-ghost use Rattle.pp_core.specs.Standing.{StandsFor};
-ghost use Rattle.pp_terms.specs.tree.Book.{LookUp};
-ghost use Rattle.pp_tree.specs.Book.{entry};
+ghost use Rattle.std.specs.Prelude.{◌≡◌, ◌↔◌, Err, ◌<◌, ◌≤◌, [], ◌∷◌, ℕ, List, length, true, false, IfOk, IfErr, OnOk, OnErr, is_some, position};
+ghost use Rattle.pp_terms.specs.Count.{HasCause};
+ghost use Rattle.pp_terms.specs.disk.Disk.{IsKnown, Throughout, moment_of};
+ghost use Rattle.pp_terms.specs.disk.Image.{StandsIn};
+ghost use Rattle.pp_terms.specs.disk.Sound.{IsSound};
 ghost use Rattle.pp_terms.specs.format.Traffic.{Record};
+ghost use Rattle.pp_tree.specs.Book.{entry, IsBookOf};
+ghost use Rattle.pp_outside.specs.Arrivals.{IsEvent};
 ghost use Rattle.pp_outside.specs.Outside.{record_of};
+ghost use Rattle.pp_scan.specs.Look.{KeepsAll, SyncsAtMost};
+ghost use Rattle.pp_scan.specs.Scan.{IsScanned};
+ghost use Rattle.pp_terms.specs.tree.Content.{chunk_length};
+ghost use Rattle.pp_store.specs.Keep.{KeepsDisk};
+ghost use Rattle.pp_store.specs.ReadChunk.{HasRead};
+ghost use Rattle.pp_store.specs.Sound.{StaysSound};
+ghost use Rattle.pp_store.specs.Store.{is_committed, IsOpened, GoesOn};
+ghost use Rattle.pp_terms.specs.format.Descriptor.{chunks_of};
+ghost use Rattle.pp_holding.specs.Holding.{stock_of, AreTied};
+ghost use Rattle.pp_holding.specs.Opening.{IsOpenFault};
+ghost use Rattle.pp_holding.specs.Stock.{IsKept};
+ghost use Rattle.pp_peer.specs.Absorbing.{with_event, Advanced, InTime, is_quiet};
+ghost use Rattle.pp_peer.specs.Events.{Absorbs};
+ghost use Rattle.pp_peer.specs.Standing.{Beginning, Ledger, StandsFor};
+ghost use Rattle.pp_channels.specs.Seats.{is_found};
+ghost use Rattle.pp_core.specs.Keeping.{IsKeeping};
+ghost use Rattle.pp_core.specs.Opening.{HasBegun, beginning};
+ghost use Rattle.pp_core.specs.Turning.{after_refusal, limited, with_limit, Sends, Closes};
 
-use crate::channel::Channel;
-use crate::counts::{Counts, risen};
-use crate::opening::Rooms;
-use crate::sending::{may_deliver, owes_reply, send_reply};
-use crate::serving::serve;
-use crate::taking::take_datagram;
-use pp_outside::{Disk, DiskFault, Event, Link};
-use pp_store::Store;
+use crate::opening::{Room, begin};
+use arrayvec::ArrayVec;
+use pp_avail::Rank;
+use pp_counts::{Counts, Note};
+use pp_fetching::Fetching;
+use pp_holding::Holding;
+use pp_outside::{Address, Disk, DiskFault, Event, Link};
+use pp_peer::{Dials, Parts, Speaker};
+use pp_scan::ScanFault;
+use pp_store::ReadFault;
 use pp_tree::{Book, ChunkSet, Descriptor};
-use rand_chacha::ChaCha20Rng;
-use rand_core::SeedableRng;
+use std::alloc::Global;
 use std::marker::Model;
 
-/// A peer that serves a swarm's store to others.
+/// A peer of one swarm: it serves what it holds to up to 64 others, and may fetch what it lacks.
 #[derive(Drop)]
 pub struct Peer {
-    descriptor: Descriptor,
-    store: Store,
-    latest: u64,
-    channel: Option<Channel>,
-    numbers: ChaCha20Rng,
-    counts: Counts,
-    live: bool,
-    rooms: Rooms,
+    pub(crate) parts: Parts,
+    pub(crate) speaker: Speaker,
+    pub(crate) dials: Dials,
 }
 
 impl Model for Peer {
-    ghost use Rattle.pp_core.specs.Standing.{State};
+    ghost use Rattle.pp_core.specs.Peers.{PeerState};
+    ghost use Rattle.pp_peer.specs.Standing.{IsWhole};
 
-    ghost Value = { State };
+    ghost Value = { PeerState };
 
-    ghost use Rattle.pp_core.specs.Peers.{state_of, HasRoom};
+    ghost view = { λ p. record { parts = p.parts; speaker = p.speaker; dials = p.dials } };
 
-    ghost view = { state_of };
-
-    ghost invariant = { HasRoom };
+    ghost invariant = { λ p. IsWhole p.parts };
 }
 
-fn turned(counts: Counts) -> Counts
-    ensures { result ≡ turned counts }
+// Chunks below this number alone are asked for from now on.
+fn want_below(fetching: &mut Option<Fetching>, limit: u32)
+    ensures { fetching.new ≡ limited limit fetching.old }
 {
-    Counts {
-        turns: risen(counts.turns),
-        ..counts
-    }
-}
-
-fn reached(counts: Counts) -> Counts
-    ensures { result ≡ reached counts }
-{
-    Counts {
-        turns: risen(counts.turns),
-        datagrams: risen(counts.datagrams),
-        ..counts
-    }
-}
-
-fn refused(counts: Counts) -> Counts
-    ensures { result ≡ record counts { turns = rise counts.turns; receive_faults = rise counts.receive_faults } }
-{
-    Counts {
-        turns: risen(counts.turns),
-        receive_faults: risen(counts.receive_faults),
-        ..counts
+    match fetching {
+        Some(fetching) => fetching.want_below(limit),
+        None => {}
     }
 }
 
 impl Peer {
-    // A peer of an open store.
-    pub(crate) fn begin(descriptor: &Descriptor, store: Store, seed: [u8; 32], rooms: Rooms) -> Peer
-        requires chunk { length rooms.chunk.items ≡ descriptor.now.chunk }
-        requires datagram { length rooms.datagram.items ≡ 16384 }
-        requires chunks { rooms.told.chunks ≡ chunks_of descriptor.now }
-        requires none { rooms.told.some ≡ false }
-        requires store { store.descriptor ≡ descriptor.now }
-        requires set { length store.committed ≡ chunks_of descriptor.now }
-        ensures { result ≡ new_state descriptor.now store.committed seed }
+    /// Opens the descriptor's store on the disk, for a peer without a channel. All memory that is ever needed is taken first; an empty
+    /// file becomes a store that holds no chunk, any other is synced and scanned. With an order the peer asks for the chunks that it
+    /// lacks, and dials these addresses; channel numbers are drawn from `random`, 32 bytes that nobody can guess.
+    pub fn open<D: Disk>(
+        alloc: Global,
+        descriptor: &Descriptor,
+        random: [u8; 32],
+        asks: Option<Rank>,
+        dial: &ArrayVec<Address, 16>,
+        disk: &mut D,
+    ) -> Result<Peer, ScanFault>
+        ensures begun { IfOk result (HasBegun descriptor.now random asks dial.now.items) }
+        ensures stands { IfOk result (λ p. StandsFor (beginning p (moment_of (D.state disk.new).history)) 0 p.parts []) }
+        // Exactly those chunks are committed, and those digests known, that an opening finds in what reads gave.
+        ensures scanned { IfOk result (λ p. IsScanned descriptor.now (D.state disk.old) (entry p.parts.holding.book) p.parts.holding.store.committed) }
+        ensures fault { IfErr result (IsOpenFault descriptor.now (D.state disk.old) (D.state disk.new)) }
+        ensures opened { IsKnown (D.state disk.old)
+            → OnOk result (IsOpened descriptor.now (D.state disk.old).history (D.state disk.new).history) }
+        // Whatever it answers, a file that isn't empty is not written to, and synced once at the most.
+        ensures unwritten { IsKnown (D.state disk.old) → 0 < length (D.state disk.old).history.reads
+            → SyncsAtMost (D.state disk.old).history (D.state disk.new).history }
+        // Where what reads gave was sound, the peer keeps its disk from now on.
+        ensures kept { IsKnown (D.state disk.old) → IsSound descriptor.now (D.state disk.old).history.reads
+            → IfOk result (λ p. IsKeeping (moment_of (D.state disk.new).history) p (D.state disk.new) []) }
+        // A chunk that stood in every image is committed.
+        ensures taken { IsKnown (D.state disk.old) → IfOk result (λ p. (i : ℕ)
+            → Throughout (D.state disk.old).history (moment_of (D.state disk.old).history) (λ image. StandsIn descriptor.now image i)
+            → is_committed p.parts.holding.store i ≡ true) }
+        // Whatever it answers, images that were sound stay so, and what stood in every image goes on standing.
+        ensures sound { IsKnown (D.state disk.old) → StaysSound descriptor.now (D.state disk.old).history (D.state disk.new).history }
+        ensures goes_on { IsKnown (D.state disk.old) → GoesOn descriptor.now (D.state disk.old).history (D.state disk.new).history }
+        ensures disk { KeepsDisk (D.state disk.old) (D.state disk.new) }
     {
-        Peer {
-            descriptor: *descriptor,
-            store,
-            latest: 0,
-            channel: None,
-            numbers: ChaCha20Rng::from_seed(seed),
-            counts: Counts::none(),
-            live: true,
-            rooms,
-        }
+        let Ok(room) = Room::new(alloc, descriptor, random, asks, dial) else {
+            return Err(ScanFault::Memory);
+        };
+        let holding = Holding::open(alloc, descriptor, disk)?;
+        // Its contract tells of how many chunks it is.
+        let _ = holding.store();
+        Ok(begin(room, holding))
     }
 
-    /// Takes one event: `bytes` are the datagram, empty for a quiet wait. It needs a live peer. It refuses where the disk refuses
-    /// to write; this peer writes nothing yet.
+    /// Takes one event: `bytes` are the datagram, empty for a quiet wait. Its messages are heard, chunks that fit are stored and
+    /// committed in groups of up to 64. Nothing is sent. After a fault of the disk the peer isn't live.
     pub fn absorb<D: Disk>(
         &mut self,
         event: &Event,
         bytes: &[u8],
-        _disk: &mut D,
-        _book: &mut Book,
+        disk: &mut D,
     ) -> Result<(), DiskFault>
-        requires live { self.old.is_live ≡ true }
-        requires event { IsEvent event.now bytes.now }
-        ensures done { IsOk result }
-        ensures exact { self.new ≡ after_event self.old event.now bytes.now }
-        ensures stands { (book : LookUp) (since : ℕ) (past : List Record) → StandsFor book since self.old past
-            → StandsFor book since self.new (record_of event.now bytes.now ∷ past) }
-        ensures disk { D.state _disk.new ≡ D.state _disk.old }
-        ensures book { _book.new ≡ _book.old }
-    {
-        self.take_event(event, bytes);
-        Ok(())
-    }
-
-    fn take_event(&mut self, event: &Event, bytes: &[u8])
         requires { IsEvent event.now bytes.now }
-        ensures { self.new ≡ after_event self.old event.now bytes.now }
+        ensures exact { OnOk result (Absorbs event.now bytes.now self.old.parts self.new.parts) }
+        ensures rest { self.new ≡ record self.old { parts = self.new.parts } }
+        ensures advanced { Advanced (with_event event.now bytes.now self.old.parts.counts)
+            self.old.parts self.new.parts (D.state disk.old) (D.state disk.new) }
+        ensures in_time { self.old.parts.holding.store.live ≡ true
+            → OnOk result (InTime (is_quiet event.now) self.old.parts self.new.parts) }
+        // Whatever it answers, what went stays accounted for, and what was announced stays on the disk; where it answers Ok, the peer
+        // stands for what came.
+        ensures ledger { (b : Beginning) (past : List Record) → Ledger b self.old.parts past
+            → Ledger b self.new.parts (record_of event.now bytes.now ∷ past) }
+        ensures keeps { (since : ℕ) (past : List Record) → IsKeeping since self.old (D.state disk.old) past
+            → IsKeeping since self.new (D.state disk.new) (record_of event.now bytes.now ∷ past) }
+        ensures stands { OnOk result ((b : Beginning) (most : ℕ) (past : List Record) → StandsFor b most self.old.parts past
+            → StandsFor b most self.new.parts (record_of event.now bytes.now ∷ past)) }
+        ensures cause { self.old.parts.holding.store.live ≡ true
+            → HasCause (D.state disk.old).hard (D.state disk.new).hard result }
+        ensures live { self.old.parts.holding.store.live ≡ true → OnOk result (self.new.parts.holding.store.live ≡ true) }
+        ensures dead { OnErr result (self.new.parts.holding.store.live ≡ false) }
     {
-        match *event {
-            Event::Datagram { from, at, .. } => {
-                let counts = reached(self.counts);
-                let heard = take_datagram(
-                    &self.descriptor,
-                    from,
-                    bytes,
-                    self.channel.take(),
-                    counts,
-                    &mut self.numbers,
-                );
-                self.latest = at.max(self.latest);
-                self.channel = heard.channel;
-                self.counts = heard.counts;
-            }
-            Event::Quiet { at } => {
-                self.latest = at.max(self.latest);
-                self.counts = turned(self.counts);
-            }
-        }
+        self.parts.absorb(event, bytes, disk)
     }
 
     /// Counts a wait that the link refused.
     pub fn refused(&mut self)
         ensures exact { self.new ≡ after_refusal self.old }
-        ensures stands { (book : LookUp) (since : ℕ) (past : List Record) → StandsFor book since self.old past → StandsFor book since self.new past }
+        ensures stands { (b : Beginning) (most : ℕ) (past : List Record) → StandsFor b most self.old.parts past
+            → StandsFor b most self.new.parts past }
     {
-        self.count_refusal();
+        self.parts.counts.note(Note::Turn);
+        self.parts.counts.note(Note::ReceiveFault);
     }
 
-    fn count_refusal(&mut self)
-        ensures { self.new ≡ after_refusal self.old }
+    /// Sends what is due, at most 512 chunks on a channel. What the link or the disk refuses is counted.
+    pub fn flush<D: Disk, L: Link>(&mut self, disk: &mut D, link: &mut L)
+        ensures { (refused : ℕ) × Sends refused self.old self.new (L.seen link.old) (L.seen link.new) (D.state disk.old) (D.state disk.new) }
     {
-        self.counts = refused(self.counts);
+        self.parts
+            .flush(&mut self.dials, &mut self.speaker, disk, link);
+        self.parts.holding.forget_tickets();
     }
 
-    /// Sends what is due: the reply to a handshake, and chunks that were asked for, the least first, while fewer than two are on
-    /// their way. What the link or the disk refuses is counted. The book is the one that `open` was given.
-    pub fn flush<D: Disk, L: Link>(&mut self, disk: &mut D, link: &mut L, book: &Book)
-        requires paths { HasPaths self.old.descriptor self.old.committed (entry book.now) }
-        ensures exact { HasFlushed (entry book.now) (D.state disk.old) (D.state disk.new) (L.seen link.old) (L.seen link.new) self.old self.new }
-        // So the peer stands for what it sent, and nothing is owed that could be sent.
-        ensures sends { Sends (entry book.now) (moment_of (D.state disk.old).history) (L.seen link.old) (L.seen link.new) self.old self.new }
-        ensures causes { Causes self.old.descriptor self.old.committed (entry book.now) (D.state disk.old) (D.state disk.new) (L.seen link.old) (L.seen link.new) self.old.counts self.new.counts }
-        ensures replied { OwesNone self.new ⊎ HasRisen (L.seen link.old).faults (L.seen link.new).faults }
-        ensures served { LeavesNone self.new }
-        ensures disk { ReadsAlone (D.state disk.old) (D.state disk.new) }
+    /// Sends a closing handshake on each proven channel, by rising seat.
+    pub fn close<D: Disk, L: Link>(&mut self, disk: &D, link: &mut L)
+        ensures { Closes self.old self.new (L.seen link.old) (L.seen link.new) (D.state disk.now) }
     {
-        self.reply(disk, link);
-        self.serve(disk, link, book);
+        self.parts.part(disk, link);
     }
-
-    // Sends the reply, where it is due.
-    fn reply<D: Disk, L: Link>(&mut self, disk: &D, link: &mut L)
-        ensures exact { HasReplied (moment_of (D.state disk.now).history) (L.seen link.old) (L.seen link.new) self.old self.new }
-        ensures sends { (book : LookUp) → Sends book (moment_of (D.state disk.now).history) (L.seen link.old) (L.seen link.new) self.old self.new }
-        ensures causes { (book : LookUp) → Causes self.old.descriptor self.old.committed book (D.state disk.now) (D.state disk.now) (L.seen link.old) (L.seen link.new) self.old.counts self.new.counts }
-        ensures replied { OwesNone self.new ⊎ HasRisen (L.seen link.old).faults (L.seen link.new).faults }
-    {
-        let Some(channel) = self.channel.take() else {
-            return;
-        };
-        if !owes_reply(&channel) {
-            self.channel = Some(channel);
-            return;
-        }
-        let heard = send_reply(
-            &self.descriptor,
-            self.store.committed(),
-            channel,
-            self.counts,
-            &mut self.rooms.datagram,
-            disk,
-            link,
-        );
-        self.channel = heard.channel;
-        self.counts = heard.counts;
-    }
-
-    // Serves chunks that are asked for, until none may be sent.
-    fn serve<D: Disk, L: Link>(&mut self, disk: &mut D, link: &mut L, book: &Book)
-        requires paths { HasPaths self.old.descriptor self.old.committed (entry book.now) }
-        ensures exact { HasServed (entry book.now) (D.state disk.old) (D.state disk.new) (L.seen link.old) (L.seen link.new) self.old self.new }
-        ensures sends { Sends (entry book.now) (moment_of (D.state disk.old).history) (L.seen link.old) (L.seen link.new) self.old self.new }
-        ensures causes { Causes self.old.descriptor self.old.committed (entry book.now) (D.state disk.old) (D.state disk.new) (L.seen link.old) (L.seen link.new) self.old.counts self.new.counts }
-        ensures owed { OwesNone self.new → OwesNone self.old }
-        ensures owes { OwesNone self.old → OwesNone self.new }
-        ensures disk { ReadsAlone (D.state disk.old) (D.state disk.new) }
-    {
-        loop {
-            if !self.serve_next(disk, link, book) {
-                return;
-            }
-        }
-    }
-
-    // Serves the least chunk that is asked for. Answers whether one may be sent.
-    fn serve_next<D: Disk, L: Link>(&mut self, disk: &mut D, link: &mut L, book: &Book) -> bool
-        requires paths { HasPaths self.old.descriptor self.old.committed (entry book.now) }
-        ensures next { MatchBool result (ServesNext (entry book.now) (D.state disk.old) (D.state disk.new) (L.seen link.old) (L.seen link.new) self.old self.new)
-            ((self.new ≡ self.old) × (D.state disk.new ≡ D.state disk.old) × (L.seen link.new ≡ L.seen link.old) × LeavesNone self.old) }
-        ensures fewer { result ≡ true → asked_count self.new < asked_count self.old }
-        ensures disk { ReadsAlone (D.state disk.old) (D.state disk.new) }
-    {
-        let Some(channel) = self.channel.take() else {
-            return false;
-        };
-        if !may_deliver(&channel) {
-            self.channel = Some(channel);
-            return false;
-        }
-        let heard = serve(
-            &self.descriptor,
-            &self.store,
-            book,
-            self.latest,
-            channel,
-            self.counts,
-            &mut self.rooms,
-            disk,
-            link,
-        );
-        self.channel = heard.channel;
-        self.counts = heard.counts;
-        true
-    }
-
-    /// Closes the channels. Nothing is sent yet.
-    pub fn close<D: Disk, L: Link>(&mut self, _disk: &D, link: &mut L)
-        ensures link { L.seen link.new ≡ L.seen link.old }
-        ensures same { self.new ≡ self.old }
-    {}
 
     /// What was counted.
     pub fn counts(&self) -> &Counts
-        ensures { result.now ≡ self.now.counts }
+        ensures { result.now ≡ self.now.parts.counts }
     {
-        &self.counts
+        &self.parts.counts
     }
 
     /// The chunks that are committed.
     pub fn committed(&self) -> &ChunkSet
-        ensures { result.now ≡ self.now.committed }
+        ensures { result.now ≡ self.now.parts.holding.store.committed }
     {
-        self.store.committed()
+        self.parts.holding.committed()
     }
 
-    /// Whether the peer goes on: not after an error of `absorb`.
-    pub fn is_live(&self) -> bool
-        ensures { result ≡ self.now.is_live }
+    /// How many chunks are stored and not yet committed.
+    pub fn pending(&self) -> u32
+        ensures { result ≡ length self.now.parts.holding.queue.waiting }
     {
-        self.live
+        self.parts.holding.pending()
+    }
+
+    /// Whether more may be stored: not after a fault of the disk.
+    pub fn is_live(&self) -> bool
+        ensures { result ≡ self.now.parts.holding.store.live }
+    {
+        self.parts.holding.is_live()
+    }
+
+    /// Whether a channel has that number, of this peer's, and that address.
+    pub fn owns(&self, local: u32, from: &Address) -> bool
+        ensures { result ≡ is_some (position (is_found local from.now) self.now.parts.seats.table.channels) }
+    {
+        self.parts.seats.owns(local, from)
+    }
+
+    /// The swarm.
+    pub fn descriptor(&self) -> Descriptor
+        ensures { result ≡ self.now.parts.holding.store.descriptor }
+    {
+        self.parts.seats.descriptor()
+    }
+
+    /// From now on only chunks below this number are asked for. A peer that doesn't fetch asks for none.
+    pub fn want_below(&mut self, limit: u32)
+        ensures exact { self.new ≡ record self.old { parts = with_limit limit self.old.parts } }
+        ensures stands { (b : Beginning) (most : ℕ) (past : List Record) → StandsFor b most self.old.parts past
+            → StandsFor b most self.new.parts past }
+    {
+        want_below(&mut self.parts.fetching, limit);
+    }
+
+    /// Reads a committed chunk to the front of `out`, which has room for it, and answers its length in bytes. Absent comes exactly where
+    /// the chunk isn't committed, and Damaged exactly where what was read has another digest than the book's.
+    pub fn read<D: Disk>(&self, i: u32, out: &mut [u8], disk: &mut D) -> Result<usize, ReadFault>
+        requires within { i < chunks_of self.now.parts.holding.store.descriptor }
+        requires room { chunk_length self.now.parts.holding.store.descriptor.size self.now.parts.holding.store.descriptor.chunk i ≤ length out.old }
+        ensures absent { (result ≡ Err ReadFault.Absent) ↔ (is_committed self.now.parts.holding.store i ≡ false) }
+        ensures read { HasRead ((D.state disk.new ≡ D.state disk.old) × (out.new ≡ out.old)) self.now.parts.holding.store.descriptor i
+            (entry self.now.parts.holding.book) (D.state disk.old) (D.state disk.new) out.new result }
+        ensures looks { KeepsAll (D.state disk.old) (D.state disk.new) }
+        ensures hard { (D.state disk.new).hard ≡ (D.state disk.old).hard }
+    {
+        let book = self.parts.holding.book();
+        self.parts.holding.store().read(i, out, book, disk)
+    }
+
+    /// The peer ends, and its book is given away.
+    pub fn into_book(self) -> Book
+        ensures same { result ≡ self.parts.holding.book }
+        ensures book { IsBookOf self.parts.holding.store.descriptor result }
+    {
+        self.parts.holding.into_book()
+    }
+
+    /// The digests that are known.
+    pub fn book(&self) -> &Book
+        ensures same { result.now ≡ self.now.parts.holding.book }
+        ensures tied { AreTied self.now.parts.holding }
+    {
+        self.parts.holding.book()
     }
 }

@@ -1,19 +1,22 @@
 -- Datagrams of notes, one after the other.
-use Rattle.std.proofs.Common.{◌≡◌, ℕ, zero, suc, ◌+◌, ◌-◌, ◌<◌, ◌≤◌, Bool, true, false, List, [], ◌∷◌, ◌++◌, get_or, take, drop, length, refl, sym, ◌∙◌, ap, subst, arith, append_assoc, append-nil}
+use Rattle.std.proofs.Common.{◌≡◌, ◌⊎◌, inl, inr, ℕ, zero, suc, ◌+◌, ◌-◌, ◌<◌, ◌≤◌, max, Bool, true, false, List, [], ◌∷◌, ◌++◌, get_or, take, drop, length, refl, sym, ◌∙◌, ap, subst, arith, append_assoc, append-nil}
 use Rattle.std.specs.Prelude.{replicate}
 use Rattle.std.specs.List.{AllByRecursion}
+use Rattle.std.proofs.lemmas.Bool.{cases_lt}
 use Rattle.std.proofs.lemmas.List.{length-take, length-drop, take_all, take-append-drop, drop-drop, drop_all}
 use Rattle.std.proofs.Math.Seq.{take-add}
 use Rattle.pp_terms.specs.format.Descriptor.{Descriptor, chunks_of}
+use Rattle.pp_terms.specs.format.Messages as plain
+use Rattle.pp_terms.specs.format.Traffic.{LinkState}
 use Rattle.pp_draft.specs.declared.note.Note.{Note}
 use Rattle.pp_draft.specs.declared.note.Note.TheVariants.{KeepAlive, Handshake, Close, Choke, Unchoke, Ack, Have, Request, Cancel, PexReq, Pex4, Pex6}
-use Rattle.pp_draft.specs.Notes.{IsInside}
-use Rattle.pp_draft.specs.Posts.{LacksRoom, Posts, Sends}
+use Rattle.pp_draft.specs.Notes.{own_options, IsInside}
+use Rattle.pp_draft.specs.Posts.{LacksRoom, Posts, PostsBehind, Sends}
 use Rattle.pp_desk.specs.declared.steps.Delivered.{Delivered}
 use Rattle.pp_seat.specs.Seats.{SeatState}
-use Rattle.pp_desk.specs.Steps.{IsPlain, IsBelow, Follow}
-use Rattle.pp_desk.specs.Delivers.{Way, Batch, At, counted, DeliversOne, DeliversEach, notes_of, AreFull, Delivers}
-use Rattle.pp_desk.proofs.Saying.{after_chunks}
+use Rattle.pp_desk.specs.Steps.{IsPlain, IsBelow, AreSaid, Follow}
+use Rattle.pp_desk.specs.Delivers.{Way, Batch, At, none_delivered, counted, DeliversOne, DeliversEach, notes_of, AreFull, Delivers, Opens}
+use Rattle.pp_desk.proofs.Saying.{after_chunks, said_then, handshake_said}
 
 each_append : (w : Way) (xs ys : List Batch) (old mid new : At) → DeliversEach w xs old mid → DeliversEach w ys mid new → DeliversEach w (xs ++ ys) old new
 each_append w [] ys old mid new a b = subst (λ (x : At). DeliversEach w ys x new) a b
@@ -157,3 +160,72 @@ counted_sum false notes old new is =
 pub same_plain : (count : ℕ) (note : Note) → IsPlain note → AllByRecursion IsPlain (replicate count note)
 same_plain zero note plain = tt
 same_plain (suc count) note plain = (plain, same_plain count note plain)
+
+-- ---- a handshake before the notes
+
+-- one datagram more was sent before
+abbrev one_more : At → At
+one_more x = record x { so_far = record x.so_far { sent = x.so_far.sent + 1 } }
+
+counted_more : (sent : Bool) (notes : List Note) (so_far after : Delivered) → after ≡ counted sent notes so_far
+    → (let d : Delivered = record after { sent = after.sent + 1 } in d ≡ counted sent notes (record so_far { sent = so_far.sent + 1 }))
+counted_more true notes so_far after is = ap (λ (x : Delivered). let d : Delivered = record x { sent = x.sent + 1 } in d) is
+counted_more false notes so_far after is = ap (λ (x : Delivered). let d : Delivered = record x { sent = x.sent + 1 } in d) is
+
+each_more : (w : Way) (bs : List Batch) (old new : At) → DeliversEach w bs old new → DeliversEach w bs (one_more old) (one_more new)
+each_more w [] old new e = ap one_more e
+each_more w (b ∷ bs) old new e = (
+  one_more e.0,
+  record {
+    said = e.1.said;
+    written = e.1.written;
+    some = e.1.some;
+    goes = e.1.goes;
+    seat = e.1.seat;
+    count = counted_more b.sent b.notes old.so_far e.0.so_far e.1.count;
+  },
+  each_more w bs e.0 new e.2,
+)
+
+-- the first datagram was taken, and then what it had no room for went
+pub opens_with : (w : Way) (source count : ℕ) (notes : List Note) (old : SeatState) (mid : SeatState) (new : SeatState) (link between later : LinkState) (delivered : Delivered)
+    → PostsBehind w.d w.channel source notes count (λ bytes. Sends w.receiver bytes w.moment link between true)
+    → AreSaid w.now false (take count notes) old mid
+    → Delivers w (drop count notes) [] (record { seat = mid; link = between; so_far = none_delivered }) (record { seat = new; link = later; so_far = delivered })
+    → Opens w source notes (record { seat = old; link = link; so_far = none_delivered }) (record { seat = new; link = later; so_far = record delivered { sent = delivered.sent + 1 } })
+opens_with w source count notes old mid new link between later delivered posts said rest =
+    let first : List Note = Handshake source ∷ take count notes in
+    let b : Batch = record { notes = first; messages = plain.Handshake source (own_options w.d) ∷ posts.packs.messages; bytes = posts.bytes; sent = true } in
+    let one : DeliversOne w b (record { seat = old; link = link; so_far = none_delivered }) (record { seat = mid; link = between; so_far = record none_delivered { sent = 1 } }) = record {
+      said = (plain.Handshake source (own_options w.d) ∷ [], posts.packs.messages, refl, posts.packs.said, refl);
+      written = posts.packs.written;
+      some = omega arith;
+      goes = posts.goes;
+      seat = said_then w.now false (Handshake source ∷ []) (take count notes) old old mid (handshake_said w.now false source old) said;
+      count = refl;
+    } in
+    record {
+      delivers = record {
+        batches = b ∷ rest.batches;
+        each_once = ap (λ (ns : List Note). first ++ ns) rest.each_once ∙ ap (λ (ns : List Note). Handshake source ∷ ns) (take-append-drop count notes);
+        full = (
+          subst (λ (ns : List Note). LacksRoom w.d posts.bytes ns) (sym (append-nil (notes_of rest.batches) ∙ rest.each_once)) posts.packs.full,
+          rest.full,
+        );
+        each = (
+          record { seat = mid; link = between; so_far = record none_delivered { sent = 1 } },
+          one,
+          each_more w rest.batches _ _ rest.each,
+        );
+      };
+      first = refl;
+    }
+
+-- as many datagrams as notes at the most, and one
+pub few_opened : (count sent refused : ℕ) (notes : List Note) → count ≤ length notes → (0 < length notes → 0 < count) → sent + refused ≤ length (drop count notes)
+    → sent + refused + 1 ≤ max 1 (length notes)
+few_opened count sent refused notes within some few = by (cases_lt 0 (length notes))
+  where
+    by : (0 < length notes) ⊎ (length notes ≤ 0) → sent + refused + 1 ≤ max 1 (length notes)
+    by (inl any) = let more = some any in omega (arith, few, more, within, length-drop count notes)
+    by (inr none) = omega (arith, few, none, length-drop count notes)

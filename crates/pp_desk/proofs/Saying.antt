@@ -190,6 +190,9 @@ idle_cancels (span ∷ spans) = (tt, idle_cancels spans)
 pub keep_alive_said : (now : ℕ) (back : Bool) (s : SeatState) → AreSaid now back (KeepAlive ∷ []) s s
 keep_alive_said now back s = idly_said now back KeepAlive s refl (λ d ms is. subst AreIdleSaid (sym is) tt)
 
+pub handshake_said : (now : ℕ) (back : Bool) (source : ℕ) (s : SeatState) → AreSaid now back (Handshake source ∷ []) s s
+handshake_said now back source s = idly_said now back (Handshake source) s refl (λ d ms is. subst AreIdleSaid (sym is) (tt, tt))
+
 pub ack_said : (now : ℕ) (back : Bool) (range : Span) (delay : ℕ) (s : SeatState) → AreSaid now back (Ack range delay ∷ []) s s
 ack_said now back range delay s = idly_said now back (Ack range delay) s refl (λ d ms names. subst AreIdleSaid (sym names.messages) (idle_acks delay names.spans))
 

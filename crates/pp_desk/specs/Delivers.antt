@@ -1,9 +1,10 @@
 -- Notes that are delivered, datagram by datagram.
-use Rattle.std.specs.Prelude.{◌≡◌, ℕ, ◌+◌, ◌<◌, Bool, true, false, ◌||◌, List, [], ◌∷◌, ◌++◌, length}
+use Rattle.std.specs.Prelude.{◌≡◌, ℕ, ◌+◌, ◌<◌, Bool, true, false, ◌||◌, Option, Some, None, List, [], ◌∷◌, ◌++◌, length}
 use Rattle.pp_terms.specs.format.Descriptor.{Descriptor}
 use Rattle.pp_terms.specs.format.Messages.{Message}
 use Rattle.pp_terms.specs.format.Traffic.{Address, LinkState}
 use Rattle.pp_draft.specs.declared.note.Note.{Note}
+use Rattle.pp_draft.specs.declared.note.Note.TheVariants.{Handshake}
 use Rattle.pp_draft.specs.Notes.{SayAll}
 use Rattle.pp_draft.specs.Datagrams.{IsDatagram}
 use Rattle.pp_draft.specs.Posts.{LacksRoom, Sends}
@@ -69,3 +70,40 @@ pub record Delivers (w : Way) (notes rest : List Note) (old new : At) : Type 0 w
   pub each_once : notes_of batches ≡ notes
   pub full : AreFull w.d batches rest
   pub each : DeliversEach w batches old new
+
+-- The first datagram was taken.
+abbrev pub BeginsSent : List Batch → Type 0
+BeginsSent [] = ⊥
+BeginsSent (b ∷ bs) = b.sent ≡ true
+
+-- This peer's handshake and the notes behind it went, each once and in order, in as few datagrams as they fill.
+pub record Opens (w : Way) (source : ℕ) (notes : List Note) (old new : At) : Type 0 where
+  pub delivers : Delivers w (Handshake source ∷ notes) [] old new
+  pub first : BeginsSent delivers.batches
+
+-- The link refused the datagram that began with the handshake, and nothing went behind it: all is to be told once more.
+pub record Withholds (w : Way) (old new : At) : Type 0 where
+  pub bytes : List ℕ
+  pub goes : Sends w.receiver bytes w.moment old.link new.link false
+  pub seat : new.seat ≡ record old.seat { cursor = 0 }
+  pub count : new.so_far ≡ record { sent = 0; refused = 1; set_back = true }
+
+-- whether the link took the datagram with the handshake, what became of it and of the notes
+abbrev pub GoesIf : (taken : Bool) → (source : ℕ) → Way → List Note → At → At → Type 0
+GoesIf true source w notes old new = Opens w source notes old new
+GoesIf false source w notes old new = Withholds w old new
+
+-- what became of notes, and of this peer's handshake before them where it goes from this number
+abbrev pub Goes : (opening : Option ℕ) → Way → List Note → At → At → Type 0
+Goes None w notes old new = Delivers w notes [] old new
+Goes (Some source) w notes old new = (taken : Bool) × GoesIf taken source w notes old new
+
+-- the datagrams that were sent or refused one after the other
+abbrev pub batches_if : (taken : Bool) (source : ℕ) (w : Way) (notes : List Note) (old new : At)
+    → GoesIf taken source w notes old new → List Batch
+batches_if true source w notes old new g = g.delivers.batches
+batches_if false source w notes old new g = []
+
+abbrev pub batches_of : (opening : Option ℕ) (w : Way) (notes : List Note) (old new : At) → Goes opening w notes old new → List Batch
+batches_of None w notes old new g = g.batches
+batches_of (Some source) w notes old new g = batches_if g.0 source w notes old new g.1

@@ -1,4 +1,4 @@
-//! Handshakes, each alone in its datagram (RFC 7574, sections 3.1 and 8.4).
+//! Handshakes that go alone in their datagram (RFC 7574, sections 3.1 and 8.4).
 
 ghost use Rattle.std.specs.Prelude.{◌≡◌, length};
 ghost use Rattle.pp_terms.specs.disk.Disk.{moment_of};

@@ -64,8 +64,8 @@ fn said(seat: &mut Seat, note: &Note, now: u64, set_back: bool)
     }
 }
 
-// These were sent, one after the other.
-fn said_all(seat: &mut Seat, notes: &[Note], now: u64, set_back: bool)
+/// These were sent, one after the other.
+pub(crate) fn said_all(seat: &mut Seat, notes: &[Note], now: u64, set_back: bool)
     requires plain { AllByRecursion IsPlain notes.now }
     requires below { AllByRecursion (IsBelow seat.old.told.chunks) notes.now }
     ensures { AreSaid now set_back notes.now seat.old seat.new }

@@ -46,6 +46,7 @@ fn took(
     let outgoing = Outgoing {
         to: TO,
         sent_at: 5,
+        opening: None,
         notes: &notes,
     };
     let delivered = deliver(
@@ -151,6 +152,7 @@ fn delivers(
     let outgoing = Outgoing {
         to: TO,
         sent_at: 5,
+        opening: None,
         notes,
     };
     deliver(
@@ -372,6 +374,70 @@ fn a_greeting_has_the_swarm(rt: HostRuntime) -> Result<(), AllocError> {
     assert_eq!(rt; bytes[..16], front[..]);
     assert_eq!(rt; bytes[16..48], ROOT[..]);
     assert_eq!(rt; bytes[48..], options[..]);
+    Ok(())
+}
+
+// A reply from channel 0x0a0b0c0d with a HAVE behind it.
+fn reply(
+    seat: &mut Seat,
+    range: ChunkRange,
+    descriptor: &Descriptor,
+    link: &mut MemoryLink,
+) -> Option<Delivered> {
+    if seat.chunks() != descriptor.chunks() || range.last() >= descriptor.chunks() {
+        return None;
+    }
+    let notes = [Note::Have { range }];
+    let outgoing = Outgoing {
+        to: TO,
+        sent_at: 5,
+        opening: Some(0x0a0b0c0d),
+        notes: &notes,
+    };
+    let delivered = deliver(
+        seat,
+        &outgoing,
+        descriptor,
+        &mut [0; 16384],
+        &NullDisk::new(),
+        link,
+    );
+    Some(delivered)
+}
+
+#[test]
+fn a_reply_takes_notes_along(rt: HostRuntime) -> Result<(), Fail> {
+    let (Ok(descriptor), Some(range)) = (
+        Descriptor::new(Digest::new(ROOT), 1024, 7000, Method::Range32),
+        ChunkRange::new(0, 6),
+    ) else {
+        assert!(rt; false);
+        return Ok(());
+    };
+    let mut link = MemoryLink::new(rt.alloc())?;
+    let mut seat = Seat::new(rt.alloc(), 7, 1024)?;
+    link.fail_next(Call::Send);
+    let refused = reply(&mut seat, range, &descriptor, &mut link);
+    let want = Delivered {
+        sent: 0,
+        refused: 1,
+        set_back: true,
+    };
+    assert_eq!(rt; refused, Some(want));
+    assert_eq!(rt; (link.sent(), seat.cursor()), (0, 0));
+    let sent = reply(&mut seat, range, &descriptor, &mut link);
+    let want = Delivered {
+        sent: 1,
+        refused: 0,
+        set_back: false,
+    };
+    assert_eq!(rt; sent, Some(want));
+    assert_eq!(rt; (link.sent(), seat.cursor()), (1, 7));
+    let bytes = link.sent_bytes(0);
+    assert_eq!(rt; bytes.len(), 73);
+    let front = [0, 0, 0, 7, 0, 0x0a, 0x0b, 0x0c, 0x0d];
+    assert_eq!(rt; bytes[..9], front[..]);
+    assert_eq!(rt; bytes[64..], [3, 0, 0, 0, 0, 0, 0, 0, 6][..]);
     Ok(())
 }
 

@@ -1,5 +1,6 @@
 -- Messages put behind others.
 use Rattle.std.proofs.Common.{◌≡◌, ℕ, zero, suc, ◌*◌, ◌+◌, ◌<◌, ◌≤◌, Option, Some, None, List, [], ◌∷◌, ◌++◌, map, get_or, length, take, Err, refl, sym, ◌∙◌, ap, subst, arith, append_assoc, append-nil}
+use Rattle.std.specs.Prelude.{IfSome}
 use Rattle.std.specs.List.{AllByRecursion}
 use Rattle.std.specs.Int.{w16, w64, to_be_bytes}
 use Rattle.std.proofs.lemmas.List.{length-take, length-append, take_at, take_all, take-take}
@@ -43,6 +44,12 @@ one_lacks d m method old new at e same name put =
     lacks_room d m (NamesChunks d.method m) old new at e name (subst (λ (x : Method). IsPut (NamesChunks x m) (spell x m) old at (Err e) new) same put)
 
 -- ---- one message alone
+
+-- it ends no farther than it is long
+pub ends_by : (d : Descriptor) (m : Message) (old new : List ℕ) (at most : ℕ) (r : Option ℕ) → length (spell d.method m) ≤ most → PutsOne d m old at r new
+    → IfSome r (λ end. end ≤ at + most)
+ends_by d m old new at most None short puts = tt
+ends_by d m old new at most (Some end) short puts = (let ends = puts.ends in omega (arith, short, ends))
 
 pub one_puts : (d : Descriptor) (m : Message) (holds : List Message → Type 0) (old new : List ℕ) (at : ℕ) (r : Option ℕ) → holds (m ∷ []) → ((rest : List ℕ) → MayPrecede d.chunk m rest)
     → length (spell d.method m) ≤ 64 → PutsOne d m old at r new → Puts d holds old at r new

@@ -9,8 +9,8 @@ mod posting;
 mod ranges;
 
 pub use chunk::{ChunkReader, Delivery, Unread, post_chunk};
-pub use note::Note;
-pub use posting::{Posted, Receiver, post};
+pub use note::{Note, Reply};
+pub use posting::{Posted, Receiver, post, post_reply};
 
 #[cfg(test)]
 mod tests;

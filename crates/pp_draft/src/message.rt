@@ -1,6 +1,6 @@
 //! One message put behind others.
 
-ghost use Rattle.std.specs.Prelude.{◌≡◌, ◌≤◌, [], ◌∷◌, length};
+ghost use Rattle.std.specs.Prelude.{◌≡◌, ◌≤◌, ◌+◌, [], ◌∷◌, length, IfSome};
 ghost use Rattle.pp_terms.specs.format.Messages as plain;
 ghost use Rattle.pp_wire.specs.Views.{message_of};
 ghost use Rattle.pp_wire.specs.Put.{CanPut, NamesChunks};
@@ -37,7 +37,8 @@ pub(crate) fn put_handshake(
     at: usize,
 ) -> Option<usize>
     requires { at ≤ length out.old }
-    ensures { Puts descriptor.now (λ ms. ms ≡ plain.Handshake source (own_options descriptor.now) ∷ []) out.old at result out.new }
+    ensures puts { Puts descriptor.now (λ ms. ms ≡ plain.Handshake source (own_options descriptor.now) ∷ []) out.old at result out.new }
+    ensures short { IfSome result (λ end. end ≤ at + 64) }
 {
     let root = descriptor.root();
     let options = Options {

@@ -28,3 +28,10 @@ pub enum Note {
     /// The IPv6 address of another peer.
     Pex6 { address: [u8; 16], port: u16 },
 }
+
+/// A handshake with this peer's options from this channel of the peer, and what is to be said behind it.
+#[derive(Clone, Copy)]
+pub struct Reply<'a> {
+    pub source: u32,
+    pub notes: &'a [Note],
+}

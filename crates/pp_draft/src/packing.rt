@@ -4,10 +4,10 @@ ghost use Rattle.std.specs.Prelude.{◌≡◌, ◌<◌, ◌≤◌, [], length, t
 ghost use Rattle.std.specs.List.{AllByRecursion};
 ghost use Rattle.pp_draft.specs.Notes.{Says, IsInside};
 ghost use Rattle.pp_draft.specs.Puts.{Puts, IsFront};
-ghost use Rattle.pp_draft.specs.Posts.{Packs};
+ghost use Rattle.pp_draft.specs.Posts.{Fills, Packs, PacksBehind};
 
 use crate::message::{put_address4, put_address6, put_close, put_handshake, put_message};
-use crate::note::Note;
+use crate::note::{Note, Reply};
 use crate::ranges::{Kind, put_range};
 use pp_tree::Descriptor;
 use pp_wire::Message;
@@ -52,16 +52,14 @@ pub(crate) struct Packed {
     pub(crate) count: usize,
 }
 
-/// Fills a datagram with the first of the notes, as many as have room.
-pub(crate) fn pack(notes: &[Note], descriptor: &Descriptor, channel: u32, out: &mut [u8]) -> Packed
-    requires some { 0 < length notes.now }
+// Puts the first of the notes behind the others, as many as have room.
+fn fill(notes: &[Note], descriptor: &Descriptor, from: usize, out: &mut [u8]) -> Packed
+    requires within { from ≤ length out.old }
     requires inside { AllByRecursion (IsInside descriptor.now) notes.now }
     requires room { length out.old ≡ 16384 }
-    ensures within { result.end ≤ 16384 }
-    ensures packs { Packs descriptor.now channel notes.now result.count (take result.end out.new) }
+    ensures { Fills descriptor.now notes.now from out.old result.count result.end out.new }
 {
-    let _chunk = descriptor.chunk();
-    let mut end = begin(channel, out);
+    let mut end = from;
     let mut count = 0;
     for note in notes {
         match put_note(note, descriptor, out, end) {
@@ -73,4 +71,41 @@ pub(crate) fn pack(notes: &[Note], descriptor: &Descriptor, channel: u32, out: &
         }
     }
     Packed { end, count }
+}
+
+/// Fills a datagram with the first of the notes, as many as have room.
+pub(crate) fn pack(notes: &[Note], descriptor: &Descriptor, channel: u32, out: &mut [u8]) -> Packed
+    requires some { 0 < length notes.now }
+    requires inside { AllByRecursion (IsInside descriptor.now) notes.now }
+    requires room { length out.old ≡ 16384 }
+    ensures within { result.end ≤ 16384 }
+    ensures packs { Packs descriptor.now channel notes.now result.count (take result.end out.new) }
+{
+    let _chunk = descriptor.chunk();
+    let begun = begin(channel, out);
+    fill(notes, descriptor, begun, out)
+}
+
+/// Fills a datagram with a handshake, and behind it with the first of the notes, as many as have room.
+pub(crate) fn pack_reply(
+    reply: &Reply,
+    descriptor: &Descriptor,
+    channel: u32,
+    out: &mut [u8],
+) -> Packed
+    requires inside { AllByRecursion (IsInside descriptor.now) reply.now.notes.now }
+    requires room { length out.old ≡ 16384 }
+    ensures within { result.end ≤ 16384 }
+    ensures packs { PacksBehind descriptor.now channel reply.now.source reply.now.notes.now result.count (take result.end out.new) }
+{
+    let _chunk = descriptor.chunk();
+    let begun = begin(channel, out);
+    let Some(greeted) = put_handshake(reply.source, descriptor, out, begun) else {
+        // A handshake has room in every datagram.
+        return Packed {
+            end: begun,
+            count: 0,
+        };
+    };
+    fill(reply.notes, descriptor, greeted, out)
 }

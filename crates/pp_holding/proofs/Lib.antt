@@ -2,6 +2,7 @@ pub mod Tickets
 pub mod Images
 pub mod Advancing
 pub mod Waitings
+pub mod Committed
 pub mod Puts
 pub mod Tying
 pub mod Lefts

@@ -7,7 +7,8 @@ use Rattle.pp_tree.specs.Book.{BookState, entry, IsBookOf}
 use Rattle.pp_store.specs.Store.{StoreState, KnowsHeld}
 use Rattle.pp_promises.specs.Batches.{most_pending}
 use Rattle.pp_holding.specs.Queue.{QueueState, HasRoom}
-use Rattle.pp_holding.specs.Holding.{HasWaiting, AreTied}
+use Rattle.pp_holding.specs.Holding.{HasWaiting, AreCommitted, AreTied}
+use Rattle.pp_holding.proofs.Committed.{committed_same}
 use Rattle.pp_holding.proofs.Waitings.{waiting_same}
 
 -- a book that goes on being one of the descriptor
@@ -28,18 +29,23 @@ tied_refused store store' book book' queue tied dead is knows = record {
       (ap (λ (x : StoreState). x.pending) dead) tied.waits;
   few = λ live. let no : store'.live ≡ false = ap (λ (x : StoreState). x.live) dead in absurd cc;
   room = tied.room;
+  came = committed_same store store' queue.tickets (ap (λ (x : StoreState). x.committed) dead) tied.came;
+  again = committed_same store store' queue.repeats (ap (λ (x : StoreState). x.committed) dead) tied.again;
 }
 
 -- what a call leaves that may have committed
 pub tied_after : {T E : Type 0} (store' : StoreState) (book : BookState) (queue : QueueState) (result : Result T E) → IsBookOf store'.descriptor book
     → KnowsHeld store' (entry book) → HasWaiting store' queue.waiting → OnOk result (length queue.waiting < most_pending)
-    → OnErr result (store'.live ≡ false) → HasRoom queue → AreTied (record { store = store'; book = book; queue = queue })
-tied_after {T} {E} store' book queue result is knows waits few dead room = record {
+    → OnErr result (store'.live ≡ false) → HasRoom queue → AreCommitted store' queue.tickets → AreCommitted store' queue.repeats
+    → AreTied (record { store = store'; book = book; queue = queue })
+tied_after {T} {E} store' book queue result is knows waits few dead room came again = record {
   book_is = is;
   knows = knows;
   waits = waits;
   few = pick result few dead;
   room = room;
+  came = came;
+  again = again;
 }
   where
     pick : (r : Result T E) → OnOk r (length queue.waiting < most_pending) → OnErr r (store'.live ≡ false) → store'.live ≡ true → length queue.waiting < most_pending

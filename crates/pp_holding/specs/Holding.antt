@@ -1,11 +1,12 @@
 -- What a peer holds, as contracts see it.
 use Rattle.std.specs.Prelude.{◌≡◌, ℕ, ◌+◌, ◌<◌, ◌==◌, Bool, true, false, List, length, map, count_by, slice_index_or}
-use Rattle.std.specs.List.{list_any}
+use Rattle.std.specs.List.{list_any, AllByRecursion}
 use Rattle.pp_terms.specs.format.Descriptor.{chunks_of}
 use Rattle.pp_terms.specs.disk.Disk.{DiskState}
 use Rattle.pp_tree.specs.Book.{BookState, entry, IsBookOf}
-use Rattle.pp_store.specs.Store.{StoreState, KnowsHeld}
+use Rattle.pp_store.specs.Store.{StoreState, is_committed, KnowsHeld}
 use Rattle.pp_promises.specs.Batches.{Batch, most_pending}
+use Rattle.pp_holding.specs.declared.queue.Ticket.{Ticket}
 use Rattle.pp_holding.specs.declared.queue.Waiting.{Waiting}
 use Rattle.pp_holding.specs.Queue.{QueueState, HasRoom, pending_of}
 use Rattle.pp_holding.specs.Stock.{Stock}
@@ -39,14 +40,20 @@ pub record HasWaiting (s : StoreState) (waiting : List Waiting) : Type 0 where
   pub each : (i : ℕ) → is_queued waiting i ≡ slice_index_or s.pending i false
   pub as_many : length waiting ≡ count_by (λ b. b) s.pending
 
--- The book is the store's; fewer than 64 chunks wait while the store may be written to; and there is no ticket more than there is
--- room for.
+-- the chunks of all tickets are committed
+abbrev pub AreCommitted : StoreState → List Ticket → Type 0
+AreCommitted s tickets = AllByRecursion (λ t. is_committed s t.chunk ≡ true) tickets
+
+-- The book is the store's; fewer than 64 chunks wait while the store may be written to; there is no ticket more than there is room
+-- for; and each, of those that came again too, is of a committed chunk.
 pub record AreTied (s : HoldingState) : Type 0 where
   pub book_is : IsBookOf s.store.descriptor s.book
   pub knows : KnowsHeld s.store (entry s.book)
   pub waits : HasWaiting s.store s.queue.waiting
   pub few : s.store.live ≡ true → length s.queue.waiting < most_pending
   pub room : HasRoom s.queue
+  pub came : AreCommitted s.store s.queue.tickets
+  pub again : AreCommitted s.store s.queue.repeats
 
 -- The number is how many chunks are neither committed nor pending.
 abbrev pub IsLeft : HoldingState → ℕ → Type 0

@@ -18,7 +18,7 @@ ghost use Rattle.pp_holding.specs.Opening.{HasBegun, IsOpenFault};
 ghost use Rattle.pp_promises.specs.Batches.{most_pending, is_full, is_due, is_all_in, after_commit, after_puts, after_read};
 ghost use Rattle.pp_holding.specs.Queue.{empty_queue, waiting_at, released, with_waiting, HasRoom, GrowsByOne};
 ghost use Rattle.pp_holding.specs.Stock.{IsKept, Advances};
-ghost use Rattle.pp_holding.specs.Holding.{batch_from, batch_of, stock_of, HasWaiting, AreTied, IsLeft};
+ghost use Rattle.pp_holding.specs.Holding.{batch_from, batch_of, stock_of, HasWaiting, AreCommitted, AreTied, IsLeft};
 ghost use Rattle.pp_holding.specs.Answers.{answer_to, learned_from, stored_by, waiting_with, is_filled_by, queue_after, queue_settled, FitsUnheld};
 
 use crate::queue::{MOST_WAITING, Queue, Ticket};
@@ -83,6 +83,8 @@ fn commit_if<D: Disk>(
     ensures hard { HasCause (D.state disk.old).hard (D.state disk.new).hard result }
     ensures cause { HasCause (D.state disk.old).faults (D.state disk.new).faults result }
     ensures knows { (book : LookUp) → KnowsHeld store.old book → KnowsHeld store.new book }
+    ensures came { AreCommitted store.old queue.old.tickets → AreCommitted store.new queue.new.tickets }
+    ensures again { AreCommitted store.old queue.old.repeats → AreCommitted store.new queue.new.repeats }
     ensures advances { (book : LookUp) → IsRooted store.old.descriptor book → Advances
         (record { store = store.old; book = book; disk = D.state disk.old })
         (record { store = store.new; book = book; disk = D.state disk.new }) }
@@ -129,6 +131,8 @@ fn heed<D: Disk>(
     ensures hard { HasCause (D.state disk.old).hard (D.state disk.new).hard result }
     ensures cause { HasCause (D.state disk.old).faults (D.state disk.new).faults result }
     ensures knows { (book : LookUp) → KnowsHeld store.old book → KnowsHeld store.new book }
+    ensures came { AreCommitted store.old queue.old.tickets → AreCommitted store.new queue.new.tickets }
+    ensures again { AreCommitted store.old queue.old.repeats → AreCommitted store.new queue.new.repeats }
     ensures advances { (book : LookUp) → IsRooted store.old.descriptor book → Advances
         (record { store = store.old; book = book; disk = D.state disk.old })
         (record { store = store.new; book = book; disk = D.state disk.new }) }
@@ -210,10 +214,11 @@ impl Holding {
         }
     }
 
-    /// Takes bytes that came as a chunk. The store judges them by its book and by what is claimed; where they are the chunk they are
-    /// written, and the chunk is pending. With 64 chunks pending all are committed at once, and then each sender has a ticket. The
-    /// sender of a chunk that is committed already has one among the repeats at once; for one that is pending nothing is done. After a fault the store
-    /// isn't live, and the fault is answered without a call of the disk.
+    /// Takes bytes that came as a chunk. The store judges them by its book and by what is claimed; where they are the
+    /// chunk they are written, and the chunk is pending. With 64 chunks pending all are committed at once, and then
+    /// each sender has a ticket. The sender of a chunk that is committed already has one among the repeats at once; for
+    /// one that is pending nothing is done. After a fault the store isn't live, and the fault is answered without a
+    /// call of the disk.
     pub fn put<D: Disk>(
         &mut self,
         parcel: &Parcel<'_>,
@@ -308,6 +313,7 @@ impl Holding {
     /// after which they are taken, needs no more room than there is.
     pub fn tickets(&self) -> &[Ticket]
         ensures same { result.now ≡ self.now.queue.tickets }
+        ensures committed { AreCommitted self.now.store result.now }
         ensures few { HasRoom self.now.queue }
     {
         self.queue.tickets()
@@ -316,6 +322,7 @@ impl Holding {
     /// The tickets of chunks that came again when they were committed already, the oldest first: whom to acknowledge, and no news.
     pub fn repeats(&self) -> &[Ticket]
         ensures same { result.now ≡ self.now.queue.repeats }
+        ensures committed { AreCommitted self.now.store result.now }
         ensures few { HasRoom self.now.queue }
     {
         self.queue.repeats()
@@ -379,5 +386,13 @@ impl Holding {
         ensures tied { AreTied self.now }
     {
         &self.book
+    }
+
+    /// The book is given away, and the rest is dropped.
+    pub fn into_book(self) -> Book
+        ensures same { result ≡ self.book }
+        ensures book { IsBookOf self.store.descriptor result }
+    {
+        self.book
     }
 }

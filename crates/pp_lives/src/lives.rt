@@ -1,10 +1,10 @@
 //! The seats of channels, and what each datagram does to them.
 
-ghost use Rattle.std.specs.Prelude.{◌≡◌, ◌+◌, ◌<◌, ◌≤◌, length, IfOk, IfSome, IsSome, position, replicate, take, None, Some, option_map};
+ghost use Rattle.std.specs.Prelude.{◌≡◌, ◌+◌, ◌<◌, ◌≤◌, length, IfOk, IfSome, IsSome, position, replicate, take, None, Some, is_some, option_map};
 ghost use Rattle.std.specs.Int.{w32, from_be_bytes};
 ghost use Rattle.std.specs.List.{list_any};
 ghost use Rattle.rand_chacha.specs.ChaCha.{of_seed};
-ghost use Rattle.pp_channels.specs.Seats.{Seats, AreSeats, channel_at, IsUsed, IsUsedSeat, used_of, changed, closed, free_seat, with_channel, dialled, has_address};
+ghost use Rattle.pp_channels.specs.Seats.{Seats, AreSeats, channel_at, IsUsed, IsUsedSeat, used_of, changed, closed, free_seat, with_channel, dialled, has_address, is_found};
 ghost use Rattle.pp_channels.specs.Timing.{handshake_due, is_silent, is_over};
 ghost use Rattle.pp_channels.specs.declared.channel.State.TheVariants.{Proven};
 ghost use Rattle.pp_lives.specs.Arrived.{KeepsStanding};
@@ -351,6 +351,13 @@ impl Lives {
         ensures { result ≡ list_any (has_address address.now) self.now.channels }
     {
         self.channels.has_address(address)
+    }
+
+    /// Whether a channel has that number and that address.
+    pub fn owns(&self, number: u32, address: &Address) -> bool
+        ensures { result ≡ is_some (position (is_found number address.now) self.now.channels) }
+    {
+        self.channels.find(number, address).is_some()
     }
 
     /// The number to which the channel's peer sends, and that stands in this peer's handshakes.

@@ -1,6 +1,7 @@
 -- What is told and acknowledged is what was committed.
-use Rattle.std.proofs.Common.{◌≡◌, ⊎_elim, ℕ, ◌==◌, Bool, true, false, cond, ◌||◌, List, [], ◌∷◌, ◌++◌, map, refl, sym, ◌∙◌, ap}
-use Rattle.std.proofs.lemmas.Bool.{or_left, or_right}
+use Rattle.std.proofs.Common.{◌≡◌, ⊎_elim, ℕ, ◌==◌, get_or, Bool, true, false, cond, ◌||◌, List, [], ◌∷◌, ◌++◌, map, refl, sym, ◌∙◌, ap}
+use Rattle.std.specs.List.{AllByRecursion}
+use Rattle.std.proofs.lemmas.Bool.{or_left, or_right, false≢true, eqb-true}
 use Rattle.pp_terms.specs.tree.Range.{Span, has}
 use Rattle.pp_ranges.proofs.Runs.{append_has}
 use Rattle.pp_holding.specs.declared.queue.Ticket.{Ticket}
@@ -8,7 +9,7 @@ use Rattle.pp_news.specs.declared.acknowledgement.Acknowledgement.{Acknowledgeme
 use Rattle.pp_news.specs.News.{has_chunk, ranges_of, alone, of_seat, AreIn, AreAcknowledged}
 use Rattle.pp_news.proofs.RunSteps.{single}
 use Rattle.pp_news.proofs.JoinSteps.{either}
-use Rattle.pp_news.specs.Laws.{AllAreTold, AllAreAcknowledged, NoneElse}
+use Rattle.pp_news.specs.Laws.{AllAreTold, AllAreAcknowledged, NoneElse, OwnAreIn}
 
 pub all_are_told : AllAreTold
 all_are_told tickets ranges h = record {
@@ -59,3 +60,11 @@ of_seat_in committed seat tickets are i own = are i (wider tickets own)
     wider : (ts : List Ticket) → has_chunk (of_seat seat ts) i ≡ true → has_chunk ts i ≡ true
     wider [] own = own
     wider (t ∷ ts) own = step (t.seat == seat) true t ts refl (λ later. wider ts later) own
+
+pub all_are_in : (committed : List Bool) (tickets : List Ticket) → AllByRecursion (λ t. get_or committed t.chunk false ≡ true) tickets → AreIn committed tickets
+all_are_in committed [] all i own = absurd (false≢true own)
+all_are_in committed (t ∷ ts) all i own = either (t.chunk == i) (has_chunk ts i) (get_or committed i false ≡ true)
+    (λ same. ap (λ (n : ℕ). get_or committed n false) (sym (eqb-true t.chunk i same)) ∙ all.0) (all_are_in committed ts all.1 i) own
+
+pub own_are_in : OwnAreIn
+own_are_in committed seat tickets all = of_seat_in committed seat tickets (all_are_in committed tickets all)

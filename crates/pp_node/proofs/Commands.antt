@@ -1,12 +1,12 @@
 -- How a run ended, from how the command ended that its words spell.
 use Rattle.std.proofs.Common.{◌≡◌, ◌⊎◌, ℕ, List, codes, refl, sym, ◌∙◌, subst}
-use Rattle.pp_terms.specs.command.Commands.{Command, Import, Seed, Fetch, Check, Export, Upgrade, Replay, Rehearse}
-use Rattle.pp_terms.specs.command.CommandLine.{Spells, IsImport, IsSeed, IsOnStore, IsOneOf, IsFirstWrong}
+use Rattle.pp_terms.specs.command.Commands.{Order, Command, Import, Seed, Fetch, Check, Export, Upgrade, Replay, Rehearse}
+use Rattle.pp_terms.specs.command.CommandLine.{Spells, IsImport, IsSeed, IsFetch, IsOnStore, IsOneOf, IsFirstWrong}
 use Rattle.pp_terms.specs.command.Stream.{SourceState, SinkState}
 use Rattle.pp_terms.specs.command.Usage as wrong
 use Rattle.pp_terms.specs.disk.Disk.{DiskState, IsKnown, GainsName}
 use Rattle.pp_terms.specs.format.Descriptor.{Descriptor}
-use Rattle.pp_terms.specs.format.Traffic.{LinkState}
+use Rattle.pp_terms.specs.format.Traffic.{Address, LinkState}
 use Rattle.pp_tree.specs.Book.{BookState, IsBookOf}
 use Rattle.pp_words.proofs.OneCommand.{one_command}
 use Rattle.pp_words.proofs.OneReading.{command_not_wrong}
@@ -16,7 +16,7 @@ use Rattle.pp_node.specs.Looking.{IsUnwritten, Lasts}
 use Rattle.pp_node.specs.Outside.{Outside, outside}
 use Rattle.pp_node.specs.Checking.{ChecksIn, CheckEnds}
 use Rattle.pp_node.specs.Exporting.{ExportsIn, ExportEnds}
-use Rattle.pp_node.specs.Promising.{SeedWords, SeedsIn, SeedEnds}
+use Rattle.pp_node.specs.Promising.{PeerWords, SeedsIn, SeedEnds, FetchesIn, FetchEnds}
 use Rattle.pp_node.specs.Upgrading.{UpgradesIn, IsUpgradeRun, UpgradeEnds}
 use Rattle.pp_node.specs.Commanding.{HasEnded}
 use Rattle.pp_node.specs.Status.{number_of}
@@ -69,8 +69,12 @@ module _ (words : List (List ℕ)) (command : Command) (status : Status) (result
   pub import_ends : (store : List ℕ) (chunk : ℕ) → IsImport words store chunk → ImportEnds result store chunk old new
   import_ends store chunk spelled = ended_as (Import store chunk) spelled
 
-  pub seed_ends : (w : SeedWords) → IsSeed words w.store w.descriptor w.listen w.turns → SeedEnds result w old new
+  pub seed_ends : (w : PeerWords) → IsSeed words w.store w.descriptor w.listen w.turns → SeedEnds result w old new
   seed_ends w spelled = ended_as (Seed w.store w.descriptor w.listen w.turns) spelled
+
+  pub fetch_ends : (w : PeerWords) (order : Order) (peers : List Address) → IsFetch words w.store w.descriptor w.listen w.turns order peers
+      → FetchEnds result w old new
+  fetch_ends w order peers spelled = ended_as (Fetch w.store w.descriptor w.listen w.turns order peers) spelled
 
   pub check_ends : (store : List ℕ) (descriptor : Descriptor) → IsOnStore (codes "check") words store descriptor
       → CheckEnds result store descriptor old new
@@ -103,10 +107,13 @@ never : (c : Command) (number : ℕ) (old new : Outside) → number ≡ 1 → Ha
 never (Import store chunk) number old new one end =
     subst (λ (s : Status). ImportsIn s chunk old new) (usage_only end.status (sym end.number ∙ one)) end.ends
 never (Seed store descriptor listen turns) number old new one end =
-    subst (λ (s : Status). SeedsIn s (record { store = store; descriptor = descriptor; listen = listen; turns = turns }) old new end.added) (usage_only end.status (sym end.number ∙ one)) end.ends
+    subst (λ (s : Status). SeedsIn s (record { store = store; descriptor = descriptor; listen = listen; turns = turns }) old new end.run.added)
+    (usage_only end.run.status (sym end.run.number ∙ one)) end.ends
 never (Check store descriptor) number old new one end =
     subst (λ (s : Status). ChecksIn s descriptor old new) (usage_only end.status (sym end.number ∙ one)) end.ends
-never (Fetch store descriptor listen turns order peers) number old new one end = end
+never (Fetch store descriptor listen turns order peers) number old new one end =
+    subst (λ (s : Status). FetchesIn s (record { store = store; descriptor = descriptor; listen = listen; turns = turns }) old new end.run.added)
+    (usage_only end.run.status (sym end.run.number ∙ one)) end.ends
 never (Export store descriptor) number old new one end =
     subst (λ (s : Status). ExportsIn s descriptor old new) (usage_only end.status (sym end.number ∙ one)) end.ends
 never (Upgrade store descriptor) number old new one end =

@@ -2,11 +2,14 @@ pub mod Written
 pub mod Lines
 pub mod Runs
 pub mod Attached
-pub mod Turns
+pub mod Names
+pub mod Idle
+pub mod Steps
 pub mod Looks
 pub mod Readies
+pub mod Peers
+pub mod Endings
 pub mod Spans
-pub mod Promises
 pub mod Upgrades
 pub mod Commands
 pub mod Seeds

@@ -1,32 +1,35 @@
 -- What is known of a peer that is made ready, step by step.
-use Rattle.std.proofs.Common.{◌≡◌, inl, inr, ℕ, zero, suc, ◌<◌, ◌≤◌, Option, List, [], ◌∷◌, length, drop, Result, Ok, Err, refl, sym, ◌∙◌, ap, subst, arith}
-use Rattle.pp_terms.specs.tree.Book.{LookUp}
+use Rattle.std.proofs.Common.{◌≡◌, true, inl, inr, ℕ, zero, suc, ◌<◌, ◌≤◌, Option, List, [], ◌∷◌, length, drop, Result, Ok, Err, refl, sym, ◌∙◌, ap, subst, arith}
 use Rattle.pp_terms.specs.format.Descriptor.{Descriptor}
 use Rattle.pp_terms.specs.disk.Disk.{DiskState, History, Epoch, IsImage, WasImage, MayLeaveSince, IsKnown, moment_of}
 use Rattle.pp_terms.specs.format.Traffic.{Address, LinkState, GainsAddress}
 use Rattle.pp_terms.proofs.Knowing.{known_on}
 use Rattle.pp_terms.specs.disk.Disk.{Throughout}
-use Rattle.pp_terms.specs.disk.Image.{StandsIn}
+use Rattle.pp_terms.specs.disk.Image.{StandsIn, is_found}
 use Rattle.pp_traffic.specs.Keeping.{StoodThroughout, StandsSince}
 use Rattle.pp_store.specs.Keep.{SameAttachment}
 use Rattle.pp_terms.specs.disk.Sound.{IsSound, BeganSound}
-use Rattle.pp_store.specs.Store.{GoesOn}
+use Rattle.pp_store.specs.Store.{GoesOn, is_committed}
+use Rattle.pp_tree.specs.Book.{entry}
 use Rattle.pp_store.specs.Sound.{StaysSound}
 use Rattle.pp_store.proofs.Opening.{goes_on_synced, sound_synced}
-use Rattle.pp_core.specs.Standing.{State}
 use Rattle.pp_terms.specs.disk.Untouched.{IsFreshlyAttached, IsSyncedAtMost}
 use Rattle.pp_terms.specs.disk.Store.{header}
 use Rattle.pp_terms.proofs.Untouched.{synced_at_most}
 use Rattle.pp_scan.specs.Look.{KeepsAll, SyncsAtMost}
 use Rattle.pp_scan.specs.Header.{IsDifference}
+use Rattle.pp_scan.specs.declared.scanning.ScanFault.{ScanFault}
+use Rattle.pp_scan.specs.declared.scanning.ScanFault.TheVariants as scans
+use Rattle.pp_scan.specs.Scan.{IsScanned}
 use Rattle.pp_store.specs.Probe.{HasProbed}
 use Rattle.pp_store.specs.declared.findings.ProbeFault.{ProbeFault}
 use Rattle.pp_store.specs.declared.findings.ProbeFault.TheVariants as probes
-use Rattle.pp_core.specs.Opening.{HasOpened}
-use Rattle.pp_core.specs.declared.opening.OpenFault.{OpenFault}
-use Rattle.pp_core.specs.declared.opening.OpenFault.TheVariants as opens
 use Rattle.pp_node.specs.Looking.{IsOf, Lasts}
-use Rattle.pp_node.specs.Preparing.{IsReady, HasPrepared, HasOpenedPeer, LeavesDisk, LeavesLink, fault_of_probe, fault_of_open}
+use Rattle.pp_holding.specs.Opening.{IsOpenFault}
+use Rattle.pp_core.specs.Keeping.{IsKeeping}
+use Rattle.pp_core.specs.Peers.{PeerState}
+use Rattle.pp_node.specs.Preparing.{IsFresh, IsReady, HasPrepared, HasOpenedPeer, LeavesDisk, LeavesLink, fault_of_probe, fault_of_open}
+use Rattle.pp_node.specs.declared.preparing.Peering.{Peering}
 use Rattle.pp_node.specs.declared.preparing.SeedFault.{SeedFault}
 use Rattle.pp_node.specs.declared.preparing.SeedFault.TheVariants.{NotAStore, Disk, Link, Memory}
 use Rattle.pp_node.specs.declared.preparing.Ready.{Ready}
@@ -99,30 +102,34 @@ lasts_scanned d old new fresh whole syncs =
 
 -- ---- what is left of the disk and the link
 
-module _ (d : Descriptor) (random : List ℕ) (old new : DiskState) (book : LookUp) (fresh : IsKnown old → IsFreshlyAttached old.history) (keeps : KeepsAll old new) where
-  pub prepared_probe : (seen : LinkState) (fault : ProbeFault) → HasProbed d old new (Err fault) → HasPrepared d random old new seen seen book (Err (fault_of_probe fault))
-  prepared_probe seen (probes.NotAStore at found want) is = other_kept d old new fresh keeps at found want is
+module _ (w : Peering) (old new : DiskState) (fresh : IsKnown old → IsFreshlyAttached old.history) (keeps : KeepsAll old new) where
+  pub prepared_probe : (seen : LinkState) (fault : ProbeFault) → HasProbed w.descriptor.now old new (Err fault)
+      → HasPrepared w old new seen seen (Err (fault_of_probe fault))
+  prepared_probe seen (probes.NotAStore at found want) is = other_kept w.descriptor.now old new fresh keeps at found want is
   prepared_probe seen probes.Disk risen = risen
 
-  pub leaves_probe : (fault : ProbeFault) → IsKnown old → LeavesDisk d new.history (Err (fault_of_probe fault))
-  leaves_probe (probes.NotAStore at found want) known = fresh_kept d old new fresh keeps known
-  leaves_probe probes.Disk known = inr (fresh_kept d old new fresh keeps known)
+  pub leaves_probe : (fault : ProbeFault) → IsKnown old → LeavesDisk w.descriptor.now new.history (Err (fault_of_probe fault))
+  leaves_probe (probes.NotAStore at found want) known = fresh_kept w.descriptor.now old new fresh keeps known
+  leaves_probe probes.Disk known = inr (fresh_kept w.descriptor.now old new fresh keeps known)
 
 -- the store was refused before the link was asked
 pub unbound_probe : (bound : Option (List Address)) (listen : Address) (fault : ProbeFault) → LeavesLink bound listen bound (Err (fault_of_probe fault))
 unbound_probe bound listen (probes.NotAStore at found want) = inl refl
 unbound_probe bound listen probes.Disk = inl refl
 
-module _ (d : Descriptor) (random : List ℕ) (old new : DiskState) (book : LookUp) (fresh : IsKnown old → IsFreshlyAttached old.history)
-    (attachment : IsKnown old → SameAttachment old.history new.history) (begins : IsKnown old → IsOf d old.history.reads) where
+module _ (w : Peering) (old new : DiskState) (fresh : IsKnown old → IsFreshlyAttached old.history)
+    (attachment : IsKnown old → SameAttachment old.history new.history) (begins : IsKnown old → IsOf w.descriptor.now old.history.reads) where
+  abbrev d : Descriptor
+  d = w.descriptor.now
+
   pub found_opened : IsKnown old → new.history.found ≡ old.history.reads
   found_opened known = (attachment known).found ∙ (fresh known).showed
 
   pub begins_opened : IsKnown old → IsOf d new.history.found
   begins_opened known = subst (IsOf d) (sym (found_opened known)) (begins known)
 
-  pub opened_fault : (T : Type 0) (fault : OpenFault) → HasOpened {T = T} d old new (Err fault) → HasOpenedPeer d random old new book (Err (fault_of_open fault))
-  opened_fault T (opens.NotAStore at found want) is = record {
+  pub opened_fault : (fault : ScanFault) → IsOpenFault d old new fault → HasOpenedPeer w old new (Err (fault_of_open fault))
+  opened_fault (scans.NotAStore at found want) is = record {
     within = is.within;
     differ = is.differ;
     wanted = is.wanted;
@@ -130,54 +137,71 @@ module _ (d : Descriptor) (random : List ℕ) (old new : DiskState) (book : Look
     first = λ known. subst (λ (r : List ℕ). IsDifference r (header d) at found want) (sym (found_opened known)) (is.first known);
     untouched = λ known. absurd (none_other d old.history.reads at found want (begins known) (is.some known) (is.first known));
   }
-  opened_fault T opens.Disk risen = risen
-  opened_fault T opens.Memory is = begins_opened
+  opened_fault scans.Disk risen = risen
+  opened_fault scans.Memory is = begins_opened
 
-  pub leaves_fault : (T : Type 0) (fault : OpenFault) → HasOpened {T = T} d old new (Err fault) → IsKnown old → LeavesDisk d new.history (Err (fault_of_open fault))
-  leaves_fault T (opens.NotAStore at found want) is known = absurd (none_other d old.history.reads at found want (begins known) (is.some known) (is.first known))
-  leaves_fault T opens.Disk risen known = inl (begins_opened known)
-  leaves_fault T opens.Memory is known = subst (λ (s : DiskState). IsFreshlyAttached s.history) (sym is) (fresh known)
+  pub leaves_fault : (fault : ScanFault) → IsOpenFault d old new fault → IsKnown old → LeavesDisk d new.history (Err (fault_of_open fault))
+  leaves_fault (scans.NotAStore at found want) is known = absurd (none_other d old.history.reads at found want (begins known) (is.some known) (is.first known))
+  leaves_fault scans.Disk risen known = inl (begins_opened known)
+  leaves_fault scans.Memory is known = subst (λ (s : DiskState). IsFreshlyAttached s.history) (sym is) (fresh known)
 
   pub unwritten_opened : (IsKnown old → 0 < length old.history.reads → SyncsAtMost old.history new.history)
       → IsKnown old → 0 < length new.history.found → IsSyncedAtMost new.history
   unwritten_opened syncs known some =
       synced_at_most old.history new.history (fresh known) (syncs known (subst (λ (r : List ℕ). 0 < length r) (found_opened known) some))
 
+  pub is_fresh : (p : PeerState) → moment_of old.history ≤ moment_of new.history → (IsKnown old → IsImage old.history.epoch old.history.reads) → IsScanned d old (entry p.parts.holding.book) p.parts.holding.store.committed
+      → (IsKnown old → (i : ℕ) → Throughout old.history (moment_of old.history) (λ image. StandsIn d image i) → is_committed p.parts.holding.store i ≡ true)
+      → (IsKnown old → IsSound d old.history.reads → IsKeeping (moment_of new.history) p new []) → IsFresh d old new p
+  is_fresh p later whole scanned taken kept = record {
+    count = scanned.count;
+    started = λ known.
+        let h1 = (fresh known).started in
+        let h2 = (attachment known).start in
+        omega (arith, h1, h2, later);
+    begins = begins_opened;
+    held = λ known i within. scanned.found known i within ∙ ap (λ (r : List ℕ). is_found d r i) (sym (found_opened known));
+    taken = λ known i stood. taken known i (stood_opened d old.history new.history i (fresh known) (attachment known) stood);
+    kept = λ known began. kept known (sound_opened d old.history new.history (fresh known) (attachment known) (whole known) began);
+  }
+
 -- the link was bound
-pub bound_open : (d : Descriptor) (random : List ℕ) (disk disk' : DiskState) (book : LookUp) (old : Option (List Address)) (listen : Address) (new : Option (List Address)) (result : Result Ready SeedFault)
-    → GainsAddress old listen new → HasOpenedPeer d random disk disk' book result → LeavesLink old listen new result
-bound_open d random disk disk' book old listen new (Ok ready) gains is = gains
-bound_open d random disk disk' book old listen new (Err (NotAStore at found want)) gains is = inr gains
-bound_open d random disk disk' book old listen new (Err Disk) gains is = inr gains
-bound_open d random disk disk' book old listen new (Err Link) gains is = absurd is
-bound_open d random disk disk' book old listen new (Err Memory) gains is = gains
+pub bound_open : (w : Peering) (disk disk' : DiskState) (old : Option (List Address)) (listen : Address) (new : Option (List Address)) (result : Result Ready SeedFault)
+    → GainsAddress old listen new → HasOpenedPeer w disk disk' result → LeavesLink old listen new result
+bound_open w disk disk' old listen new (Ok ready) gains is = gains
+bound_open w disk disk' old listen new (Err (NotAStore at found want)) gains is = inr gains
+bound_open w disk disk' old listen new (Err Disk) gains is = inr gains
+bound_open w disk disk' old listen new (Err Link) gains is = absurd is
+bound_open w disk disk' old listen new (Err Memory) gains is = gains
 
 -- ---- as seen from before
 
-module _ (d : Descriptor) (random : List ℕ) (old mid new : DiskState) (seen seen' : LinkState) (book : LookUp) (tells : mid.tells ≡ old.tells) (honest : mid.honest ≡ old.honest) (later : old.faults ≤ mid.faults) where
+module _ (w : Peering) (old mid new : DiskState) (seen seen' : LinkState) (tells : mid.tells ≡ old.tells) (honest : mid.honest ≡ old.honest)
+    (later : old.faults ≤ mid.faults) (hard : old.hard ≤ mid.hard) where
   known_mid : IsKnown old → IsKnown mid
   known_mid = known_on old mid tells honest
 
-  ready_since : (s : State) (room : ℕ) → IsReady d random mid new book s room → IsReady d random old new book s room
-  ready_since s room r = record {
+  ready_since : (p : PeerState) (room : ℕ) → IsReady w mid new p room → IsReady w old new p room
+  ready_since p room r = record {
     begun = r.begun;
-    size = r.size;
     stands = r.stands;
-    there = λ known. r.there (known_mid known);
-    kept = λ known. r.kept (known_mid known);
-    begins = λ known. r.begins (known_mid known);
-    held = λ known. r.held (known_mid known);
-    taken = λ known. r.taken (known_mid known);
-    still = λ known. r.still (known_mid known);
+    fresh = record {
+      count = r.fresh.count;
+      started = λ known. r.fresh.started (known_mid known);
+      begins = λ known. r.fresh.begins (known_mid known);
+      held = λ known. r.fresh.held (known_mid known);
+      taken = λ known. r.fresh.taken (known_mid known);
+      kept = λ known. r.fresh.kept (known_mid known);
+    };
     tells = r.tells ∙ tells;
     honest = r.honest ∙ honest;
-    later = omega (arith, later, r.later);
+    hard = let more = r.hard in omega (arith, hard, more);
     buffer = r.buffer;
   }
 
-  pub prepared_since : (result : Result Ready SeedFault) → HasPrepared d random mid new seen seen' book result → HasPrepared d random old new seen seen' book result
+  pub prepared_since : (result : Result Ready SeedFault) → HasPrepared w mid new seen seen' result → HasPrepared w old new seen seen' result
   prepared_since (Ok ready) r = ready_since ready.peer (length ready.buffer.items) r
-  prepared_since (Err (NotAStore at found want)) o = other_since d old mid new known_mid at found want o
+  prepared_since (Err (NotAStore at found want)) o = other_since w.descriptor.now old mid new known_mid at found want o
   prepared_since (Err Disk) risen = risen_less old.faults mid.faults new.faults later risen
   prepared_since (Err Link) both = (both.0, λ known. both.1 (known_mid known))
   prepared_since (Err Memory) begins = λ known. begins (known_mid known)

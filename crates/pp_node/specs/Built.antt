@@ -1,11 +1,12 @@
 -- The commands that are built.
 use Rattle.std.specs.Prelude.{List, [], ◌∷◌}
-use Rattle.pp_terms.specs.command.CommandLine.{Shape, import_shape, seed_shape, check_shape, export_shape, upgrade_shape}
+use Rattle.pp_terms.specs.command.CommandLine.{Shape, import_shape, seed_shape, fetch_shape, check_shape, export_shape, upgrade_shape}
 
 abbrev pub built : List Shape
 built =
     import_shape ∷
     seed_shape ∷
+    fetch_shape ∷
     check_shape ∷
     export_shape ∷
     upgrade_shape ∷

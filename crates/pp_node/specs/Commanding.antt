@@ -1,10 +1,10 @@
 -- The commands that words may ask for, and how each of them ends.
 use Rattle.std.specs.Prelude.{ℕ}
-use Rattle.pp_terms.specs.command.Commands.{Command, Import, Seed, Check, Export, Upgrade}
+use Rattle.pp_terms.specs.command.Commands.{Command, Import, Seed, Fetch, Check, Export, Upgrade}
 use Rattle.pp_node.specs.Checking.{CheckEnds}
 use Rattle.pp_node.specs.Exporting.{ExportEnds}
 use Rattle.pp_node.specs.Outside.{Outside}
-use Rattle.pp_node.specs.Promising.{SeedEnds}
+use Rattle.pp_node.specs.Promising.{SeedEnds, FetchEnds}
 use Rattle.pp_node.specs.Run.{ImportEnds}
 use Rattle.pp_node.specs.Upgrading.{UpgradeEnds}
 
@@ -14,10 +14,12 @@ FillsBook (Check store descriptor) = Unit {0}
 FillsBook (Export store descriptor) = Unit {0}
 FillsBook (Upgrade store descriptor) = Unit {0}
 FillsBook (Seed store descriptor listen turns) = Unit {0}
+FillsBook (Fetch store descriptor listen turns order peers) = Unit {0}
 FillsBook _ = ⊥
 
 abbrev pub UsesLink : Command → Type 0
 UsesLink (Seed store descriptor listen turns) = Unit {0}
+UsesLink (Fetch store descriptor listen turns order peers) = Unit {0}
 UsesLink _ = ⊥
 
 -- How a command ended, by the number that it answered.
@@ -26,6 +28,8 @@ HasEnded (Import store chunk) number old new = ImportEnds number store chunk old
 HasEnded (Check store descriptor) number old new = CheckEnds number store descriptor old new
 HasEnded (Seed store descriptor listen turns) number old new =
     SeedEnds number (record { store = store; descriptor = descriptor; listen = listen; turns = turns }) old new
+HasEnded (Fetch store descriptor listen turns order peers) number old new =
+    FetchEnds number (record { store = store; descriptor = descriptor; listen = listen; turns = turns }) old new
 HasEnded (Export store descriptor) number old new = ExportEnds number store descriptor old new
 HasEnded (Upgrade store descriptor) number old new = UpgradeEnds number store descriptor old new
 HasEnded _ number old new = ⊥

@@ -79,8 +79,8 @@ pub record IsSinkFault (d : Descriptor) (old new : Outside) : Type 0 where
   pub short : count < length bytes
   pub gained : Gains old.sink.taken (take count bytes) new.sink.taken
 
--- Bytes that were read at chunk n have another digest than the book's: both are named. Over a disk that is honest and tells
--- they are what reads gave at the chunk's place, and that never happens where every image was sound at the attachment.
+-- Bytes that were read at chunk n have another digest than the book's: both are named. Over a disk that is honest and tells the bytes
+-- are what reads gave at the chunk's place, and that never happens where every image was sound at the attachment.
 pub record IsDamagedChunk (d : Descriptor) (disk disk' : DiskState) (book : LookUp) (n : ℕ) : Type 0 where
   pub bytes : List ℕ
   pub found : List ℕ
@@ -141,7 +141,7 @@ pub record IsReadable (d : Descriptor) (disk : DiskState) (book : LookUp) : Type
   pub there : IsKnown disk → BeganSound d disk.history → (i : ℕ) → i < chunks_of d → is_there d disk.history.reads book i ≡ true
   pub same : IsKnown disk → disk.history.reads ≡ disk.history.found
 
--- So many chunks of a content from chunk `first` on, in order.
+-- The bytes are those of a number of chunks of a content from chunk `first` on, in order.
 pub record AreNext (d : Descriptor) (disk disk' : DiskState) (book : LookUp) (first count : ℕ) (bytes : List ℕ) : Type 0 where
   pub within : first + count ≤ chunks_of d
   pub size : length bytes ≡ min (count * d.chunk) (d.size - first * d.chunk)

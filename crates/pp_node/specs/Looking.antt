@@ -30,7 +30,8 @@ pub record IsFound (d : Descriptor) (disk disk' : DiskState) (book : LookUp) (se
   pub count : length set ≡ chunks_of d
   pub leaf : (i : ℕ) → slice_index_or set i false ≡ true → is_some (book 0 i) ≡ true
   pub found : IsKnown disk → (i : ℕ) → i < chunks_of d → slice_index_or set i false ≡ is_found d disk'.history.found i
-  pub there : IsKnown disk → BeganSound d disk'.history → (i : ℕ) → slice_index_or set i false ≡ true → is_there d disk'.history.reads book i ≡ true
+  pub there : IsKnown disk → BeganSound d disk'.history → (i : ℕ) → slice_index_or set i false ≡ true
+      → is_there d disk'.history.reads book i ≡ true
   pub begins : IsKnown disk → IsOf d disk'.history.found
 
 -- The file isn't empty, and this is its first byte that differs from the header. The byte that was wanted is the header's

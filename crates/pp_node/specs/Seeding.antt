@@ -1,27 +1,83 @@
--- How a peer that was made ready seeds, and what is said of it.
-use Rattle.std.specs.Prelude.{◌≡◌, ℕ}
-use Rattle.pp_terms.specs.tree.Book.{LookUp}
+-- How a peer that was made ready seeds or fetches, and what is said of it.
+use Rattle.std.specs.Prelude.{◌≡◌, ℕ, ◌<◌, Bool, true, false, List, length}
 use Rattle.pp_terms.specs.Count.{HasRisen}
-use Rattle.pp_terms.specs.disk.Disk.{DiskState}
 use Rattle.pp_terms.specs.command.Report.{disk_fault_line, link_fault_line, not_a_store_line, SaysReport}
 use Rattle.pp_terms.specs.command.Stream.{SinkState}
+use Rattle.pp_terms.specs.disk.Disk.{DiskState}
 use Rattle.pp_terms.specs.format.Traffic.{LinkState}
-use Rattle.pp_core.specs.Counting.{tally_of}
-use Rattle.pp_core.specs.Standing.{State}
+use Rattle.pp_traffic.specs.Committed.{is_in}
+use Rattle.pp_promises.specs.Missing.{incomplete_line}
+use Rattle.pp_counts.specs.Counts.{tally_of}
+use Rattle.pp_outside.specs.Outside.{address_of}
+use Rattle.pp_peer.specs.Standing.{Beginning}
+use Rattle.pp_tree.specs.Book.{BookState, IsBookOf}
+use Rattle.pp_core.specs.Peers.{PeerState}
+use Rattle.pp_node.specs.Promising.{PeerWords}
 use Rattle.pp_node.specs.Text.{Says}
-use Rattle.pp_node.specs.Turning.{TakesTurns}
-use Rattle.pp_node.specs.declared.status.Status.{Status}
-use Rattle.pp_node.specs.declared.status.Status.TheVariants.{Done, NotAStore, DiskFault, LinkFault, SinkFault, Memory}
+use Rattle.pp_node.specs.Turning.{Post, post, Ends, StopsIn}
+use Rattle.pp_node.specs.declared.preparing.Peering.{Peering}
 use Rattle.pp_node.specs.declared.preparing.SeedFault.{SeedFault}
 use Rattle.pp_node.specs.declared.preparing.SeedFault.TheVariants as fault
+use Rattle.pp_node.specs.declared.status.Status.{Status}
+use Rattle.pp_node.specs.declared.status.Status.TheVariants.{Done, NotAStore, Incomplete, DiskFault, LinkFault, SinkFault, Memory}
 
--- The turns were taken, and it was reported or the sink refused.
-abbrev pub Serves : Status → LookUp → ℕ → State → SinkState → SinkState → DiskState → DiskState → LinkState → LinkState → Type 0
-Serves Done book turns s sink sink' disk disk' seen seen' =
-    (new : State) × TakesTurns book turns disk disk' seen seen' s new × SaysReport new.committed (tally_of new.counts) sink sink'
-Serves SinkFault book turns s sink sink' disk disk' seen seen' =
-    (new : State) × TakesTurns book turns disk disk' seen seen' s new × HasRisen sink.faults sink'.faults
-Serves _ book turns s sink sink' disk disk' seen seen' = ⊥
+-- the words as plain data
+abbrev pub words_of : Peering → PeerWords
+words_of w = record { store = w.store.now; descriptor = w.descriptor.now; listen = address_of w.listen.now; turns = w.turns }
+
+-- the set of a peer's committed chunks
+abbrev pub set_of : PeerState → List Bool
+set_of p = p.parts.holding.store.committed
+
+-- all chunks are in the set
+abbrev pub HasEvery : List Bool → Type 0
+HasEvery set = (i : ℕ) → i < length set → is_in set i ≡ true
+
+-- The first chunk that a fetch lacks is named.
+pub record NamesFirst (set : List Bool) (old new : SinkState) : Type 0 where
+  pub first : ℕ
+  pub within : first < length set
+  pub missing : is_in set first ≡ false
+  pub before : (i : ℕ) → i < first → is_in set i ≡ true
+  pub said : Says (incomplete_line first) old new
+
+abbrev pub Judges : Status → Bool → PeerState → SinkState → SinkState → Type 0
+Judges Done fetches p old new = (new ≡ old) × (fetches ≡ true → HasEvery (set_of p))
+Judges Incomplete fetches p old new = (fetches ≡ true) × NamesFirst (set_of p) old new
+Judges _ fetches p old new = ⊥
+
+-- The first missing chunk was named behind the report.
+pub record NamesBehind (p : PeerState) (old new : SinkState) : Type 0 where
+  pub between : SinkState
+  pub reported : SaysReport (set_of p) (tally_of p.parts.counts) old between
+  pub names : NamesFirst (set_of p) between new
+
+-- The report was said, and what is to be said behind it; or the sink refused something.
+abbrev pub Finishes : Status → Bool → PeerState → SinkState → SinkState → Type 0
+Finishes Done fetches p old new =
+    (fetches ≡ true → HasEvery (set_of p)) × SaysReport (set_of p) (tally_of p.parts.counts) old new
+Finishes Incomplete fetches p old new = (fetches ≡ true) × NamesBehind p old new
+Finishes SinkFault fetches p old new = HasRisen old.faults new.faults
+Finishes _ fetches p old new = ⊥
+
+-- The turns were taken, the channels closed, and it was reported; or the disk refused something in a turn.
+abbrev pub Serves : Status → (fetches : Bool) → (most : ℕ) → Beginning → Post → Post → SinkState → SinkState → Type 0
+Serves Done fetches most b first last old new =
+    Ends b most fetches first last × Finishes Done fetches last.peer old new
+Serves Incomplete fetches most b first last old new =
+    Ends b most fetches first last × Finishes Incomplete fetches last.peer old new
+Serves SinkFault fetches most b first last old new =
+    Ends b most fetches first last × Finishes SinkFault fetches last.peer old new
+Serves DiskFault fetches most b first last old new = StopsIn b most first last × Says disk_fault_line old new
+Serves _ fetches most b first last old new = ⊥
+
+-- A peer served, and its book is the book.
+pub record HasServed (status : Status) (fetches : Bool) (most : ℕ) (b : Beginning) (first : Post) (disk : DiskState) (link : LinkState)
+    (book : BookState) (old new : SinkState) : Type 0 where
+  pub last : PeerState
+  pub serves : Serves status fetches most b first (post last disk link) old new
+  pub book_is : book ≡ last.parts.holding.book
+  pub rooted : IsBookOf last.parts.holding.store.descriptor book
 
 -- what is said of a fault, and the status that stands for it
 abbrev pub ReportsSeed : SeedFault → Status → SinkState → SinkState → Type 0

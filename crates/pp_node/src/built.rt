@@ -9,7 +9,10 @@ use pp_words::{Command, Usage, UsageKind, read_words};
 fn is_built(name: &str) -> bool
     ensures { MatchBool result (named name.now built ≡ named name.now commands) (named name.now built ≡ None) }
 {
-    matches!(name, "import" | "seed" | "check" | "export" | "upgrade")
+    matches!(
+        name,
+        "import" | "seed" | "fetch" | "check" | "export" | "upgrade"
+    )
 }
 
 /// The command that the words spell, if it is built, or the first wrong word. The name of a command that isn't built is no

@@ -2,11 +2,11 @@
 ghost use Rattle.std.specs.Prelude.{◌≡◌, ◌++◌, OnOk};
 ghost use Rattle.pp_terms.specs.Count.{HasCause};
 ghost use Rattle.pp_terms.specs.command.Stream.{Gains};
-ghost use Rattle.pp_core.specs.Counting.{tally_of};
+ghost use Rattle.pp_counts.specs.Counts.{tally_of};
 ghost use Rattle.pp_terms.specs.command.Tally.{first_lines, other_lines, tally_text};
 
 use crate::printing::put_counted;
-use pp_core::Counts;
+use pp_counts::Counts;
 use pp_outside::{Sink, SinkFault};
 
 /// Prints a line for each count.

@@ -17,7 +17,6 @@ mod top;
 mod turning;
 mod upgrading;
 
-pub use seeding::seed;
 pub use status::Status;
 pub use top::run;
 

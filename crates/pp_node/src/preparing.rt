@@ -1,17 +1,32 @@
-// A peer is made ready to seed.
-ghost use Rattle.std.specs.Prelude.{◌≡◌, ◌⊎◌, ◌<◌, length, IfOk, OnOk};
+// A peer is made ready to seed or to fetch.
+ghost use Rattle.std.specs.Prelude.{◌≡◌, ◌<◌, length, IfOk};
 ghost use Rattle.pp_terms.specs.disk.Disk.{IsKnown, GainsName};
 ghost use Rattle.pp_outside.specs.Outside.{address_of};
-ghost use Rattle.pp_tree.specs.Book.{entry, empty_book, IsBookOf};
 ghost use Rattle.pp_terms.specs.disk.Untouched.{IsFreshlyAttached, IsSyncedAtMost};
 ghost use Rattle.pp_node.specs.Looking.{IsOf, Lasts};
 ghost use Rattle.pp_node.specs.Preparing.{IsUnsent, HasPrepared, HasOpenedPeer, LeavesDisk, LeavesLink, fault_of_probe, fault_of_open};
 
-use pp_core::{OpenFault, Peer};
+use arrayvec::ArrayVec;
+use pp_avail::Rank;
+use pp_core::Peer;
 use pp_outside::{Address, Disk, Link};
+use pp_scan::ScanFault;
 use pp_store::{ProbeFault, probe};
-use pp_tree::{Book, Descriptor};
+use pp_tree::Descriptor;
 use std::alloc::{AllocError, Global};
+
+/// What the words of `seed` or `fetch` name. A peer that fetches has an order in which it asks for chunks, and addresses that it
+/// dials. Channel numbers are drawn from `random`, 32 bytes that nobody can guess.
+#[derive(Drop)]
+pub(crate) struct Peering<'a> {
+    pub(crate) store: &'a str,
+    pub(crate) descriptor: &'a Descriptor,
+    pub(crate) listen: &'a Address,
+    pub(crate) turns: u32,
+    pub(crate) asks: Option<Rank>,
+    pub(crate) dial: &'a ArrayVec<Address, 16>,
+    pub(crate) random: [u8; 32],
+}
 
 /// Why a peer couldn't be made ready.
 #[derive(Clone, Copy, Debug, PartialEq, Eq)]
@@ -36,13 +51,13 @@ impl SeedFault {
         }
     }
 
-    fn of_open(fault: OpenFault) -> SeedFault
+    fn of_open(fault: ScanFault) -> SeedFault
         ensures { result ≡ fault_of_open fault }
     {
         match fault {
-            OpenFault::NotAStore { at, found, want } => SeedFault::NotAStore { at, found, want },
-            OpenFault::Disk => SeedFault::Disk,
-            OpenFault::Memory => SeedFault::Memory,
+            ScanFault::NotAStore { at, found, want } => SeedFault::NotAStore { at, found, want },
+            ScanFault::Disk => SeedFault::Disk,
+            ScanFault::Memory => SeedFault::Memory,
         }
     }
 }
@@ -60,58 +75,45 @@ const LONGEST: usize = 65_536;
 /// Attaches the named store, begins to listen, takes all memory and opens the store, in this order.
 pub(crate) fn prepare<D: Disk, L: Link>(
     alloc: Global,
-    store: &str,
-    descriptor: &Descriptor,
-    listen: &Address,
-    random: [u8; 32],
+    words: &Peering<'_>,
     disk: &mut D,
     link: &mut L,
-    book: &mut Book,
 ) -> Result<Ready, SeedFault>
-    requires empty { book.old ≡ empty_book }
-    ensures prepared { HasPrepared descriptor.now random (D.state disk.old) (D.state disk.new) (L.seen link.old) (L.seen link.new) (entry book.new) result }
-    ensures lasts { IsKnown (D.state disk.old) → Lasts descriptor.now (D.state disk.new).history }
+    ensures prepared { HasPrepared words.now (D.state disk.old) (D.state disk.new) (L.seen link.old) (L.seen link.new) result }
+    ensures lasts { IsKnown (D.state disk.old) → Lasts words.now.descriptor.now (D.state disk.new).history }
     // A file that wasn't empty is not written to, whatever it answers.
     ensures unwritten { IsKnown (D.state disk.old) → 0 < length (D.state disk.new).history.found
         → IsSyncedAtMost (D.state disk.new).history }
-    ensures disk { IsKnown (D.state disk.old) → LeavesDisk descriptor.now (D.state disk.new).history result }
+    ensures disk { IsKnown (D.state disk.old) → LeavesDisk words.now.descriptor.now (D.state disk.new).history result }
     ensures named { IsKnown (D.state disk.old)
-        → GainsName (D.state disk.old).history.names store.now (D.state disk.new).history.names }
-    ensures link { LeavesLink (L.seen link.old).bound (address_of listen.now) (L.seen link.new).bound result }
+        → GainsName (D.state disk.old).history.names words.now.store.now (D.state disk.new).history.names }
+    ensures link { LeavesLink (L.seen link.old).bound (address_of words.now.listen.now) (L.seen link.new).bound result }
     ensures unsent { IsUnsent (L.seen link.old) (L.seen link.new) }
-    ensures book { (book.new ≡ empty_book) ⊎ IsBookOf descriptor.now book.new }
-    ensures filled { OnOk result (IsBookOf descriptor.now book.new) }
 {
-    match disk.attach(store) {
-        Ok(()) => prepare_attached(alloc, descriptor, listen, random, disk, link, book),
+    match disk.attach(words.store) {
+        Ok(()) => prepare_attached(alloc, words, disk, link),
         Err(_) => Err(SeedFault::Disk),
     }
 }
 
 fn prepare_attached<D: Disk, L: Link>(
     alloc: Global,
-    descriptor: &Descriptor,
-    listen: &Address,
-    random: [u8; 32],
+    words: &Peering<'_>,
     disk: &mut D,
     link: &mut L,
-    book: &mut Book,
 ) -> Result<Ready, SeedFault>
-    requires empty { book.old ≡ empty_book }
     requires attached { IsKnown (D.state disk.old) → IsFreshlyAttached (D.state disk.old).history }
-    ensures prepared { HasPrepared descriptor.now random (D.state disk.old) (D.state disk.new) (L.seen link.old) (L.seen link.new) (entry book.new) result }
-    ensures lasts { IsKnown (D.state disk.old) → Lasts descriptor.now (D.state disk.new).history }
+    ensures prepared { HasPrepared words.now (D.state disk.old) (D.state disk.new) (L.seen link.old) (L.seen link.new) result }
+    ensures lasts { IsKnown (D.state disk.old) → Lasts words.now.descriptor.now (D.state disk.new).history }
     ensures unwritten { IsKnown (D.state disk.old) → 0 < length (D.state disk.new).history.found
         → IsSyncedAtMost (D.state disk.new).history }
-    ensures disk { IsKnown (D.state disk.old) → LeavesDisk descriptor.now (D.state disk.new).history result }
+    ensures disk { IsKnown (D.state disk.old) → LeavesDisk words.now.descriptor.now (D.state disk.new).history result }
     ensures names { IsKnown (D.state disk.old) → (D.state disk.new).history.names ≡ (D.state disk.old).history.names }
-    ensures link { LeavesLink (L.seen link.old).bound (address_of listen.now) (L.seen link.new).bound result }
+    ensures link { LeavesLink (L.seen link.old).bound (address_of words.now.listen.now) (L.seen link.new).bound result }
     ensures unsent { IsUnsent (L.seen link.old) (L.seen link.new) }
-    ensures book { (book.new ≡ empty_book) ⊎ IsBookOf descriptor.now book.new }
-    ensures filled { OnOk result (IsBookOf descriptor.now book.new) }
 {
-    match probe(descriptor, disk) {
-        Ok(_) => listen_and_open(alloc, descriptor, listen, random, disk, link, book),
+    match probe(words.descriptor, disk) {
+        Ok(_) => listen_and_open(alloc, words, disk, link),
         Err(fault) => Err(SeedFault::of_probe(fault)),
     }
 }
@@ -119,29 +121,23 @@ fn prepare_attached<D: Disk, L: Link>(
 // The file is empty or begins with the header.
 fn listen_and_open<D: Disk, L: Link>(
     alloc: Global,
-    descriptor: &Descriptor,
-    listen: &Address,
-    random: [u8; 32],
+    words: &Peering<'_>,
     disk: &mut D,
     link: &mut L,
-    book: &mut Book,
 ) -> Result<Ready, SeedFault>
-    requires empty { book.old ≡ empty_book }
     requires attached { IsKnown (D.state disk.old) → IsFreshlyAttached (D.state disk.old).history }
-    requires begins { IsKnown (D.state disk.old) → IsOf descriptor.now (D.state disk.old).history.reads }
-    ensures prepared { HasPrepared descriptor.now random (D.state disk.old) (D.state disk.new) (L.seen link.old) (L.seen link.new) (entry book.new) result }
-    ensures lasts { IsKnown (D.state disk.old) → Lasts descriptor.now (D.state disk.new).history }
+    requires begins { IsKnown (D.state disk.old) → IsOf words.now.descriptor.now (D.state disk.old).history.reads }
+    ensures prepared { HasPrepared words.now (D.state disk.old) (D.state disk.new) (L.seen link.old) (L.seen link.new) result }
+    ensures lasts { IsKnown (D.state disk.old) → Lasts words.now.descriptor.now (D.state disk.new).history }
     ensures unwritten { IsKnown (D.state disk.old) → 0 < length (D.state disk.new).history.found
         → IsSyncedAtMost (D.state disk.new).history }
-    ensures disk { IsKnown (D.state disk.old) → LeavesDisk descriptor.now (D.state disk.new).history result }
+    ensures disk { IsKnown (D.state disk.old) → LeavesDisk words.now.descriptor.now (D.state disk.new).history result }
     ensures names { IsKnown (D.state disk.old) → (D.state disk.new).history.names ≡ (D.state disk.old).history.names }
-    ensures link { LeavesLink (L.seen link.old).bound (address_of listen.now) (L.seen link.new).bound result }
+    ensures link { LeavesLink (L.seen link.old).bound (address_of words.now.listen.now) (L.seen link.new).bound result }
     ensures unsent { IsUnsent (L.seen link.old) (L.seen link.new) }
-    ensures book { (book.new ≡ empty_book) ⊎ IsBookOf descriptor.now book.new }
-    ensures filled { OnOk result (IsBookOf descriptor.now book.new) }
 {
-    match link.bind(listen) {
-        Ok(()) => open(alloc, descriptor, random, disk, book),
+    match link.bind(words.listen) {
+        Ok(()) => open(alloc, words, disk),
         Err(_) => Err(SeedFault::Link),
     }
 }
@@ -152,29 +148,27 @@ fn room(alloc: Global) -> Result<Vec<u8>, AllocError>
     vec![in alloc; 0; LONGEST]
 }
 
-fn open<D: Disk>(
-    alloc: Global,
-    descriptor: &Descriptor,
-    random: [u8; 32],
-    disk: &mut D,
-    book: &mut Book,
-) -> Result<Ready, SeedFault>
-    requires empty { book.old ≡ empty_book }
+fn open<D: Disk>(alloc: Global, words: &Peering<'_>, disk: &mut D) -> Result<Ready, SeedFault>
     requires attached { IsKnown (D.state disk.old) → IsFreshlyAttached (D.state disk.old).history }
-    requires begins { IsKnown (D.state disk.old) → IsOf descriptor.now (D.state disk.old).history.reads }
-    ensures opened { HasOpenedPeer descriptor.now random (D.state disk.old) (D.state disk.new) (entry book.new) result }
-    ensures lasts { IsKnown (D.state disk.old) → Lasts descriptor.now (D.state disk.new).history }
+    requires begins { IsKnown (D.state disk.old) → IsOf words.now.descriptor.now (D.state disk.old).history.reads }
+    ensures opened { HasOpenedPeer words.now (D.state disk.old) (D.state disk.new) result }
+    ensures lasts { IsKnown (D.state disk.old) → Lasts words.now.descriptor.now (D.state disk.new).history }
     ensures unwritten { IsKnown (D.state disk.old) → 0 < length (D.state disk.new).history.found
         → IsSyncedAtMost (D.state disk.new).history }
-    ensures disk { IsKnown (D.state disk.old) → LeavesDisk descriptor.now (D.state disk.new).history result }
+    ensures disk { IsKnown (D.state disk.old) → LeavesDisk words.now.descriptor.now (D.state disk.new).history result }
     ensures names { IsKnown (D.state disk.old) → (D.state disk.new).history.names ≡ (D.state disk.old).history.names }
-    ensures book { (book.new ≡ empty_book) ⊎ IsBookOf descriptor.now book.new }
-    ensures filled { OnOk result (IsBookOf descriptor.now book.new) }
 {
     let Ok(buffer) = room(alloc) else {
         return Err(SeedFault::Memory);
     };
-    match Peer::open(alloc, descriptor, random, disk, book) {
+    match Peer::open(
+        alloc,
+        words.descriptor,
+        words.random,
+        words.asks,
+        words.dial,
+        disk,
+    ) {
         Ok(peer) => Ok(Ready { peer, buffer }),
         Err(fault) => Err(SeedFault::of_open(fault)),
     }

@@ -1,96 +1,148 @@
-// The command `seed STORE DESCRIPTOR LISTEN TURNS`.
-ghost use Rattle.std.specs.Prelude.{◌≡◌, ◌⊎◌, true, length, OnOk};
+// The commands `seed STORE DESCRIPTOR LISTEN TURNS` and `fetch STORE DESCRIPTOR LISTEN TURNS ORDER PEER..`.
+ghost use Rattle.std.specs.Prelude.{◌≡◌, None, true, length, is_some, OnOk};
 ghost use Rattle.pp_terms.specs.Count.{HasCause};
-ghost use Rattle.pp_terms.specs.command.Stream.{SourceState};
-ghost use Rattle.pp_outside.specs.Outside.{address_of};
-ghost use Rattle.pp_tree.specs.Book.{entry, empty_book};
-ghost use Rattle.pp_core.specs.Counting.{tally_of};
-ghost use Rattle.pp_core.specs.Serving.{HasPaths, ReadsAlone};
-ghost use Rattle.pp_node.specs.Promising.{SeedEnds};
-ghost use Rattle.pp_node.specs.Outside.{outside};
-ghost use Rattle.pp_node.specs.Status.{number_of};
-ghost use Rattle.pp_node.specs.Seeding.{ReportsSeed, Serves};
 ghost use Rattle.pp_terms.specs.command.Report.{SaysReport};
+ghost use Rattle.pp_terms.specs.command.Stream.{SourceState};
+ghost use Rattle.pp_counts.specs.Counts.{tally_of};
+ghost use Rattle.pp_core.specs.Turning.{Closes};
+ghost use Rattle.pp_peer.specs.Standing.{Beginning};
+ghost use Rattle.pp_tree.specs.Book.{empty_book};
+ghost use Rattle.pp_node.specs.Outside.{outside};
+ghost use Rattle.pp_node.specs.Promising.{SeedEnds, FetchEnds};
+ghost use Rattle.pp_node.specs.Seeding.{words_of, ReportsSeed, Judges, Finishes, Serves, HasServed};
+ghost use Rattle.pp_node.specs.Status.{number_of};
+ghost use Rattle.pp_node.specs.Turning.{post, IsBegun, IsSized};
 
 use crate::checking::put_not_a_store;
 use crate::counting::put_counts;
-use crate::preparing::{Ready, SeedFault, prepare};
-use crate::printing::put_all;
+use crate::preparing::{Peering, Ready, SeedFault, prepare};
+use crate::printing::{put_all, put_counted};
 use crate::ranges::put_held;
 use crate::status::Status;
 use crate::turning::take_turns;
 use pp_core::Peer;
-use pp_outside::{Address, Disk, Link, Sink, SinkFault};
-use pp_tree::{Book, Descriptor};
+use pp_outside::{Disk, Link, Sink, SinkFault};
+use pp_tree::Book;
 use std::alloc::Global;
 
-/// Does what `seed STORE DESCRIPTOR LISTEN TURNS` says: attaches the named store, listens, serves the chunks that it holds for
-/// `turns` turns of at most 100,000 microseconds each, closes the channels, and prints which chunks the peer has and 22 lines
-/// of what it counted. The book is empty at entry; channel
-/// numbers are drawn from `random`, 32 bytes that nobody can guess.
-pub fn seed<D: Disk, L: Link, K: Sink>(
+/// Does what `seed` or `fetch` says: attaches the named store, listens, serves the chunks that it holds for `turns` turns of at most
+/// 100,000 microseconds each, or asks for those that it lacks too until all are committed; then it closes the channels, and prints
+/// which chunks the peer has and 22 lines of what it counted. A fetch that lacks some chunk names the first. The book is empty at
+/// entry, and at the end it is the peer's.
+pub(crate) fn share<D: Disk, L: Link, K: Sink>(
     alloc: Global,
-    store: &str,
-    descriptor: &Descriptor,
-    listen: &Address,
-    turns: u32,
-    random: [u8; 32],
+    words: &Peering<'_>,
     disk: &mut D,
     link: &mut L,
     sink: &mut K,
     book: &mut Book,
 ) -> Status
     requires empty { book.old ≡ empty_book }
-    ensures ends { (source : SourceState)
-        → SeedEnds (number_of result) (record { store = store.now; descriptor = descriptor.now; listen = address_of listen.now; turns = turns })
+    ensures seeds { words.now.asks ≡ None → (source : SourceState)
+        → SeedEnds (number_of result) (words_of words.now)
+        (outside (D.state disk.old) (L.seen link.old) source (K.state sink.old) book.old)
+        (outside (D.state disk.new) (L.seen link.new) source (K.state sink.new) book.new) }
+    ensures fetches { is_some words.now.asks ≡ true → (source : SourceState)
+        → FetchEnds (number_of result) (words_of words.now)
         (outside (D.state disk.old) (L.seen link.old) source (K.state sink.old) book.old)
         (outside (D.state disk.new) (L.seen link.new) source (K.state sink.new) book.new) }
 {
-    match prepare(alloc, store, descriptor, listen, random, disk, link, book) {
-        Ok(ready) => serve(ready, turns, descriptor.chunks(), disk, link, sink, book),
+    match prepare(alloc, words, disk, link) {
+        Ok(ready) => serve(ready, words, disk, link, sink, book),
         Err(fault) => report(fault, sink),
     }
 }
 
-// Takes the turns, closes the channels and reports.
+// Takes the turns, closes the channels and reports; the book becomes the peer's.
 fn serve<D: Disk, L: Link, K: Sink>(
     ready: Ready,
-    turns: u32,
-    chunks: u32,
+    words: &Peering<'_>,
     disk: &mut D,
     link: &mut L,
     sink: &mut K,
     book: &mut Book,
 ) -> Status
-    requires live { ready.peer.is_live ≡ true }
     requires room { length ready.buffer.items ≡ 65536 }
-    requires size { chunks ≡ length ready.peer.committed }
-    requires paths { HasPaths ready.peer.descriptor ready.peer.committed (entry book.old) }
-    ensures serves { Serves result (entry book.old) turns ready.peer (K.state sink.old) (K.state sink.new) (D.state disk.old) (D.state disk.new) (L.seen link.old) (L.seen link.new) }
-    ensures disk { ReadsAlone (D.state disk.old) (D.state disk.new) }
-    ensures book { book.new ≡ book.old }
+    ensures { (b : Beginning) → IsBegun b (post ready.peer (D.state disk.old) (L.seen link.old))
+        → HasServed result (is_some words.now.asks) words.now.turns b (post ready.peer (D.state disk.old) (L.seen link.old))
+        (D.state disk.new) (L.seen link.new) book.new (K.state sink.old) (K.state sink.new) }
 {
     let Ready {
         mut peer,
         mut buffer,
     } = ready;
-    if take_turns(&mut peer, turns, &mut buffer, disk, link, book).is_err() {
-        return report(SeedFault::Disk, sink);
+    let status = take_all(&mut peer, words, &mut buffer, disk, link, sink);
+    *book = peer.into_book();
+    status
+}
+
+// Takes the turns; where the disk refused nothing in them, closes the channels and reports.
+fn take_all<D: Disk, L: Link, K: Sink>(
+    peer: &mut Peer,
+    words: &Peering<'_>,
+    buffer: &mut [u8],
+    disk: &mut D,
+    link: &mut L,
+    sink: &mut K,
+) -> Status
+    requires room { length buffer.old ≡ 65536 }
+    ensures { (b : Beginning) → IsBegun b (post peer.old (D.state disk.old) (L.seen link.old))
+        → Serves result (is_some words.now.asks) words.now.turns b (post peer.old (D.state disk.old) (L.seen link.old))
+        (post peer.new (D.state disk.new) (L.seen link.new)) (K.state sink.old) (K.state sink.new) }
+{
+    let fetches = words.asks.is_some();
+    match take_turns(peer, words.turns, fetches, buffer, disk, link) {
+        Ok(()) => finish(peer, fetches, disk, link, sink),
+        Err(_) => report(SeedFault::Disk, sink),
     }
+}
+
+// Closes the channels and reports.
+fn finish<D: Disk, L: Link, K: Sink>(
+    peer: &mut Peer,
+    fetches: bool,
+    disk: &D,
+    link: &mut L,
+    sink: &mut K,
+) -> Status
+    ensures closes { Closes peer.old peer.new (L.seen link.old) (L.seen link.new) (D.state disk.now) }
+    ensures finishes { Finishes result fetches peer.new (K.state sink.old) (K.state sink.new) }
+    ensures sized { IsSized peer.new }
+{
     peer.close(disk, link);
-    match put_report(&peer, chunks, sink) {
-        Ok(()) => Status::Done,
+    // Its contract tells of how many chunks the set is.
+    let _ = peer.book();
+    match put_report(peer, sink) {
+        Ok(()) => judge(peer, fetches, sink),
         Err(_) => Status::SinkFault,
     }
 }
 
-fn put_report<K: Sink>(peer: &Peer, chunks: u32, sink: &mut K) -> Result<(), SinkFault>
-    requires { chunks ≡ length peer.now.committed }
-    ensures said { OnOk result (SaysReport peer.now.committed (tally_of peer.now.counts) (K.state sink.old) (K.state sink.new)) }
+fn put_report<K: Sink>(peer: &Peer, sink: &mut K) -> Result<(), SinkFault>
+    requires { IsSized peer.now }
+    ensures said { OnOk result (SaysReport peer.now.parts.holding.store.committed (tally_of peer.now.parts.counts) (K.state sink.old) (K.state sink.new)) }
     ensures cause { HasCause (K.state sink.old).faults (K.state sink.new).faults result }
 {
-    put_held(peer.committed(), chunks, sink)?;
+    put_held(peer.committed(), peer.descriptor().chunks(), sink)?;
     put_counts(peer.counts(), sink)
+}
+
+// A fetch is done where all chunks are committed. A line that the sink refuses is given up.
+fn judge<K: Sink>(peer: &Peer, fetches: bool, sink: &mut K) -> Status
+    ensures { Judges result fetches peer.now (K.state sink.old) (K.state sink.new) }
+{
+    match peer.committed().first_absent() {
+        Some(first) if fetches => {
+            let _ = put_counted(
+                sink,
+                b"incomplete: first missing chunk ",
+                u64::from(first),
+                b"\n",
+            );
+            Status::Incomplete
+        }
+        _ => Status::Done,
+    }
 }
 
 // Says what was at fault. A line that the sink refuses is given up.

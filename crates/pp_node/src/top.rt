@@ -1,8 +1,9 @@
 // The top call.
 ghost use Rattle.std.specs.Prelude.{◌≡◌, ◌↔◌, ℕ, List, codes};
 ghost use Rattle.pp_terms.specs.command.Commands as terms;
-ghost use Rattle.pp_terms.specs.command.CommandLine.{Spells, IsImport, IsSeed, IsOnStore, IsOneOf, IsFirstWrong};
+ghost use Rattle.pp_terms.specs.command.CommandLine.{Spells, IsImport, IsSeed, IsFetch, IsOnStore, IsOneOf, IsFirstWrong};
 ghost use Rattle.pp_terms.specs.format.Descriptor.{Descriptor};
+ghost use Rattle.pp_terms.specs.format.Traffic.{Address};
 ghost use Rattle.pp_terms.specs.command.Usage as wrong;
 ghost use Rattle.pp_terms.specs.command.Usage.{usage_line};
 ghost use Rattle.pp_tree.specs.Book.{empty_book};
@@ -13,7 +14,7 @@ ghost use Rattle.pp_node.specs.Run.{ImportEnds};
 ghost use Rattle.pp_node.specs.Checking.{CheckEnds};
 ghost use Rattle.pp_node.specs.Exporting.{ExportEnds};
 ghost use Rattle.pp_node.specs.Upgrading.{UpgradeEnds};
-ghost use Rattle.pp_node.specs.Promising.{SeedWords, SeedEnds};
+ghost use Rattle.pp_node.specs.Promising.{PeerWords, SeedEnds, FetchEnds};
 ghost use Rattle.pp_node.specs.Outside.{outside};
 ghost use Rattle.pp_node.specs.Status.{number_of};
 ghost use Rattle.pp_node.specs.Commanding.{FillsBook, UsesLink, HasEnded};
@@ -22,13 +23,16 @@ use crate::built::read_built;
 use crate::checking::check;
 use crate::exporting::export;
 use crate::importing::import;
+use crate::preparing::Peering;
 use crate::refusing::refuse;
-use crate::seeding::seed;
+use crate::seeding::share;
 use crate::status::Status;
 use crate::upgrading::upgrade;
+use arrayvec::ArrayVec;
+use pp_avail::Rank;
 use pp_outside::{Disk, Link, Sink, Source};
 use pp_tree::Book;
-use pp_words::Command;
+use pp_words::{Command, Order};
 use std::alloc::Global;
 
 /// Does what the words of a command line say, without the program's name, and answers the exit status: 0 done, 1 for
@@ -62,8 +66,13 @@ pub fn run<D: Disk, L: Link, S: Source, K: Sink>(
         → ImportEnds result store chunk (outside (D.state disk.old) (L.seen link.old) (S.state source.old) (K.state sink.old) book.old)
         (outside (D.state disk.new) (L.seen link.new) (S.state source.new) (K.state sink.new) book.new) }
 
-    ensures seed { (w : SeedWords) → IsSeed (texts words.now) w.store w.descriptor w.listen w.turns
+    ensures seed { (w : PeerWords) → IsSeed (texts words.now) w.store w.descriptor w.listen w.turns
         → SeedEnds result w (outside (D.state disk.old) (L.seen link.old) (S.state source.old) (K.state sink.old) book.old)
+        (outside (D.state disk.new) (L.seen link.new) (S.state source.new) (K.state sink.new) book.new) }
+
+    ensures fetch { (w : PeerWords) (order : terms.Order) (peers : List Address)
+        → IsFetch (texts words.now) w.store w.descriptor w.listen w.turns order peers
+        → FetchEnds result w (outside (D.state disk.old) (L.seen link.old) (S.state source.old) (K.state sink.old) book.old)
         (outside (D.state disk.new) (L.seen link.new) (S.state source.new) (K.state sink.new) book.new) }
 
     ensures check { (store : List ℕ) (descriptor : Descriptor) → IsOnStore (codes "check") (texts words.now) store descriptor
@@ -78,7 +87,7 @@ pub fn run<D: Disk, L: Link, S: Source, K: Sink>(
         → UpgradeEnds result store descriptor (outside (D.state disk.old) (L.seen link.old) (S.state source.old) (K.state sink.old) book.old)
         (outside (D.state disk.new) (L.seen link.new) (S.state source.new) (K.state sink.new) book.new) }
 
-    // Only `seed` uses the link, and only it, `check`, `export` and `upgrade` fill the book.
+    // Only `seed` and `fetch` use the link, and only they, `check`, `export` and `upgrade` fill the book.
     ensures link { ((c : terms.Command) → Spells (texts words.now) c → UsesLink c → ⊥) → L.seen link.new ≡ L.seen link.old }
     ensures book { ((c : terms.Command) → Spells (texts words.now) c → FillsBook c → ⊥) → book.new ≡ book.old }
 {
@@ -115,9 +124,37 @@ fn obey<D: Disk, L: Link, S: Source, K: Sink>(
             descriptor,
             listen,
             turns,
-        } => seed(
-            alloc, store, descriptor, listen, *turns, random, disk, link, sink, book,
-        ),
+        } => {
+            let words = Peering {
+                store,
+                descriptor,
+                listen,
+                turns: *turns,
+                asks: None,
+                dial: &ArrayVec::new(),
+                random,
+            };
+            share(alloc, &words, disk, link, sink, book)
+        }
+        Command::Fetch {
+            store,
+            descriptor,
+            listen,
+            turns,
+            order,
+            peers,
+        } => {
+            let words = Peering {
+                store,
+                descriptor,
+                listen,
+                turns: *turns,
+                asks: Some(rank_of(*order)),
+                dial: peers,
+                random,
+            };
+            share(alloc, &words, disk, link, sink, book)
+        }
         Command::Check { store, descriptor } => check(alloc, store, descriptor, disk, sink, book),
         Command::Export { store, descriptor } => {
             export(alloc, store, descriptor, disk, sink, book)
@@ -126,8 +163,15 @@ fn obey<D: Disk, L: Link, S: Source, K: Sink>(
             upgrade(alloc, store, descriptor, disk, source, sink, book)
         }
         // These are not built, so they are never asked for.
-        Command::Fetch { .. } => unreachable!(),
         Command::Replay => unreachable!(),
         Command::Rehearse { .. } => unreachable!(),
+    }
+}
+
+// The order in which a fetch asks for chunks.
+fn rank_of(order: Order) -> Rank {
+    match order {
+        Order::Sequential => Rank::Sequential,
+        Order::Rarest => Rank::Rarest,
     }
 }

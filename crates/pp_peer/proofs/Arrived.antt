@@ -28,6 +28,8 @@ use Rattle.pp_seats.specs.Hearing.{IsRead, OnceRead}
 use Rattle.pp_peer.specs.declared.parts.Parts.{Parts}
 use Rattle.pp_peer.specs.Taking.{read_at, after_some, KeepsCounts, Keeps}
 use Rattle.pp_peer.specs.Absorbing.{counted, with_short, Advanced, Stocks, InTime, IsHeard}
+use Rattle.pp_peer.specs.Standing.{KeepsContent}
+use Rattle.pp_peer.proofs.Content.{content_twice}
 use Rattle.pp_peer.proofs.Counted.{counts_twice}
 use Rattle.pp_peer.proofs.Heard.{ok_then}
 
@@ -199,10 +201,11 @@ arrival_counts d t new sender now bytes k (arrivals.Heard seat) a = record {
 }
 
 pub datagram_advanced : (bytes : List ℕ) (old mid new : Parts) (counts : Counts) (disk left : DiskState) → mid.holding ≡ old.holding → mid.counts ≡ counts
-    → KeepsCounts (with_short bytes old.counts) counts → Keeps mid new disk left → Advanced (with_short bytes old.counts) old new disk left
-datagram_advanced bytes old mid new counts disk left same are kept keeps = record {
+    → KeepsCounts (with_short bytes old.counts) counts → KeepsContent old mid → Keeps mid new disk left → Advanced (with_short bytes old.counts) old new disk left
+datagram_advanced bytes old mid new counts disk left same are kept content keeps = record {
   advances = subst (λ (h : HoldingState). Advances (stock_of h disk) (stock_of new.holding left)) same keeps.advances;
   counts_are = counts_twice (with_short bytes old.counts) mid.counts new.counts (subst (λ (k : Counts). KeepsCounts (with_short bytes old.counts) k) (sym are) kept) keeps.counts;
+  content = content_twice old mid new content keeps.content;
 }
 
 pub stocks_from : {T E : Type 0} (r : Result T E) (old mid new : Parts) → mid.holding ≡ old.holding → OnOk r (Stocks mid new) → OnOk r (Stocks old new)
@@ -246,11 +249,12 @@ datagram_is e bytes sender len at is fits =
 
 -- What is pending was committed, or not.
 pub settled_advanced : (k : Counts) (old mid new : Parts) (held : HoldingState) (disk half left : DiskState) → Advanced k old mid disk half → new.holding ≡ held
-    → Advances (stock_of mid.holding half) (stock_of held left) → new.counts ≡ mid.counts → Advanced k old new disk left
-settled_advanced k old mid new held disk half left a same advances counts = record {
+    → Advances (stock_of mid.holding half) (stock_of held left) → new.counts ≡ mid.counts → KeepsContent mid new → Advanced k old new disk left
+settled_advanced k old mid new held disk half left a same advances counts content = record {
   advances = subst (λ (h : HoldingState). Advances (stock_of old.holding disk) (stock_of h left)) (sym same)
       (advances_twice (stock_of old.holding disk) (stock_of mid.holding half) (stock_of held left) a.advances advances);
   counts_are = subst (λ (c : Counts). KeepsCounts k c) (sym counts) a.counts_are;
+  content = content_twice old mid new a.content content;
 }
 
 -- Chunks that were put at one moment, and then the end of the event, commit in time.

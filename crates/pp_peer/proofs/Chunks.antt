@@ -14,6 +14,7 @@ use Rattle.pp_terms.specs.tree.Tree.{Node}
 use Rattle.pp_terms.proofs.Risings.{gains_nothing}
 use Rattle.pp_tree.specs.Book.{BookState, entry}
 use Rattle.pp_traffic.specs.Keeping.{announces, EachAnnounced}
+use Rattle.pp_traffic.specs.Committed.{has_request}
 use Rattle.pp_traffic.specs.Meter.{lets_send}
 use Rattle.pp_traffic.specs.Serving.{ServesAll}
 use Rattle.pp_traffic.specs.Laws.{plan}
@@ -48,18 +49,19 @@ use Rattle.pp_seats.proofs.Lists.{get_set_there, get_set_other}
 use Rattle.pp_seats.proofs.Outgoing.{far_is}
 use Rattle.pp_peer.specs.declared.parts.Parts.{Parts}
 use Rattle.pp_peer.specs.Standing.{Beginning, setting, own_at, own_in, asked_of, Fetches, Ledger, StandsFor}
-use Rattle.pp_peer.specs.Flushing.{Scene, Flushes}
-use Rattle.pp_peer.specs.Serving.{counted, with_note, sent_of, given_up, GoesTo, ChangesOneSeat}
+use Rattle.pp_peer.specs.Flushing.{KeepsWaits, Scene, Flushes}
+use Rattle.pp_peer.specs.Taking.{after_some}
+use Rattle.pp_peer.specs.Serving.{counted, sent_of, given_up, GoesTo, ChangesOneSeat}
 use Rattle.pp_peer.proofs.Flushed.{CountsSent, ledger_sent}
 
 -- ---- own requests
 
 -- The own requests of each seat stay, and no peer's number is forgotten.
-record KeepsOwn (old new : SeatsState) : Type 0 where
-  own : (seat : ℕ) → own_in new.seats seat ≡ own_in old.seats seat
-  far : (seat : ℕ) → far_of (channel_at new.table seat) ≡ None → far_of (channel_at old.table seat) ≡ None
+pub record KeepsOwn (old new : SeatsState) : Type 0 where
+  pub own : (seat : ℕ) → own_in new.seats seat ≡ own_in old.seats seat
+  pub far : (seat : ℕ) → far_of (channel_at new.table seat) ≡ None → far_of (channel_at old.table seat) ≡ None
 
-fetches_on : (old new : Parts) → KeepsOwn old.seats new.seats → new.fetching ≡ old.fetching → Fetches old → Fetches new
+pub fetches_on : (old new : Parts) → KeepsOwn old.seats new.seats → new.fetching ≡ old.fetching → Fetches old → Fetches new
 fetches_on old new keeps same f = record {
   owned = record {
     owner = f.owned.owner;
@@ -82,7 +84,7 @@ seen : (waits : Bool) (far : Far) → waits ≡ false → cond waits None (Some 
 seen true far known e = cc
 seen false far known e = cc
 
-far_sent : (t : Seats) (k at seat : ℕ) (c : Channel) → channel_at t k ≡ Some c → is_waiting c ≡ false
+pub far_sent : (t : Seats) (k at seat : ℕ) (c : Channel) → channel_at t k ≡ Some c → is_waiting c ≡ false
     → far_of (channel_at (with_datagram t k false at) seat) ≡ None → far_of (channel_at t seat) ≡ None
 far_sent t k at seat c there known e =
     let change = changed_is t k c (λ x. record x { wrote = at }) there in ⊎_elim
@@ -90,7 +92,7 @@ far_sent t k at seat c there known e =
     (λ apart. ap far_of (sym (change.others seat (eqb-false seat k apart))) ∙ e)
     (cases_Bool (eqb seat k))
 
-keeps_set : (old new : SeatsState) (k : ℕ) (before after : SeatState) → slice_get old.seats k ≡ Some before → after.own ≡ before.own
+pub keeps_set : (old new : SeatsState) (k : ℕ) (before after : SeatState) → slice_get old.seats k ≡ Some before → after.own ≡ before.own
     → new ≡ record old { seats = set old.seats k after } → KeepsOwn old new
 keeps_set old new k before after there same is = record {
   own = λ seat. ap (λ (p : SeatsState). own_in p.seats seat) is ∙ own_set old.seats k seat before after there same;
@@ -128,7 +130,7 @@ ledger_same b old new past same counts l = record {
 pub record Rests (served : Served) (old new : Parts) : Type 0 where
   pub holding : new.holding ≡ old.holding
   pub fetching : new.fetching ≡ old.fetching
-  pub counts : new.counts ≡ with_note (counted served) old.counts
+  pub counts : new.counts ≡ after_some (counted served) old.counts
 
 -- The seats changed, and the link was sent nothing.
 record Unsent (refused : ℕ) (old new : Scene) : Type 0 where
@@ -143,6 +145,7 @@ record Unsent (refused : ℕ) (old new : Scene) : Type 0 where
   swarm : new.parts.seats.descriptor ≡ old.parts.seats.descriptor
   moment : new.parts.seats.moment ≡ old.parts.seats.moment
   own : KeepsOwn old.parts.seats new.parts.seats
+  waits : KeepsWaits old.parts.counts new.parts.counts
   stands : (x : Setting) (most : ℕ) (past : List Record) → seats.StandsFor x most old.parts.seats past
       → HoldsAnnounced x (is_committed old.parts.holding.store) past → seats.StandsFor x (most + refused) new.parts.seats past
 
@@ -153,7 +156,9 @@ flushes_unsent refused old new u = record {
   nexts = u.nexts;
   bound = u.bound;
   later = u.later;
-  all_sent = tt;
+  ours = tt;
+  seeds = λ none. record { fetching = u.fetching ∙ none; asks = refl };
+  waits = u.waits;
   reads = u.reads;
   holding = u.holding;
   swarm = u.swarm;
@@ -182,6 +187,10 @@ no_more x most p past h = subst (λ (n : ℕ). seats.StandsFor x n p past) zero_
 delivery_silent : (book : LookUp) (nodes : List Node) (chunk at : ℕ) (bytes : List ℕ) (i : ℕ) → announces i (delivery book nodes chunk at bytes) ≡ false
 delivery_silent book [] chunk at bytes i = refl
 delivery_silent book (n ∷ ns) chunk at bytes i = delivery_silent book ns chunk at bytes i
+
+delivery_asks_none : (book : LookUp) (nodes : List Node) (chunk at : ℕ) (bytes : List ℕ) → has_request (delivery book nodes chunk at bytes) ≡ false
+delivery_asks_none book [] chunk at bytes = refl
+delivery_asks_none book (n ∷ ns) chunk at bytes = delivery_asks_none book ns chunk at bytes
 
 module _ (k : ℕ) (old new : Parts) (link later : LinkState) (disk left : DiskState) (rests : Rests outcomes.Sent old new)
     (s : SendsChunk k old.holding.store (entry old.holding.book) old.seats new.seats link later disk left) where
@@ -229,7 +238,23 @@ module _ (k : ℕ) (old new : Parts) (link later : LinkState) (disk left : DiskS
     nexts = s.sends.nexts;
     bound = s.sends.bound;
     later = s.sends.later;
-    all_sent = (refl, tt);
+    ours = (
+      record {
+        receiver = address_of s.far.address;
+        bytes = s.datagram;
+        is = ap (λ (n : ℕ). Sent n (address_of s.far.address) s.datagram) (ap (λ (h : History). moment_of h) s.reads.looks.same);
+        channel = s.far.number;
+        messages = delivery (entry old.holding.book) (plan s.before.told.chunks (knows s.before.told) s.chunk) s.chunk old.seats.moment s.bytes;
+        written = s.written;
+      },
+      tt,
+    );
+    seeds = λ none. record {
+      fetching = rests.fetching ∙ none;
+      asks = ap (λ (x : Bool). x || false) (ap (λ (g : plain.Datagram). has_request g.messages.read) s.written.read
+          ∙ delivery_asks_none (entry old.holding.book) (plan s.before.told.chunks (knows s.before.told) s.chunk) s.chunk old.seats.moment s.bytes);
+    };
+    waits = record { turns = ap (λ (c : Counts). c.turns) rests.counts; receive_faults = ap (λ (c : Counts). c.receive_faults) rests.counts };
     reads = s.reads.looks;
     holding = rests.holding;
     swarm = ap (λ (p : SeatsState). p.descriptor) s.is;
@@ -239,7 +264,10 @@ module _ (k : ℕ) (old new : Parts) (link later : LinkState) (disk left : DiskS
 
 -- ---- whatever became of it
 
-stay_counts : (served : Served) (old new : Parts) → Rests served old new → CountsStay old.counts (with_note (counted served) old.counts) → CountsStay old.counts new.counts
+stay_waits : (served : Served) (old new : Parts) → Rests served old new → KeepsWaits old.counts (after_some (counted served) old.counts) → KeepsWaits old.counts new.counts
+stay_waits served old new rests stay = subst (λ (c : Counts). KeepsWaits old.counts c) (sym rests.counts) stay
+
+stay_counts : (served : Served) (old new : Parts) → Rests served old new → CountsStay old.counts (after_some (counted served) old.counts) → CountsStay old.counts new.counts
 stay_counts served old new rests stay = subst (λ (c : Counts). CountsStay old.counts c) (sym rests.counts) stay
 
 pub flushes_served : (k : ℕ) (served : Served) (old new : Parts) (link later : LinkState) (disk left : DiskState) → Rests served old new
@@ -254,6 +282,7 @@ flushes_served k outcomes.Done old new link later disk left rests s = flushes_un
   holding = rests.holding;
   fetching = rests.fetching;
   counts = stay_counts outcomes.Done old new rests (record { datagrams = refl; short = refl; sent = refl });
+  waits = stay_waits outcomes.Done old new rests (record { turns = refl; receive_faults = refl });
   swarm = ap (λ (p : SeatsState). p.descriptor) s.0;
   moment = ap (λ (p : SeatsState). p.moment) s.0;
   own = record {
@@ -271,6 +300,7 @@ flushes_served k outcomes.Passed old new link later disk left rests s = flushes_
   holding = rests.holding;
   fetching = rests.fetching;
   counts = stay_counts outcomes.Passed old new rests (record { datagrams = refl; short = refl; sent = refl });
+  waits = stay_waits outcomes.Passed old new rests (record { turns = refl; receive_faults = refl });
   swarm = ap (λ (p : SeatsState). p.descriptor) s.2.is;
   moment = ap (λ (p : SeatsState). p.moment) s.2.is;
   own = keeps_set old.seats new.seats k s.2.before s.2.after s.2.may.there (ap (λ (y : SeatState). y.own) s.2.exact) s.2.is;
@@ -286,6 +316,7 @@ flushes_served k outcomes.Refused old new link later disk left rests s = flushes
   holding = rests.holding;
   fetching = rests.fetching;
   counts = stay_counts outcomes.Refused old new rests (record { datagrams = refl; short = refl; sent = refl });
+  waits = stay_waits outcomes.Refused old new rests (record { turns = refl; receive_faults = refl });
   swarm = ap (λ (p : SeatsState). p.descriptor) s.4.is;
   moment = ap (λ (p : SeatsState). p.moment) s.4.is;
   own = keeps_set old.seats new.seats k s.4.before s.4.after s.4.may.there (ap (λ (y : SeatState). y.own) s.4.exact) s.4.is;
@@ -300,16 +331,22 @@ flushes_served k (outcomes.Unread why) old new link later disk left rests s = fl
   holding = rests.holding;
   fetching = rests.fetching;
   counts = stay_counts (outcomes.Unread why) old new rests (unread_stay why);
+  waits = stay_waits (outcomes.Unread why) old new rests (unread_waits why);
   swarm = ap (λ (p : SeatsState). p.descriptor) s.4.is;
   moment = ap (λ (p : SeatsState). p.moment) s.4.is;
   own = keeps_set old.seats new.seats k s.4.before s.4.after s.4.may.there (ap (λ (y : SeatState). y.own) s.4.exact) s.4.is;
   stands = λ x most past h holds. s.4.stands x most past h;
 })
   where
-    unread_stay : (u : Unread) → CountsStay old.counts (with_note (counted (outcomes.Unread u)) old.counts)
+    unread_stay : (u : Unread) → CountsStay old.counts (after_some (counted (outcomes.Unread u)) old.counts)
     unread_stay unread.Absent = record { datagrams = refl; short = refl; sent = refl }
     unread_stay unread.Disk = record { datagrams = refl; short = refl; sent = refl }
     unread_stay unread.Damaged = record { datagrams = refl; short = refl; sent = refl }
+
+    unread_waits : (u : Unread) → KeepsWaits old.counts (after_some (counted (outcomes.Unread u)) old.counts)
+    unread_waits unread.Absent = record { turns = refl; receive_faults = refl }
+    unread_waits unread.Disk = record { turns = refl; receive_faults = refl }
+    unread_waits unread.Damaged = record { turns = refl; receive_faults = refl }
 
 -- with the store and the book by other names
 pub serving_of : (k : ℕ) (served : Served) (store given : StoreState) (book lent : BookState) (old new : SeatsState) (link later : LinkState) (disk left : DiskState)

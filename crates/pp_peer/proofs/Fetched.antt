@@ -7,7 +7,7 @@ use Rattle.std.proofs.lemmas.Bool.{cases_Bool, cases_eq, eq-eqb}
 use Rattle.pp_requests.specs.declared.asking.Asking.{Asking}
 use Rattle.pp_requests.specs.Moments.{asked_at, Changes}
 use Rattle.std.proofs.lemmas.List.{get_or-set_other}
-use Rattle.pp_terms.specs.format.Descriptor.{Descriptor}
+use Rattle.pp_terms.specs.format.Descriptor.{Descriptor, chunks_of}
 use Rattle.pp_outside.specs.declared.link.Address.{Address}
 use Rattle.pp_channels.specs.Seats.{Seats, channel_at, closed}
 use Rattle.pp_lives.specs.Arriving.{Arrives}
@@ -23,14 +23,11 @@ use Rattle.pp_seats.specs.Hearing.{IsAnswered, Prepares, looked_up}
 use Rattle.pp_terms.specs.format.Messages.{Message, Handshake, Data, Ack, Have, Integrity, Pex4, PexReq, Request, Cancel, Choke, Unchoke, Pex6}
 use Rattle.pp_terms.specs.tree.Range.{Span}
 use Rattle.pp_counts.specs.declared.note.Note.{Note}
-use Rattle.pp_wire.specs.Views.{message_of}
-use Rattle.pp_wire.specs.declared.message.Message as code
-use Rattle.pp_wire.specs.declared.message.Message.TheVariants as variants
 use Rattle.pp_desk.specs.Hearing.{HearsPart, HearsRequest, HearsIntegrity, Hears}
 use Rattle.pp_seat.specs.Lines.{inside}
 use Rattle.pp_seats.specs.Standing.{SeatsState}
 use Rattle.pp_peer.specs.declared.parts.Parts.{Parts}
-use Rattle.pp_peer.specs.Taking.{Heeds}
+use Rattle.pp_peer.specs.Messages.{Offers, GivesBackOf, Heeds}
 use Rattle.pp_peer.proofs.Known.{FarStays, far_map, arrives_far, opens_far, replies_far}
 use Rattle.pp_peer.specs.Standing.{own_at, own_in, asked_of, Fetches}
 
@@ -167,6 +164,16 @@ integrity_own range digest o old new h = ⊎_elim
     (λ e. ⊎_elim (λ l. ap (λ (s : SeatState). s.own) l.exact) (λ f. ap (λ (s : SeatState). s.own) f.same) (h.proven e))
     (λ e. ap (λ (s : SeatState). s.own) (h.unproven e).1) (cases_Bool old.proven)
 
+pub offers_asked : (seat : ℕ) (range : Option Span) (old new : Option FetchState) → Offers seat range old new → asked_of new ≡ asked_of old
+offers_asked seat None old new o = ap asked_of o
+offers_asked seat (Some range) None new o = ap asked_of o
+offers_asked seat (Some range) (Some old) new o = ap asked_of o.1 ∙ ap (λ (f : FetchState). f.want.asked) o.2.rest
+
+pub given_back_asked : (own : List Asking) (old new : Option FetchState) → GivesBackOf own old new
+    → (i : ℕ) → slice_index_or (asked_of new) i false ≡ (slice_index_or (asked_of old) i false && not (awaits own i))
+given_back_asked own None new g i = ap (λ (o : Option FetchState). slice_index_or (asked_of o) i false) g
+given_back_asked own (Some old) new g i = ap (λ (o : Option FetchState). slice_index_or (asked_of o) i false) g.1 ∙ g.2.asked i
+
 -- A message is heard on a seat, and what it means is heeded.
 pub heeded_fetches : (now : ℕ) (m : Message) (o : Option Note) (old mid new : Parts) (seat : ℕ) (before after : SeatState) → slice_get old.seats.seats seat ≡ Some before
     → new.seats ≡ record old.seats { seats = set old.seats.seats seat after } → new.fetching ≡ mid.fetching
@@ -176,38 +183,28 @@ heeded_fetches now m o old mid new seat before after there is same h e = by_mess
     as_mid : asked_of mid.fetching ≡ asked_of old.fetching → asked_of new.fetching ≡ asked_of old.fetching
     as_mid e = ap asked_of same ∙ e
 
+    same_mid : mid ≡ old → asked_of mid.fetching ≡ asked_of old.fetching
+    same_mid e = ap (λ (p : Parts). asked_of p.fetching) e
+
     stays : after.own ≡ before.own → asked_of mid.fetching ≡ asked_of old.fetching → Fetches old → Fetches new
     stays own e = same_fetches old new seat before after there is own (as_mid e)
 
     by_message : (m : Message) → Hears now m o before after → Heeds seat m old mid → Fetches old → Fetches new
-    by_message (Handshake source options) h e = stays (ap (λ (s : SeatState). s.own) h.1) e
+    by_message (Handshake source options) h e = stays (ap (λ (s : SeatState). s.own) h.1) (same_mid e)
     by_message (Data chunk sent_at bytes) h e = absurd h
-    by_message (Ack span delay) h e = stays (part_own span _ o before after h (λ range a. ap (λ (s : SeatState). s.own) a.rest)) e
-    by_message (Have span) h e = stays (part_own span _ o before after h (λ range a. ap (λ (s : SeatState). s.own) a.rest)) e
-    by_message (Integrity span digest) h e = stays (part_own span _ o before after h (λ range a. integrity_own range digest o before after a)) e
-    by_message (Pex4 address port) h e = stays (ap (λ (s : SeatState). s.own) h.1) e
-    by_message PexReq h e = stays (ap (λ (s : SeatState). s.own) h.1) e
-    by_message (Request span) h e = stays (part_own span _ o before after h (λ range a. request_own range o before after a)) e
-    by_message (Cancel span) h e = stays (part_own span _ o before after h (λ range a. ap (λ (s : SeatState). s.own) a.exact)) e
+    by_message (Ack span delay) h e = stays (part_own span _ o before after h (λ range a. ap (λ (s : SeatState). s.own) a.rest)) (same_mid e)
+    by_message (Have span) h e = stays (part_own span _ o before after h (λ range a. ap (λ (s : SeatState). s.own) a.rest))
+        (offers_asked seat (inside (chunks_of old.holding.store.descriptor) span) old.fetching mid.fetching e.0)
+    by_message (Integrity span digest) h e = stays (part_own span _ o before after h (λ range a. integrity_own range digest o before after a)) (same_mid e)
+    by_message (Pex4 address port) h e = stays (ap (λ (s : SeatState). s.own) h.1) (ap (λ (p : Parts). asked_of p.fetching) e)
+    by_message PexReq h e = stays (ap (λ (s : SeatState). s.own) h.1) (ap (λ (p : Parts). asked_of p.fetching) e)
+    by_message (Request span) h e = stays (part_own span _ o before after h (λ range a. request_own range o before after a)) (same_mid e)
+    by_message (Cancel span) h e = stays (part_own span _ o before after h (λ range a. ap (λ (s : SeatState). s.own) a.exact)) (same_mid e)
     by_message Choke h e = dropped_fetches old new seat before after there is (ap (λ (s : SeatState). s.own) h.1)
-        (λ i. ap (λ (f : Option FetchState). slice_index_or (asked_of f) i false) same ∙ e i)
-    by_message Unchoke h e = stays (ap (λ (s : SeatState). s.own) h.1) e
-    by_message (Pex6 address port) h e = stays (ap (λ (s : SeatState). s.own) h.1) e
-
--- a message that is no CHOKE and means nothing else
-pub heeds_none : (seat : ℕ) (m : code.Message) (p : Parts) → (m ≡ variants.Choke → ⊥) → Heeds seat (message_of m) p p
-heeds_none seat (variants.Handshake source options) p k = refl
-heeds_none seat (variants.Data chunk sent_at bytes) p k = refl
-heeds_none seat (variants.Ack span delay) p k = refl
-heeds_none seat (variants.Have span) p k = refl
-heeds_none seat (variants.Integrity span digest) p k = refl
-heeds_none seat (variants.Pex4 address port) p k = refl
-heeds_none seat variants.PexReq p k = refl
-heeds_none seat (variants.Request span) p k = refl
-heeds_none seat (variants.Cancel span) p k = refl
-heeds_none seat variants.Choke p k = absurd (k refl)
-heeds_none seat variants.Unchoke p k = refl
-heeds_none seat (variants.Pex6 address port) p k = refl
+        (λ i. ap (λ (f : Option FetchState). slice_index_or (asked_of f) i false) same
+        ∙ given_back_asked (own_in old.seats.seats seat) old.fetching mid.fetching e.0 i)
+    by_message Unchoke h e = stays (ap (λ (s : SeatState). s.own) h.1) (same_mid e)
+    by_message (Pex6 address port) h e = stays (ap (λ (s : SeatState). s.own) h.1) (ap (λ (p : Parts). asked_of p.fetching) e)
 
 -- ---- a channel that is dropped
 

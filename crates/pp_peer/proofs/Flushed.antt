@@ -1,7 +1,8 @@
 -- What is sent step by step, and one record more of what went.
-use Rattle.std.proofs.Common.{◌≡◌, ℕ, ◌+◌, ◌≤◌, true, false, Option, List, [], ◌∷◌, ◌++◌, refl, sym, ◌∙◌, ap, subst, arith, append_assoc}
-use Rattle.std.specs.List.{AllByRecursion}
-use Rattle.pp_terms.specs.Count.{capped, one_more}
+use Rattle.std.proofs.Common.{◌≡◌, ℕ, ◌+◌, ◌≤◌, Bool, true, ◌||◌, Option, List, [], ◌∷◌, ◌++◌, refl, sym, ◌∙◌, ap, subst, arith, append_assoc}
+use Rattle.std.specs.List.{AllByRecursion, list_any}
+use Rattle.std.proofs.lemmas.List.Folds.{list_any-append}
+use Rattle.pp_terms.specs.Count.{one_more}
 use Rattle.pp_terms.specs.disk.Disk.{History, moment_of}
 use Rattle.pp_terms.specs.format.Traffic.{Address, Record, Sent}
 use Rattle.pp_terms.specs.format.Descriptor.{Descriptor}
@@ -9,7 +10,8 @@ use Rattle.pp_terms.specs.format.Messages.{Message, Handshake, Data, Ack, Have, 
 use Rattle.pp_terms.specs.tree.Book.{LookUp}
 use Rattle.pp_terms.proofs.Risings.{gains_nothing, gains_twice}
 use Rattle.pp_tree.specs.Book.{entry}
-use Rattle.pp_traffic.specs.Past.{read, is_event}
+use Rattle.pp_traffic.specs.Past.{read}
+use Rattle.pp_traffic.specs.Committed.{requests}
 use Rattle.pp_traffic.specs.Meter.{lets_send}
 use Rattle.pp_traffic.specs.Serving.{Window, ServesFrom, Serves, ServesAll}
 use Rattle.pp_traffic.specs.Keeping.{announces}
@@ -21,8 +23,8 @@ use Rattle.pp_desk.specs.Hearing.{IsNoData}
 use Rattle.pp_holding.specs.Holding.{HoldingState}
 use Rattle.pp_peer.specs.declared.parts.Parts.{Parts}
 use Rattle.pp_peer.specs.Standing.{Beginning, Ledger, StandsFor}
-use Rattle.pp_peer.specs.Flushing.{Scene, Flushes}
-use Rattle.pp_peer.proofs.Ledgers.{announced_on}
+use Rattle.pp_peer.specs.Flushing.{IsOurs, Scene, Flushes}
+use Rattle.pp_peer.proofs.Ledgers.{announced_on, capped_more}
 
 -- ---- steps
 
@@ -37,7 +39,9 @@ flushes_none s = record {
   nexts = refl;
   bound = refl;
   later = omega arith;
-  all_sent = tt;
+  ours = tt;
+  seeds = λ none. record { fetching = none; asks = refl };
+  waits = record { turns = refl; receive_faults = refl };
   reads = record { tells = refl; honest = refl; same = refl; faults = omega arith; hard = omega arith };
   holding = refl;
   swarm = refl;
@@ -55,7 +59,21 @@ flushes_twice m n a b c one two = record {
   nexts = two.nexts ∙ one.nexts;
   bound = two.bound ∙ one.bound;
   later = omega (arith, one.later, two.later);
-  all_sent = all_both (λ r. is_event r ≡ false) two.added one.added two.all_sent one.all_sent;
+  ours = all_both (IsOurs a.parts.seats.descriptor (moment_of a.disk.history)) two.added one.added
+      (subst (λ (d : Descriptor). AllByRecursion (IsOurs d (moment_of a.disk.history)) two.added) one.swarm
+      (subst (λ (h : History). AllByRecursion (IsOurs b.parts.seats.descriptor (moment_of h)) two.added) one.reads.same two.ours))
+      one.ours;
+  seeds = λ none.
+      let first = one.seeds none in
+      let then = two.seeds first.fetching in
+      record {
+        fetching = then.fetching;
+        asks = list_any-append (requests a.parts.seats.descriptor) two.added one.added
+            ∙ ap (λ (x : Bool). x || list_any (requests a.parts.seats.descriptor) one.added)
+            (ap (λ (d : Descriptor). list_any (requests d) two.added) (sym one.swarm) ∙ then.asks)
+            ∙ first.asks;
+      };
+  waits = record { turns = two.waits.turns ∙ one.waits.turns; receive_faults = two.waits.receive_faults ∙ one.waits.receive_faults };
   reads = record {
     tells = two.reads.tells ∙ one.reads.tells;
     honest = two.reads.honest ∙ one.reads.honest;
@@ -125,9 +143,6 @@ pub record CountsSent (old new : Counts) : Type 0 where
   pub datagrams : new.datagrams ≡ old.datagrams
   pub short : new.short ≡ old.short
   pub sent : new.sent ≡ one_more old.sent
-
-capped_more : (n : ℕ) → one_more (capped n) ≡ capped (n + 1)
-capped_more n = omega arith
 
 pub ledger_sent : (b : Beginning) (old new : Parts) (moment : ℕ) (receiver : Address) (bytes : List ℕ) (past : List Record) → new.holding ≡ old.holding
     → CountsSent old.counts new.counts

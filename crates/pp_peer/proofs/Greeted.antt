@@ -15,6 +15,7 @@ use Rattle.pp_terms.proofs.Risings.{gains_nothing}
 use Rattle.pp_tree.specs.Book.{entry}
 use Rattle.pp_traffic.specs.Meter.{lets_send}
 use Rattle.pp_traffic.specs.Past.{read}
+use Rattle.pp_traffic.specs.Committed.{has_request}
 use Rattle.pp_traffic.specs.Serving.{ServesFrom}
 use Rattle.pp_traffic.specs.Keeping.{announces}
 use Rattle.pp_promises.specs.Datagrams.{PlansFrom}
@@ -127,7 +128,12 @@ sent_flushes receiver old new link later disk s = record {
   nexts = s.sends.nexts;
   bound = s.sends.bound;
   later = s.sends.later;
-  all_sent = (refl, tt);
+  ours = (record { receiver = receiver; bytes = s.bytes; is = refl; channel = s.channel; messages = Handshake s.source s.options ∷ []; written = s.written }, tt);
+  seeds = λ none. record {
+    fetching = ap (λ (p : Parts). p.fetching) s.rest ∙ none;
+    asks = ap (λ (x : Bool). x || false) (ap (λ (it : Datagram). has_request it.messages.read) s.written.read);
+  };
+  waits = record { turns = ap (λ (p : Parts). p.counts.turns) s.rest; receive_faults = ap (λ (p : Parts). p.counts.receive_faults) s.rest };
   reads = record { tells = refl; honest = refl; same = refl; faults = omega arith; hard = omega arith };
   holding = ap (λ (p : Parts). p.holding) s.rest;
   swarm = s.swarm;
@@ -177,7 +183,9 @@ refused_flushes old new link after disk s = record {
   nexts = s.nexts;
   bound = s.bound;
   later = s.later;
-  all_sent = tt;
+  ours = tt;
+  seeds = λ none. record { fetching = ap (λ (p : Parts). p.fetching) s.rest ∙ none; asks = refl };
+  waits = record { turns = ap (λ (p : Parts). p.counts.turns) s.rest; receive_faults = ap (λ (p : Parts). p.counts.receive_faults) s.rest };
   reads = record { tells = refl; honest = refl; same = refl; faults = omega arith; hard = omega arith };
   holding = ap (λ (p : Parts). p.holding) s.rest;
   swarm = s.swarm;
@@ -201,7 +209,7 @@ far_waits : (is_waiting : Bool) (far : Far) → cond is_waiting None (Some far) 
 far_waits true far e = refl
 far_waits false far e = absurd cc
 
-marked_fars : (t new : Seats) (k : ℕ) (c : Channel) → channel_at t k ≡ Some c → IsMarked t new k c → KeepsFars t new
+pub marked_fars : (t new : Seats) (k : ℕ) (c : Channel) → channel_at t k ≡ Some c → IsMarked t new k c → KeepsFars t new
 marked_fars t new k c there marked n far = of (cases_eq n k)
   where
     here : far_of (channel_at new k) ≡ None → far_of (channel_at t k) ≡ None

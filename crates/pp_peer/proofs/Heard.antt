@@ -24,8 +24,9 @@ use Rattle.pp_seats.proofs.Composing.{hearing_composes}
 use Rattle.pp_seats.proofs.Lists.{get_set_there, set_twice}
 use Rattle.pp_seats.proofs.Turnings.{set_there}
 use Rattle.pp_peer.specs.declared.parts.Parts.{Parts}
-use Rattle.pp_peer.specs.Taking.{note_of, after_some, Heeds, KeepsCounts, Keeps, Stores, Takes, Hears, Closes, Reads}
-use Rattle.pp_peer.specs.Standing.{asked_of, Fetches}
+use Rattle.pp_peer.specs.Taking.{note_of, after_some, KeepsCounts, Keeps, Stores, Takes, Hears, Closes, Reads}
+use Rattle.pp_peer.specs.Messages.{Heeds}
+use Rattle.pp_peer.specs.Standing.{size_of, KeepsContent, asked_of, Fetches}
 use Rattle.std.specs.Prelude.{Result, Ok, Err, OnOk, IsSome, slice_index_or}
 use Rattle.pp_channels.specs.Seats.{Seats, channel_at}
 use Rattle.pp_channels.specs.declared.channel.Channel.{Channel}
@@ -33,21 +34,24 @@ use Rattle.pp_lives.proofs.Changing.{dropped_is}
 use Rattle.pp_fetching.specs.Owners.{awaits}
 use Rattle.pp_peer.specs.Greeting.{Clears}
 use Rattle.pp_peer.proofs.Ending.{released_asked}
+use Rattle.pp_peer.proofs.Content.{content_same, content_twice, released_size, heeds_size}
 use Rattle.pp_peer.specs.Standing.{own_in}
 use Rattle.pp_peer.proofs.Fetched.{fetches_alike, heeded_fetches, closed_fetches}
 use Rattle.pp_peer.proofs.Counted.{IsOfMessage, same_counts, counts_twice, message_counts, put_is_counted, hears_counted, some_counts}
 
 -- the holding stays as it is
-pub keeps_same : (old new : Parts) (disk : DiskState) → new.holding ≡ old.holding → KeepsCounts old.counts new.counts → Keeps old new disk disk
-keeps_same old new disk same counts = record {
+pub keeps_same : (old new : Parts) (disk : DiskState) → new.holding ≡ old.holding → KeepsCounts old.counts new.counts → KeepsContent old new → Keeps old new disk disk
+keeps_same old new disk same counts content = record {
   advances = subst (λ (h : HoldingState). Advances (stock_of old.holding disk) (stock_of h disk)) (sym same) (advances_none (stock_of old.holding disk));
   counts = counts;
+  content = content;
 }
 
 pub keeps_twice : (a b c : Parts) (disk mid left : DiskState) → Keeps a b disk mid → Keeps b c mid left → Keeps a c disk left
 keeps_twice a b c disk mid left one two = record {
   advances = advances_twice (stock_of a.holding disk) (stock_of b.holding mid) (stock_of c.holding left) one.advances two.advances;
   counts = counts_twice a.counts b.counts c.counts one.counts two.counts;
+  content = content_twice a b c one.content two.content;
 }
 
 -- nothing was stored
@@ -84,7 +88,7 @@ heard_twice seat now ms more a b c n one two = record {
 
 pub takes_none : (seat : ℕ) (p : Parts) (disk : DiskState) (s : SeatState) → slice_get p.seats.seats seat ≡ Some s → Takes seat [] p p disk disk
 takes_none seat p disk s there = record {
-  keeps = keeps_same p p disk refl (same_counts p.counts);
+  keeps = keeps_same p p disk refl (same_counts p.counts) (content_same p);
   heard = record {
     before = s;
     after = s;
@@ -109,10 +113,11 @@ takes_twice seat ms more a b c disk mid left one two = record {
 
 -- Bytes that came as a chunk were given to the store.
 pub put_keeps : (old new : Parts) (put : Put) (held : HoldingState) (disk left : DiskState) → new.holding ≡ held → Advances (stock_of old.holding disk) (stock_of held left)
-    → new.counts ≡ after_note (note_of put) old.counts → Keeps old new disk left
-put_keeps old new put held disk left same advances counts = record {
+    → new.counts ≡ after_note (note_of put) old.counts → KeepsContent old new → Keeps old new disk left
+put_keeps old new put held disk left same advances counts content = record {
   advances = subst (λ (h : HoldingState). Advances (stock_of old.holding disk) (stock_of h left)) (sym same) advances;
   counts = subst (λ (k : Counts). KeepsCounts old.counts k) (sym counts) (message_counts (note_of put) old.counts (put_is_counted put));
+  content = content;
 }
 
 pub put_stores : (old new : Parts) (put : Put) (held : HoldingState) (chunk at : ℕ) → new.holding ≡ held → at ≡ old.seats.moment
@@ -126,13 +131,17 @@ put_stores old new put held chunk at same when batch live = (
 )
 
 -- A DATA ended the wait for its chunk, and then something was counted or stored.
+pub data_keeps : (old mid new : Parts) (disk left : DiskState) → mid ≡ record old { seats = mid.seats; fetching = mid.fetching } → KeepsContent old mid
+    → Keeps mid new disk left → Keeps old new disk left
+data_keeps old mid new disk left rest content keeps = keeps_twice old mid new disk disk left (keeps_same old mid disk (ap (λ (p : Parts). p.holding) rest)
+    (subst (λ (k : Counts). KeepsCounts old.counts k) (sym (ap (λ (p : Parts). p.counts) rest)) (same_counts old.counts)) content) keeps
+
 pub data_takes : (seat : ℕ) (m : Message) (old mid new : Parts) (disk left : DiskState) → ChangesSeat seat (HearsAll old.seats.moment (m ∷ [])) old.seats mid.seats
-    → mid ≡ record old { seats = mid.seats; fetching = mid.fetching } → (Fetches old → Fetches mid)
+    → mid ≡ record old { seats = mid.seats; fetching = mid.fetching } → (Fetches old → Fetches mid) → KeepsContent old mid
     → Keeps mid new disk left → new.seats ≡ mid.seats → asked_of new.fetching ≡ asked_of mid.fetching → (stored : List ℕ) × Stores stored mid new
     → Takes seat (m ∷ []) old new disk left
-data_takes seat m old mid new disk left heard rest fetches keeps seats asked stored = record {
-  keeps = keeps_twice old mid new disk disk left (keeps_same old mid disk (ap (λ (p : Parts). p.holding) rest)
-      (subst (λ (k : Counts). KeepsCounts old.counts k) (sym (ap (λ (p : Parts). p.counts) rest)) (same_counts old.counts))) keeps;
+data_takes seat m old mid new disk left heard rest fetches content keeps seats asked stored = record {
+  keeps = data_keeps old mid new disk left rest content keeps;
   heard = record {
     before = heard.before;
     after = heard.after;
@@ -149,11 +158,6 @@ data_takes seat m old mid new disk left heard rest fetches keeps seats asked sto
   fetches = λ f. fetches_alike mid new seats asked (fetches f);
 }
 
-pub data_keeps : (seat : ℕ) (old mid new : Parts) (disk left : DiskState) → mid ≡ record old { seats = mid.seats; fetching = mid.fetching } → Keeps mid new disk left
-    → Keeps old new disk left
-data_keeps seat old mid new disk left rest keeps = keeps_twice old mid new disk disk left (keeps_same old mid disk (ap (λ (p : Parts). p.holding) rest)
-    (subst (λ (k : Counts). KeepsCounts old.counts k) (sym (ap (λ (p : Parts). p.counts) rest)) (same_counts old.counts))) keeps
-
 -- A message that is no DATA was heeded, heard and counted.
 pub other_takes : (seat : ℕ) (m : Message) (old mid new : Parts) (seats : SeatsState) (o : Option Note) (disk : DiskState)
     → mid ≡ record old { fetching = mid.fetching; pex = mid.pex; questions = mid.questions } → Heeds seat m old mid
@@ -162,7 +166,11 @@ pub other_takes : (seat : ℕ) (m : Message) (old mid new : Parts) (seats : Seat
 other_takes seat m old mid new seats o disk rest heeds heard is = record {
   keeps = keeps_same old new disk (ap (λ (p : Parts). p.holding) is ∙ ap (λ (p : Parts). p.holding) rest)
       (subst (λ (k : Counts). KeepsCounts old.counts k) (sym (ap (λ (p : Parts). p.counts) is ∙ ap (λ (p : Parts). after_some o p.counts) rest))
-      (some_counts o old.counts (hears_counted mid.seats.moment m o heard.before heard.after heard.changes.0)));
+      (some_counts o old.counts (hears_counted mid.seats.moment m o heard.before heard.after heard.changes.0)))
+      (record {
+        swarm = ap (λ (p : SeatsState). p.descriptor) seats_are;
+        size = ap (λ (p : Parts). size_of p.fetching) is ∙ heeds_size seat m old mid heeds;
+      });
   heard = record {
     before = heard.before;
     after = heard.after;
@@ -204,7 +212,7 @@ pub reads_closed : (seat : ℕ) (ms : List Message) (old mid new : Parts) (disk 
     → Reads seat ms old new disk left
 reads_closed seat ms old mid new disk left h c = record {
   keeps = keeps_twice old mid new disk left left h.takes.keeps (keeps_same mid new left c.holding
-      (subst (λ (k : Counts). KeepsCounts mid.counts k) (sym c.counts) (same_counts mid.counts)));
+      (subst (λ (k : Counts). KeepsCounts mid.counts k) (sym c.counts) (same_counts mid.counts)) c.content);
   read = record {
     before = h.takes.heard.before;
     after = c.after;
@@ -232,7 +240,7 @@ hears_counted_too seat ms is_closed old mid disk left h note is counts e = recor
   heard = h.heard;
   takes = record {
     keeps = keeps_twice old mid (record mid { counts = counts }) disk left left h.takes.keeps
-        (keeps_same mid (record mid { counts = counts }) left refl (subst (λ (k : Counts). KeepsCounts mid.counts k) (sym e) (message_counts note mid.counts is)));
+        (keeps_same mid (record mid { counts = counts }) left refl (subst (λ (k : Counts). KeepsCounts mid.counts k) (sym e) (message_counts note mid.counts is)) (record { swarm = refl; size = refl }));
     heard = h.takes.heard;
     stored = h.takes.stored;
     stores = record { puts = h.takes.stores.puts; live = h.takes.stores.live };
@@ -268,6 +276,10 @@ cleared_so seat old mid new shut m s c = record {
   is = is;
   holding = ap (λ (p : Parts). p.holding) c.rest ∙ ap (λ (p : Parts). p.holding) m;
   counts = ap (λ (p : Parts). p.counts) c.rest ∙ ap (λ (p : Parts). p.counts) m;
+  content = record {
+    swarm = ap (λ (p : SeatsState). p.descriptor) is;
+    size = released_size seat (own_in mid.seats.seats seat) mid.fetching new.fetching c.releases ∙ ap (λ (p : Parts). size_of p.fetching) m;
+  };
   fetches = closed_fetches seat old new c.forgets.before there is
       (λ i. released_asked seat (own_in mid.seats.seats seat) mid.fetching new.fetching c.releases i
       ∙ ap (λ (p : Parts). slice_index_or (asked_of p.fetching) i false && not (awaits (own_in mid.seats.seats seat) i)) m

@@ -100,7 +100,7 @@ announced_on d P Q (Sent moment receiver bytes ∷ past) f a = (λ i e. f moment
 
 -- ---- counts
 
-capped_more : (n : ℕ) → one_more (capped n) ≡ capped (n + 1)
+pub capped_more : (n : ℕ) → one_more (capped n) ≡ capped (n + 1)
 capped_more n = omega arith
 
 short_more : (is_short : Bool) (k n : ℕ) → k ≡ capped n → (if is_short then one_more k else k) ≡ capped (cond is_short (n + 1) n)

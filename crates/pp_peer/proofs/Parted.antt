@@ -1,5 +1,5 @@
 -- Closing handshakes, seat by seat.
-use Rattle.std.proofs.Common.{◌≡◌, ◌⊎◌, inl, inr, ℕ, suc, ◌+◌, ◌<◌, Bool, true, false, cond, Option, Some, None, List, [], ◌∷◌, ◌++◌, refl, sym, ◌∙◌, ap, subst, arith, append_assoc}
+use Rattle.std.proofs.Common.{◌≡◌, ◌⊎◌, inl, inr, ℕ, zero, suc, ◌+◌, ◌-◌, ◌<◌, length, Bool, true, false, cond, Option, Some, None, List, [], ◌∷◌, ◌++◌, refl, sym, ◌∙◌, ap, subst, arith, append_assoc}
 use Rattle.std.specs.List.{AllByRecursion}
 use Rattle.std.proofs.lemmas.Bool.{cases_eq, false≢true}
 use Rattle.std.proofs.lemmas.List.{length-append}
@@ -10,6 +10,7 @@ use Rattle.pp_terms.specs.format.Descriptor.{Descriptor}
 use Rattle.pp_terms.specs.format.Traffic.{Record, Sent, LinkState}
 use Rattle.pp_counts.specs.Counts.{after_note}
 use Rattle.pp_counts.specs.declared.counts.Counts.{Counts}
+use Rattle.pp_counts.specs.declared.note.Note.{Note}
 use Rattle.pp_counts.specs.declared.note.Note.TheVariants as notes
 use Rattle.pp_outside.specs.Outside.{address_of}
 use Rattle.pp_channels.specs.Seats.{Seats, channel_at}
@@ -26,7 +27,7 @@ use Rattle.pp_seats.specs.Greeting.{PartsNot, IsParted, IsUnproven}
 use Rattle.pp_seats.specs.Serving.{Refuses}
 use Rattle.pp_peer.specs.declared.parts.Parts.{Parts}
 use Rattle.pp_peer.specs.Flushing.{Scene}
-use Rattle.pp_peer.specs.Greeting.{IsClosed, Closes, fars_of, is_proven_at, proven_below, PartsAt, Parting}
+use Rattle.pp_peer.specs.Greeting.{IsClosed, IsFarewell, after_times, after_farewells, fars_of, is_proven_at, proven_below, PartsAt, Parting}
 use Rattle.pp_peer.proofs.Flushed.{all_both, flushes_none, flushes_twice}
 use Rattle.pp_peer.proofs.Greeted.{sent_flushes, refused_flushes}
 
@@ -38,6 +39,38 @@ scene p link disk = record { parts = p; link = link; disk = disk }
 abbrev bit : Bool → ℕ
 bit b = cond b 1 0
 
+-- ---- counts
+
+sent_first : (n : ℕ) (k : Counts) → after_note notes.Sent (after_times n notes.SendFault k) ≡ after_times n notes.SendFault (after_note notes.Sent k)
+sent_first zero k = refl
+sent_first (suc n) k = ap (after_note notes.SendFault) (sent_first n k)
+
+sent_before : (m n : ℕ) (k : Counts) → after_times m notes.Sent (after_times n notes.SendFault k) ≡ after_times n notes.SendFault (after_times m notes.Sent k)
+sent_before zero n k = refl
+sent_before (suc m) n k = ap (after_note notes.Sent) (sent_before m n k) ∙ sent_first n (after_times m notes.Sent k)
+
+times_add : (m n : ℕ) (note : Note) (k : Counts) → after_times m note (after_times n note k) ≡ after_times (m + n) note k
+times_add zero n note k = ap (λ (x : ℕ). after_times x note k) (omega arith)
+times_add (suc m) n note k = ap (after_note note) (times_add m n note k) ∙ ap (λ (x : ℕ). after_times x note k) (next_is (m + n) (suc m + n) (omega arith))
+  where
+    next_is : (a b : ℕ) → suc a ≡ b → suc a ≡ b
+    next_is a b e = e
+
+farewells_add : (sent refused more lost : ℕ) (k : Counts)
+    → after_farewells more lost (after_farewells sent refused k) ≡ after_farewells (more + sent) (lost + refused) k
+farewells_add sent refused more lost k =
+    ap (after_times lost notes.SendFault) (sent_before more refused (after_times sent notes.Sent k))
+    ∙ times_add lost refused notes.SendFault (after_times more notes.Sent (after_times sent notes.Sent k))
+    ∙ ap (after_times (lost + refused) notes.SendFault) (times_add more sent notes.Sent k)
+
+unproven_is : (o : Option Far) → ((far : Far) → o ≡ Some far → far.proven ≡ true → ⊥) → is_proven_at o ≡ false
+unproven_is None none = refl
+unproven_is (Some far) none = shows far.proven refl
+  where
+    shows : (b : Bool) → far.proven ≡ b → far.proven ≡ false
+    shows true e = absurd (none far refl e)
+    shows false e = e
+
 pub parts_none : (seat : ℕ) (s : Scene) → ((far : Far) → fars_of s.parts seat ≡ Some far → far.proven ≡ true → ⊥) → PartsAt seat s s
 unfolding flushes_none
 parts_none seat s none = record {
@@ -45,6 +78,7 @@ parts_none seat s none = record {
   closes = λ far is proven. absurd (none far is proven);
   others = tt;
   once = omega arith;
+  counted = ap (λ (b : Bool). after_farewells 0 (bit b - 0) s.parts.counts) (sym (unproven_is (fars_of s.parts seat) none));
   fars = λ n. refl;
   rest = refl;
 }
@@ -101,6 +135,8 @@ parts_sent seat old new link later disk p rest =
           let shown : cond (is_proven_at (fars_of old seat)) 1 0 ≡ 1 =
           ap (λ (o : Option Far). bit (is_proven_at o)) p.is_far ∙ ap bit p.proven in
           omega (arith, shown);
+      counted = ap (λ (q : Parts). q.counts) rest ∙ ap (λ (n : ℕ). after_farewells 1 (n - 1) old.counts)
+          (sym (ap (λ (o : Option Far). bit (is_proven_at o)) p.is_far ∙ ap bit p.proven));
       fars = fars;
       rest = rest ∙ ap (λ (k : Counts). record old { seats = new.seats; counts = k }) (sym (ap (λ (q : Parts). q.counts) rest));
     }
@@ -136,6 +172,8 @@ parts_refused seat far old new link later disk is proven p rest =
       closes = λ other is_other is_proven. inr refuses.risen;
       others = tt;
       once = omega arith;
+      counted = ap (λ (q : Parts). q.counts) rest ∙ ap (λ (n : ℕ). after_farewells 0 (n - 0) old.counts)
+          (sym (ap (λ (o : Option Far). bit (is_proven_at o)) is ∙ ap bit proven));
       fars = λ n. ap (λ (s : SeatsState). far_of (channel_at s.table n)) p.same;
       rest = rest ∙ ap (λ (k : Counts). record old { seats = new.seats; counts = k }) (sym (ap (λ (q : Parts). q.counts) rest));
     }
@@ -152,12 +190,13 @@ parts_so seat false far old left counts link later disk is proven p counted =
 -- ---- all seats
 
 pub parting_none : (s : Scene) → Parting 0 s s
-unfolding flushes_none
+unfolding flushes_none proven_below
 parting_none s = record {
   flushes = flushes_none s;
   each = λ seat far below. absurd (omega (arith, below));
   others = tt;
   once = omega arith;
+  counted = refl;
   fars = λ n. refl;
   rest = refl;
 }
@@ -178,8 +217,8 @@ unfolding flushes_twice
 parting_more below seat a b c here one two = record {
   flushes = flushes_twice 0 0 a b c one.flushes two.flushes;
   each = λ n far lt is proven. of n far is proven (cases_eq n seat) lt;
-  others = all_both (Closes a.parts.seats.descriptor (moment_of a.disk.history) (fars_of a.parts)) two.flushes.added one.flushes.added
-      (all_by (Closes b.parts.seats.descriptor (moment_of b.disk.history) (fars_of b.parts)) (Closes a.parts.seats.descriptor (moment_of a.disk.history) (fars_of a.parts))
+  others = all_both (IsFarewell a.parts.seats.descriptor (moment_of a.disk.history) (fars_of a.parts)) two.flushes.added one.flushes.added
+      (all_by (IsFarewell b.parts.seats.descriptor (moment_of b.disk.history) (fars_of b.parts)) (IsFarewell a.parts.seats.descriptor (moment_of a.disk.history) (fars_of a.parts))
       two.flushes.added before two.others) one.others;
   once =
       let sum = length-append two.flushes.added one.flushes.added in
@@ -189,18 +228,35 @@ parting_more below seat a b c here one two = record {
       let same : bit (is_proven_at (fars_of b.parts seat)) ≡ bit (is_proven_at (fars_of a.parts below)) =
       ap (λ (o : Option Far). bit (is_proven_at o)) (one.fars seat ∙ ap (fars_of a.parts) here) in
       omega (arith, sum, first, then, more, same);
+  counted = two.counted ∙ ap (after_farewells (length two.flushes.added) (bit (is_proven_at (fars_of b.parts seat)) - length two.flushes.added)) one.counted
+      ∙ farewells_add (length one.flushes.added) (proven_below (fars_of a.parts) below - length one.flushes.added) (length two.flushes.added)
+      (bit (is_proven_at (fars_of b.parts seat)) - length two.flushes.added) a.parts.counts
+      ∙ ap (λ (n : ℕ). after_farewells n (bit (is_proven_at (fars_of b.parts seat)) - length two.flushes.added + (proven_below (fars_of a.parts) below - length one.flushes.added)) a.parts.counts)
+      (sym (length-append two.flushes.added one.flushes.added))
+      ∙ ap (λ (n : ℕ). after_farewells (length (two.flushes.added ++ one.flushes.added)) n a.parts.counts) lost_are;
   fars = λ n. two.fars n ∙ one.fars n;
   rest = two.rest ∙ ap (λ (p : Parts). record p { seats = c.parts.seats; counts = c.parts.counts }) one.rest;
 }
   where
+    lost_are : bit (is_proven_at (fars_of b.parts seat)) - length two.flushes.added + (proven_below (fars_of a.parts) below - length one.flushes.added)
+        ≡ proven_below (fars_of a.parts) (below + 1) - length (two.flushes.added ++ one.flushes.added)
+    lost_are =
+        let sum = length-append two.flushes.added one.flushes.added in
+        let first = one.once in
+        let then = two.once in
+        let more = one_more_proven (fars_of a.parts) below in
+        let same : bit (is_proven_at (fars_of b.parts seat)) ≡ bit (is_proven_at (fars_of a.parts below)) =
+        ap (λ (o : Option Far). bit (is_proven_at o)) (one.fars seat ∙ ap (fars_of a.parts) here) in
+        omega (arith, sum, first, then, more, same)
+
     moments : moment_of b.disk.history ≡ moment_of a.disk.history
     moments = ap (λ (h : History). moment_of h) one.flushes.reads.same
 
-    before : (r : Record) → Closes b.parts.seats.descriptor (moment_of b.disk.history) (fars_of b.parts) r
-        → Closes a.parts.seats.descriptor (moment_of a.disk.history) (fars_of a.parts) r
+    before : (r : Record) → IsFarewell b.parts.seats.descriptor (moment_of b.disk.history) (fars_of b.parts) r
+        → IsFarewell a.parts.seats.descriptor (moment_of a.disk.history) (fars_of a.parts) r
     before r k =
-        let swarmed = subst (λ (d : Descriptor). Closes d (moment_of b.disk.history) (fars_of b.parts) r) one.flushes.swarm k in
-        let timed = subst (λ (m : ℕ). Closes a.parts.seats.descriptor m (fars_of b.parts) r) moments swarmed in
+        let swarmed = subst (λ (d : Descriptor). IsFarewell d (moment_of b.disk.history) (fars_of b.parts) r) one.flushes.swarm k in
+        let timed = subst (λ (m : ℕ). IsFarewell a.parts.seats.descriptor m (fars_of b.parts) r) moments swarmed in
         record {
           seat = timed.seat;
           far = timed.far;

@@ -30,7 +30,8 @@ use Rattle.pp_seats.specs.Serving.{Serving, HasNothing}
 use Rattle.pp_seats.proofs.Lists.{get_set_there}
 use Rattle.pp_peer.specs.declared.parts.Parts.{Parts}
 use Rattle.pp_peer.specs.Flushing.{Scene, Flushes}
-use Rattle.pp_peer.specs.Serving.{counted, with_note, sent_of, given_up, most_sent, OnlySeats, ServesSeat, GoesTo, ChangesOneSeat, HasFull, ServesBelow}
+use Rattle.pp_peer.specs.Taking.{after_some}
+use Rattle.pp_peer.specs.Serving.{counted, sent_of, given_up, most_sent, OnlySeats, ServesSeat, GoesTo, ChangesOneSeat, HasFull, ServesBelow}
 use Rattle.pp_peer.proofs.Flushed.{flushes_none, none_added, flushes_twice, twice_added, all_both}
 use Rattle.pp_peer.proofs.Chunks.{Rests, flushes_served, served_many, served_to, one_served}
 
@@ -293,7 +294,7 @@ goes_full seat sent refused a b g full = record { flushes = g.flushes; ends = in
 pub only_twice : (a b c : Parts) → OnlySeats a b → OnlySeats b c → OnlySeats a c
 only_twice a b c one two = two ∙ ap (λ (p : Parts). record p { seats = c.seats; counts = c.counts }) one
 
-rests_of : (served : Served) (old new : Parts) → OnlySeats old new → new.counts ≡ with_note (counted served) old.counts → Rests served old new
+rests_of : (served : Served) (old new : Parts) → OnlySeats old new → new.counts ≡ after_some (counted served) old.counts → Rests served old new
 rests_of served old new only counts = record {
   holding = ap (λ (p : Parts). p.holding) only;
   fetching = ap (λ (p : Parts). p.fetching) only;
@@ -302,7 +303,7 @@ rests_of served old new only counts = record {
 
 pub goes_next : (seat sent refused more lost : ℕ) (served : Served) (a b c : Scene) → AreTied a.parts.holding → Goes seat sent refused a b × OnlySeats a.parts b.parts → sent < most_sent
     → Serving seat b.parts.holding.store (entry b.parts.holding.book) served b.parts.seats c.parts.seats b.link c.link b.disk c.disk
-    → c.parts.counts ≡ with_note (counted served) b.parts.counts → OnlySeats b.parts c.parts → IsMore served → sent + sent_of served ≡ more → refused + given_up served ≡ lost
+    → c.parts.counts ≡ after_some (counted served) b.parts.counts → OnlySeats b.parts c.parts → IsMore served → sent + sent_of served ≡ more → refused + given_up served ≡ lost
     → Goes seat more lost a c × OnlySeats a.parts c.parts
 goes_next seat sent refused more lost served a b c tied g room s counts only is_more sum total = (
   subst (λ (m : ℕ). Goes seat m lost a c) sum (subst (λ (n : ℕ). Goes seat (sent + sent_of served) n a c) total
@@ -319,7 +320,7 @@ same_scene a b p l d =
 
 pub goes_end : (seat sent refused : ℕ) (served : Served) (a b c : Scene) → Goes seat sent refused a b → served ≡ outcomes.Done
     → Serving seat b.parts.holding.store (entry b.parts.holding.book) served b.parts.seats c.parts.seats b.link c.link b.disk c.disk
-    → c.parts.counts ≡ with_note (counted served) b.parts.counts → OnlySeats b.parts c.parts → ServesSeat seat refused a c
+    → c.parts.counts ≡ after_some (counted served) b.parts.counts → OnlySeats b.parts c.parts → ServesSeat seat refused a c
 goes_end seat sent refused outcomes.Done a b c g e s counts only =
     let parts : c.parts ≡ b.parts = only ∙ ap (λ (p : SeatsState). record b.parts { seats = p; counts = c.parts.counts }) s.0
     ∙ ap (λ (k : Counts). record b.parts { counts = k }) counts in

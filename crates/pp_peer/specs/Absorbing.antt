@@ -17,6 +17,7 @@ use Rattle.pp_seats.specs.Standing.{Setting}
 use Rattle.pp_seats.specs.Standing as seats
 use Rattle.pp_seats.specs.Hearing.{IsRead, Ready}
 use Rattle.pp_peer.specs.declared.parts.Parts.{Parts}
+use Rattle.pp_peer.specs.Standing.{KeepsContent}
 use Rattle.pp_peer.specs.Taking.{read_at, KeepsCounts}
 
 -- what is counted of a datagram before its messages are heard
@@ -51,11 +52,12 @@ with_event (Datagram sender len at) bytes k =
     with_short bytes (record k { turns = one_more k.turns; datagrams = one_more k.datagrams })
 with_event (Quiet at) bytes k = record k { turns = one_more k.turns }
 
--- Whatever was answered: nothing that was held is lost, the book keeps its entries, and no counts but these were raised, or those
--- of arrivals and messages.
+-- Whatever was answered: nothing that was held is lost, the book keeps its entries, no counts but these were raised, or those of
+-- arrivals and messages, and the peer's content stays.
 pub record Advanced (counts : Counts) (old new : Parts) (disk left : DiskState) : Type 0 where
   pub advances : Advances (stock_of old.holding disk) (stock_of new.holding left)
   pub counts_are : KeepsCounts counts new.counts
+  pub content : KeepsContent old new
 
 -- What waits for a commit is what waited and what was stored at the moment.
 pub record Stocks (old new : Parts) : Type 0 where
@@ -75,7 +77,7 @@ abbrev pub Readies : Record → Parts → Parts → Type 0
 Readies r old new = (x : Setting) (most : ℕ) (past : List Record) → seats.StandsFor x most old.seats past
     → Ready x most new.seats r past
 
--- They stand for it.
+-- The seats stand for what came too.
 abbrev pub KeepsSeats : Record → Parts → Parts → Type 0
 KeepsSeats r old new = (x : Setting) (most : ℕ) (past : List Record) → seats.StandsFor x most old.seats past
     → seats.StandsFor x most new.seats (r ∷ past)

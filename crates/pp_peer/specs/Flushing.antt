@@ -1,9 +1,13 @@
 -- What a peer sends, step by step.
-use Rattle.std.specs.Prelude.{◌≡◌, ℕ, ◌+◌, ◌≤◌, false, List, ◌++◌}
+use Rattle.std.specs.Prelude.{◌≡◌, ℕ, ◌+◌, ◌≤◌, None, List, ◌++◌}
 use Rattle.std.specs.List.{AllByRecursion}
 use Rattle.pp_terms.specs.disk.Disk.{DiskState, moment_of}
-use Rattle.pp_terms.specs.format.Traffic.{Record, LinkState, GainsRecords}
-use Rattle.pp_traffic.specs.Past.{is_event}
+use Rattle.pp_terms.specs.format.Descriptor.{Descriptor}
+use Rattle.pp_terms.specs.format.Messages.{Message}
+use Rattle.pp_terms.specs.format.Traffic.{Address, Record, Sent, LinkState, GainsRecords}
+use Rattle.pp_traffic.specs.Committed.{RequestsNone}
+use Rattle.pp_counts.specs.declared.counts.Counts.{Counts}
+use Rattle.pp_draft.specs.Datagrams.{IsDatagram}
 use Rattle.pp_scan.specs.Look.{KeepsAll}
 use Rattle.pp_peer.specs.declared.parts.Parts.{Parts}
 use Rattle.pp_peer.specs.Standing.{Beginning, StandsFor}
@@ -14,15 +18,36 @@ pub record Scene : Type 0 where
   pub link : LinkState
   pub disk : DiskState
 
--- The link gained these records, and the peer, which stood for what the link carried, stands for it with them, but for so much
--- that was refused or couldn't be read. What it holds is as it was, and of the disk nothing was done but readings.
+-- A datagram of a channel's number and messages, of at most 16,384 bytes, was sent at the disk's moment.
+pub record IsOurs (d : Descriptor) (moment : ℕ) (r : Record) : Type 0 where
+  pub receiver : Address
+  pub bytes : List ℕ
+  pub is : r ≡ Sent moment receiver bytes
+  pub channel : ℕ
+  pub messages : List Message
+  pub written : IsDatagram d channel messages bytes
+
+-- A peer that doesn't fetch goes on so, and asked for nothing.
+pub record Seeds (old new : Parts) (added : List Record) : Type 0 where
+  pub fetching : new.fetching ≡ None
+  pub asks : RequestsNone old.seats.descriptor added
+
+-- The counts of turns and of waits that were refused stand as they were.
+pub record KeepsWaits (old new : Counts) : Type 0 where
+  pub turns : new.turns ≡ old.turns
+  pub receive_faults : new.receive_faults ≡ old.receive_faults
+
+-- The link gained these records, and the peer, which stood for what the link carried, stands for it with them, but for so much that
+-- was refused or couldn't be read. What it holds is as it was, and of the disk nothing was done but readings.
 pub record Flushes (refused : ℕ) (old new : Scene) : Type 0 where
   pub added : List Record
   pub gained : GainsRecords old.link.traffic added new.link.traffic
   pub nexts : new.link.nexts ≡ old.link.nexts
   pub bound : new.link.bound ≡ old.link.bound
   pub later : old.link.faults ≤ new.link.faults
-  pub all_sent : AllByRecursion (λ r. is_event r ≡ false) added
+  pub ours : AllByRecursion (IsOurs old.parts.seats.descriptor (moment_of old.disk.history)) added
+  pub seeds : old.parts.fetching ≡ None → Seeds old.parts new.parts added
+  pub waits : KeepsWaits old.parts.counts new.parts.counts
   pub reads : KeepsAll old.disk new.disk
   pub holding : new.parts.holding ≡ old.parts.holding
   pub swarm : new.parts.seats.descriptor ≡ old.parts.seats.descriptor

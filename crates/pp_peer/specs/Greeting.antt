@@ -1,5 +1,5 @@
 -- Handshakes, dials, and channels that end.
-use Rattle.std.specs.Prelude.{◌≡◌, ◌≢◌, ◌⊎◌, ℕ, zero, suc, ◌+◌, ◌^◌, ◌<◌, ◌≤◌, ◌==◌, Bool, true, false, cond, not, ◌&&◌, Option, Some, None, position, List, [], ◌∷◌, ◌++◌, length, slice_get, slice_set, slice_index_or}
+use Rattle.std.specs.Prelude.{◌≡◌, ◌≢◌, ◌⊎◌, ℕ, zero, suc, ◌+◌, ◌-◌, ◌^◌, ◌<◌, ◌≤◌, ◌==◌, Bool, true, false, cond, not, ◌&&◌, Option, Some, None, position, List, [], ◌∷◌, ◌++◌, length, slice_get, slice_set, slice_index_or}
 use Rattle.std.specs.List.{AllByRecursion}
 use Rattle.pp_terms.specs.Count.{HasRisen}
 use Rattle.pp_terms.specs.disk.Disk.{moment_of}
@@ -7,6 +7,8 @@ use Rattle.pp_terms.specs.format.Descriptor.{Descriptor}
 use Rattle.pp_terms.specs.format.Messages.{Handshake}
 use Rattle.pp_terms.specs.format.Traffic.{Record, Sent, LinkState}
 use Rattle.pp_counts.specs.Counts.{after_note}
+use Rattle.pp_counts.specs.declared.counts.Counts.{Counts}
+use Rattle.pp_counts.specs.declared.note.Note.{Note}
 use Rattle.pp_counts.specs.declared.note.Note.TheVariants as notes
 use Rattle.pp_outside.specs.Outside.{address_of}
 use Rattle.pp_outside.specs.declared.link.Address.{Address}
@@ -41,13 +43,13 @@ pub record GreetsDue (seat moment : ℕ) (old new : Parts) (link later : LinkSta
   pub greets : Greets seat moment old.seats new.seats link later
   pub rest : new ≡ record old { seats = new.seats; counts = after_note notes.Sent old.counts }
 
--- It was due, and the link refused it.
+-- A handshake was due, and the link refused it.
 pub record IsRefused (seat : ℕ) (old new : Parts) (link later : LinkState) : Type 0 where
   pub due : is_due_at old.seats.moment (channel_at old.seats.table seat) ≡ true
   pub refuses : Refuses link later
   pub rest : new ≡ record old { counts = after_note notes.SendFault old.counts }
 
--- It wasn't due.
+-- No handshake was due.
 pub record IsNotDue (seat : ℕ) (old new : Parts) (link later : LinkState) : Type 0 where
   pub idle : is_due_at old.seats.moment (channel_at old.seats.table seat) ≡ false
   pub same : new ≡ old
@@ -62,7 +64,7 @@ pub record IsDialled (to : Address) (moment : ℕ) (sent : Bool) (old new : Part
   pub dials : Dials to moment sent old.seats new.seats link later
   pub rest : new ≡ record old { seats = new.seats; counts = after_note (cond sent notes.Sent notes.SendFault) old.counts }
 
--- It wasn't dialled: a channel has the address, or all seats are in use.
+-- An address wasn't dialled: a channel has it, or all seats are in use.
 pub record IsNotDialled (to : Address) (old new : Parts) (link later : LinkState) : Type 0 where
   pub none : DialsNone to old.seats new.seats link later
   pub same : new ≡ old
@@ -78,7 +80,7 @@ pub record IsClosed (d : Descriptor) (moment : ℕ) (far : Far) (added : List Re
   pub among : added ≡ newer ++ Sent moment (address_of far.address) bytes ∷ older
 
 -- A record is a closing handshake to the peer of some proven channel.
-pub record Closes (d : Descriptor) (moment : ℕ) (fars : ℕ → Option Far) (r : Record) : Type 0 where
+pub record IsFarewell (d : Descriptor) (moment : ℕ) (fars : ℕ → Option Far) (r : Record) : Type 0 where
   pub seat : ℕ
   pub far : Far
   pub is_far : fars seat ≡ Some far
@@ -100,26 +102,40 @@ unfoldable pub proven_below : (fars : ℕ → Option Far) → ℕ → ℕ
 proven_below fars zero = 0
 proven_below fars (suc n) = cond (is_proven_at (fars n)) 1 0 + proven_below fars n
 
--- On a seat's channel one was sent where it is proven, unless the link refused it, and nothing else was.
+-- the counts once a note was taken so many times
+abbrev pub after_times : ℕ → Note → Counts → Counts
+after_times zero note k = k
+after_times (suc n) note k = after_note note (after_times n note k)
+
+-- the counts once so many farewells were sent, and so many refused
+abbrev pub after_farewells : (sent refused : ℕ) → Counts → Counts
+after_farewells sent refused k = after_times refused notes.SendFault (after_times sent notes.Sent k)
+
+-- On a seat's channel one was sent where it is proven, unless the link refused it, and nothing else was. It is counted as sent or as
+-- refused.
 pub record PartsAt (seat : ℕ) (old new : Scene) : Type 0 where
   pub flushes : Flushes 0 old new
   pub closes : (far : Far) → fars_of old.parts seat ≡ Some far → far.proven ≡ true
       → IsClosed old.parts.seats.descriptor (moment_of old.disk.history) far flushes.added
       ⊎ HasRisen old.link.faults new.link.faults
-  pub others : AllByRecursion (Closes old.parts.seats.descriptor (moment_of old.disk.history) (fars_of old.parts)) flushes.added
+  pub others : AllByRecursion (IsFarewell old.parts.seats.descriptor (moment_of old.disk.history) (fars_of old.parts)) flushes.added
   pub once : length flushes.added ≤ cond (is_proven_at (fars_of old.parts seat)) 1 0
+  pub counted : new.parts.counts ≡ after_farewells (length flushes.added)
+      (cond (is_proven_at (fars_of old.parts seat)) 1 0 - length flushes.added) old.parts.counts
   pub fars : (other : ℕ) → fars_of new.parts other ≡ fars_of old.parts other
   pub rest : new.parts ≡ record old.parts { seats = new.parts.seats; counts = new.parts.counts }
 
 -- On each proven channel of the seats below a number a closing handshake was sent, once, unless the link refused it, and nothing
--- else was.
+-- else was. Each is counted as sent or as refused.
 pub record Parting (below : ℕ) (old new : Scene) : Type 0 where
   pub flushes : Flushes 0 old new
   pub each : (seat : ℕ) (far : Far) → seat < below → fars_of old.parts seat ≡ Some far → far.proven ≡ true
       → IsClosed old.parts.seats.descriptor (moment_of old.disk.history) far flushes.added
       ⊎ HasRisen old.link.faults new.link.faults
-  pub others : AllByRecursion (Closes old.parts.seats.descriptor (moment_of old.disk.history) (fars_of old.parts)) flushes.added
+  pub others : AllByRecursion (IsFarewell old.parts.seats.descriptor (moment_of old.disk.history) (fars_of old.parts)) flushes.added
   pub once : length flushes.added ≤ proven_below (fars_of old.parts) below
+  pub counted : new.parts.counts ≡ after_farewells (length flushes.added)
+      (proven_below (fars_of old.parts) below - length flushes.added) old.parts.counts
   pub fars : (seat : ℕ) → fars_of new.parts seat ≡ fars_of old.parts seat
   pub rest : new.parts ≡ record old.parts { seats = new.parts.seats; counts = new.parts.counts }
 
@@ -225,7 +241,7 @@ pub record GivesUp (old new : Parts) : Type 0 where
   pub offers : (seat i : ℕ) → offers_of new.fetching seat i ≡ offers_of old.fetching seat i
   pub stands : (b : Beginning) (most : ℕ) (past : List Record) → StandsFor b most old past → StandsFor b most new past
 
--- They were those of one seat.
+-- What was given up were requests of one seat.
 pub record GivesUpAt (seat : ℕ) (old new : Parts) : Type 0 where
   pub gives_up : GivesUp old new
   pub others : (other : ℕ) → other ≢ seat → slice_get new.seats.seats other ≡ slice_get old.seats.seats other

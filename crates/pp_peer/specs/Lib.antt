@@ -4,3 +4,10 @@ pub mod Absorbing
 pub mod Flushing
 pub mod Greeting
 pub mod Serving
+pub mod Slotting
+pub mod Speaking
+pub mod Messages
+pub mod Events
+pub mod Dialling
+pub mod Supporting
+pub mod Sending

@@ -4,8 +4,6 @@ use Rattle.std.specs.List.{AllByRecursion}
 use Rattle.pp_terms.specs.format.Traffic.{Record, Sent}
 use Rattle.pp_terms.specs.format.Descriptor.{Descriptor}
 use Rattle.pp_traffic.specs.Past.{read}
-use Rattle.pp_counts.specs.Counts.{after_note}
-use Rattle.pp_counts.specs.declared.counts.Counts.{Counts}
 use Rattle.pp_counts.specs.declared.note.Note.{Note}
 use Rattle.pp_counts.specs.declared.note.Note.TheVariants as notes
 use Rattle.pp_outside.specs.Outside.{address_of}
@@ -29,11 +27,6 @@ counted outcomes.Refused = Some notes.SendFault
 counted (outcomes.Unread unread.Absent) = Some notes.Unheld
 counted (outcomes.Unread unread.Disk) = Some notes.ReadFault
 counted (outcomes.Unread unread.Damaged) = Some notes.Damaged
-
--- the counts with a note, if any
-abbrev pub with_note : Option Note → Counts → Counts
-with_note None k = k
-with_note (Some note) k = after_note note k
 
 -- how many chunks were sent, and how many given up
 abbrev pub sent_of : Served → ℕ
@@ -89,7 +82,7 @@ pub record HasFull (seat : ℕ) (p : SeatsState) (added : List Record) : Type 0 
   pub many : length row ≡ most_sent
   pub to : AllByRecursion (GoesTo p.descriptor far) row
 
--- So it is with each seat below a number.
+-- Each seat below a number has nothing more to be sent, or was sent as much as goes in one turn.
 pub record ServesBelow (seats refused : ℕ) (old new : Scene) : Type 0 where
   pub flushes : Flushes refused old new
   pub ends : (seat : ℕ) → seat < seats → HasNothing new.parts.seats seat ⊎ HasFull seat old.parts.seats flushes.added

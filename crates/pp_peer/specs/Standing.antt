@@ -1,8 +1,8 @@
 -- What a peer keeps stands for what its link carried.
-use Rattle.std.specs.Prelude.{◌≡◌, ℕ, ◌≤◌, Bool, true, Option, Some, None, List, [], slice_get}
+use Rattle.std.specs.Prelude.{◌≡◌, ℕ, ◌≤◌, Bool, true, Option, Some, None, List, [], length, slice_get}
 use Rattle.pp_terms.specs.Count.{capped}
 use Rattle.pp_terms.specs.format.Traffic.{Record}
-use Rattle.pp_terms.specs.format.Descriptor.{Descriptor}
+use Rattle.pp_terms.specs.format.Descriptor.{Descriptor, chunks_of}
 use Rattle.pp_tree.specs.Book.{entry}
 use Rattle.pp_traffic.specs.Meter.{lets_send}
 use Rattle.pp_traffic.specs.Serving.{ServesAll}
@@ -31,6 +31,28 @@ pub record Beginning : Type 0 where
 -- what is settled around its seats, with of which chunks the other peers are to know
 abbrev pub setting : Beginning → (known_of : ℕ → ℕ → Bool) → Setting
 setting b known_of = record { d = b.d; is_found = b.is_found; known_of = known_of }
+
+-- ---- of what content it is
+
+-- All parts are of one content.
+pub record IsWhole (p : Parts) : Type 0 where
+  pub swarm : p.seats.descriptor ≡ p.holding.store.descriptor
+  pub content : (f : FetchState) → p.fetching ≡ Some f → length f.want.had ≡ chunks_of p.holding.store.descriptor
+
+-- how many chunks the content has of a peer that fetches
+abbrev pub size_of : Option FetchState → Option ℕ
+size_of None = None
+size_of (Some f) = Some (length f.want.had)
+
+-- The swarm of the channels and the size of what is fetched stay.
+pub record KeepsContent (old new : Parts) : Type 0 where
+  pub swarm : new.seats.descriptor ≡ old.seats.descriptor
+  pub size : size_of new.fetching ≡ size_of old.fetching
+
+-- Where the content stays, also that of the store, all parts stay of one content.
+abbrev pub WholeStays : Type 0
+WholeStays = (old new : Parts) → KeepsContent old new → new.holding.store.descriptor ≡ old.holding.store.descriptor
+    → IsWhole old → IsWhole new
 
 -- ---- own requests
 
@@ -72,7 +94,8 @@ pub record Ledger (b : Beginning) (p : Parts) (past : List Record) : Type 0 wher
 
 -- ---- the whole
 
--- So it is, and the seats stand for what the link carried, but for so much that was refused.
+-- A peer stands for what the link carried: its ledger does, its seats do but for so much that was refused, it holds what was
+-- announced, and what it fetches is whole.
 pub record StandsFor (b : Beginning) (most : ℕ) (p : Parts) (past : List Record) : Type 0 where
   pub ledger : Ledger b p past
   pub known_of : ℕ → ℕ → Bool

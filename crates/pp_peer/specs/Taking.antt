@@ -1,8 +1,8 @@
 -- What the messages that come on a channel do to a peer.
-use Rattle.std.specs.Prelude.{◌≡◌, ℕ, ◌≤◌, ◌==◌, Bool, true, false, not, ◌&&◌, Option, Some, None, slice_index_or, List, ◌++◌, length, drop, slice_get, slice_set}
+use Rattle.std.specs.Prelude.{◌≡◌, ℕ, ◌≤◌, ◌==◌, Bool, true, false, Option, Some, None, List, ◌++◌, length, drop, slice_get, slice_set}
 use Rattle.pp_terms.specs.disk.Disk.{DiskState}
 use Rattle.pp_terms.specs.format.Descriptor.{Descriptor}
-use Rattle.pp_terms.specs.format.Messages.{Message, Handshake, Choke, messages_at}
+use Rattle.pp_terms.specs.format.Messages.{Message, Handshake, messages_at}
 use Rattle.pp_traffic.specs.Life.{closes}
 use Rattle.pp_promises.specs.Batches.{after_puts}
 use Rattle.pp_counts.specs.declared.counts.Counts.{Counts}
@@ -17,8 +17,7 @@ use Rattle.pp_seat.specs.Seats.{SeatState}
 use Rattle.pp_seats.specs.Hearing.{ChangesSeat, HearsAll, IsRead}
 use Rattle.pp_peer.specs.declared.parts.Parts.{Parts}
 use Rattle.pp_counts.specs.Counts.{after_note}
-use Rattle.pp_fetching.specs.Owners.{awaits}
-use Rattle.pp_peer.specs.Standing.{asked_of, own_in, Fetches}
+use Rattle.pp_peer.specs.Standing.{KeepsContent, Fetches}
 
 -- what is counted of bytes that came as a chunk
 abbrev pub note_of : Put → Note
@@ -32,12 +31,6 @@ note_of (Length found want) = notes.Wrong
 abbrev pub after_some : Option Note → Counts → Counts
 after_some None k = k
 after_some (Some note) k = after_note note k
-
--- What a message means for what is asked for: a CHOKE ends that on its channel.
-abbrev pub Heeds : ℕ → Message → Parts → Parts → Type 0
-Heeds seat Choke old new = (i : ℕ) → slice_index_or (asked_of new.fetching) i false
-    ≡ (slice_index_or (asked_of old.fetching) i false && not (awaits (own_in old.seats.seats seat) i))
-Heeds seat _ old new = asked_of new.fetching ≡ asked_of old.fetching
 
 -- the message closes the channel on which it comes
 abbrev pub is_closing : Message → Bool
@@ -60,10 +53,11 @@ pub record KeepsCounts (old new : Counts) : Type 0 where
   pub send_faults : new.send_faults ≡ old.send_faults
   pub receive_faults : new.receive_faults ≡ old.receive_faults
 
--- Whatever was answered: nothing that was held is lost, the book keeps its entries, and the counts are kept.
+-- Whatever was answered: nothing that was held is lost, the book keeps its entries, and the counts and the content are kept.
 pub record Keeps (old new : Parts) (disk left : DiskState) : Type 0 where
   pub advances : Advances (stock_of old.holding disk) (stock_of new.holding left)
   pub counts : KeepsCounts old.counts new.counts
+  pub content : KeepsContent old new
 
 -- These chunks were stored.
 pub record Stores (stored : List ℕ) (old new : Parts) : Type 0 where
@@ -85,7 +79,7 @@ pub record Hears (seat : ℕ) (rest : List Message) (is_closed : Bool) (old new 
   pub closing : is_closed ≡ closes rest
   pub whole : is_closed ≡ false → heard ≡ rest
 
--- They were heard up to a byte.
+-- The messages of a datagram were heard up to a byte.
 pub record HearsTo (seat : ℕ) (d : Descriptor) (bytes : List ℕ) (start at : ℕ) (old new : Parts)
     (disk left : DiskState) : Type 0 where
   pub within : at ≤ length bytes
@@ -102,6 +96,7 @@ pub record Closes (seat : ℕ) (old new : Parts) : Type 0 where
   pub is : new.seats ≡ record old.seats { table = closed old.seats.table seat; seats = slice_set old.seats.seats seat after }
   pub holding : new.holding ≡ old.holding
   pub counts : new.counts ≡ old.counts
+  pub content : KeepsContent old new
   pub fetches : Fetches old → Fetches new
 
 -- The messages of a datagram were heard on a seat, unless they close its channel; then the channel was dropped.

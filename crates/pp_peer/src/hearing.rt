@@ -1,13 +1,16 @@
 //! The messages that come on a channel.
 
-ghost use Rattle.std.specs.Prelude.{◌≡◌, ◌<◌, ◌≤◌, ◌∷◌, ◌&&◌, [], true, false, not, slice_index_or, length, List, ℕ, option_map, IfOk, OnOk};
+ghost use Rattle.std.specs.Prelude.{◌≡◌, ◌<◌, ◌≤◌, ◌∷◌, ◌&&◌, [], true, false, not, slice_get, slice_index_or, length, List, ℕ, option_map, IfOk, OnOk, OnErr};
 ghost use Rattle.pp_fetching.specs.Fetching.{without_request};
 ghost use Rattle.pp_terms.specs.Count.{HasCause};
 ghost use Rattle.pp_terms.specs.format.Messages.{Data};
-ghost use Rattle.pp_wire.specs.Views.{message_of};
+ghost use Rattle.pp_wire.specs.Views.{message_of, span_of};
 ghost use Rattle.pp_channels.specs.Seats.{IsUsedSeat};
 ghost use Rattle.pp_desk.specs.Hearing.{IsNoData};
-ghost use Rattle.pp_peer.specs.Taking.{is_closing, note_of, after_some, Heeds, Keeps, Stores, Takes, Hears, Closes, Reads, read_at};
+ghost use Rattle.pp_peer.specs.Taking.{is_closing, note_of, after_some, Keeps, Stores, Takes, Hears, Closes, Reads, read_at};
+ghost use Rattle.pp_peer.specs.Messages.{is_proven_in, is_questioned, claims_in, with_address, with_chunk, with_question, got_of};
+ghost use Rattle.pp_peer.specs.Messages.{Does, EndsWait, GivesBackOf, HearsAllOf, Heeds, Offers, Puts, ReadsAll, Shuts, TakesData, TakesOther};
+ghost use Rattle.pp_seat.specs.Lines.{inside};
 ghost use Rattle.pp_counts.specs.Counts.{after_note};
 ghost use Rattle.pp_terms.specs.disk.Disk.{DiskState};
 ghost use Rattle.pp_seats.specs.Hearing.{ChangesSeat, HearsAll};
@@ -60,6 +63,7 @@ impl Parts {
         ensures rest { self.new ≡ record self.old { fetching = self.new.fetching; counts = self.new.counts } }
         ensures counts { self.new.counts ≡ after_note (note_of put) self.old.counts }
         ensures asked { asked_of self.new.fetching ≡ asked_of self.old.fetching }
+        ensures got { self.new.fetching ≡ got_of put chunk self.old.fetching }
     {
         self.counts.note(note_of(put));
         if put == Put::Stored {
@@ -71,6 +75,7 @@ impl Parts {
     fn got(&mut self, chunk: u32)
         ensures rest { self.new ≡ record self.old { fetching = self.new.fetching } }
         ensures asked { asked_of self.new.fetching ≡ asked_of self.old.fetching }
+        ensures got { self.new.fetching ≡ option_map (with_chunk chunk) self.old.fetching }
     {
         match &mut self.fetching {
             Some(fetching) => fetching.got(chunk),
@@ -85,10 +90,13 @@ impl Parts {
         requires moment { parcel.now.at ≡ self.old.seats.moment }
         ensures keeps { Keeps self.old self.new (D.state disk.old) (D.state disk.new) }
         ensures stores { OnOk result ((stored : List ℕ) × Stores stored self.old self.new) }
+        ensures exact { OnOk result (Puts parcel.now.ticket parcel.now.bytes.now
+            (claims_in (slice_get self.old.seats.seats parcel.now.ticket.seat)) self.old self.new) }
         ensures seats { self.new.seats ≡ self.old.seats }
         ensures asked { asked_of self.new.fetching ≡ asked_of self.old.fetching }
         ensures cause { self.old.holding.store.live ≡ true
             → HasCause (D.state disk.old).hard (D.state disk.new).hard result }
+        ensures dead { OnErr result (self.new.holding.store.live ≡ false) }
     {
         let claims = self.seats.seat(parcel.ticket.seat).claims();
         let put = self.holding.put(parcel, claims, disk)?;
@@ -115,6 +123,7 @@ impl Parts {
         ensures asked { (i : ℕ) → slice_index_or (asked_of self.new.fetching) i false
             ≡ (slice_index_or (asked_of self.old.fetching) i false
             && not (awaits (own_in self.old.seats.seats seat) i)) }
+        ensures exact { GivesBackOf (own_in self.old.seats.seats seat) self.old.fetching self.new.fetching }
     {
         let entries = self.seats.seat(seat).awaited();
         match &mut self.fetching {
@@ -131,10 +140,19 @@ impl Parts {
             self.old.seats self.new.seats }
         ensures rest { self.new ≡ record self.old { seats = self.new.seats; fetching = self.new.fetching } }
         ensures fetches { Fetches self.old → Fetches self.new }
+        ensures exact { EndsWait seat chunk self.old self.new }
     {
         if self.seats.heard_data(seat, chunk) {
             self.give_back(chunk);
         }
+    }
+
+    // Whether something came for this peer's number on a seat's channel.
+    fn is_seat_proven(&self, seat: u8) -> bool
+        requires { seat < 64 }
+        ensures { result ≡ is_proven_in (slice_get self.now.seats.seats seat) }
+    {
+        self.seats.seat(seat).is_proven()
     }
 
     // A DATA came. Where its channel is proven it ends the wait for its chunk, and the store judges its bytes.
@@ -149,15 +167,18 @@ impl Parts {
         ensures takes { OnOk result (Takes seat
             (Data incoming.now.chunk incoming.now.sent_at incoming.now.bytes.now ∷ [])
             self.old self.new (D.state disk.old) (D.state disk.new)) }
+        ensures exact { OnOk result (TakesData seat incoming.now.chunk incoming.now.sent_at incoming.now.bytes.now
+            self.old self.new) }
         ensures cause { self.old.holding.store.live ≡ true
             → HasCause (D.state disk.old).hard (D.state disk.new).hard result }
+        ensures dead { OnErr result (self.new.holding.store.live ≡ false) }
     {
         self.hear_chunk(seat, incoming.chunk);
         if incoming.chunk >= u64::from(self.holding.chunks()) {
             self.counts.note(Note::Outside);
             return Ok(());
         }
-        if !self.seats.seat(seat).is_proven() {
+        if !self.is_seat_proven(seat) {
             return Ok(());
         }
         let at = self.seats.moment();
@@ -179,6 +200,8 @@ impl Parts {
         requires { seat < 64 }
         ensures rest { self.new ≡ record self.old { fetching = self.new.fetching } }
         ensures asked { asked_of self.new.fetching ≡ asked_of self.old.fetching }
+        ensures exact { Offers seat (inside (chunks_of self.old.holding.store.descriptor) (span_of span))
+            self.old.fetching self.new.fetching }
     {
         let Some(range) = inside(span, self.holding.chunks()) else {
             return;
@@ -189,14 +212,33 @@ impl Parts {
         }
     }
 
-    // An address of another peer came; where it was asked for, and this peer fetches, that peer may be dialled.
-    fn suggest(&mut self, seat: u8, address: &Address)
+    // Whether addresses of other peers were asked for on a seat's channel, which is proven.
+    fn is_questioned(&self, seat: u8) -> bool
         requires { seat < 64 }
-        ensures { self.new ≡ record self.old { pex = self.new.pex } }
+        ensures { result ≡ is_questioned self.now.seats.moment (slice_get self.now.seats.seats seat) }
     {
         let known = self.seats.seat(seat);
-        if known.is_proven() && known.is_awaited(self.seats.moment()) {
+        known.is_proven() && known.is_awaited(self.seats.moment())
+    }
+
+    // An address of another peer came; where it was asked for, that peer may be dialled.
+    fn suggest(&mut self, seat: u8, address: &Address)
+        requires { seat < 64 }
+        ensures rest { self.new ≡ record self.old { pex = self.new.pex } }
+        ensures exact { self.new ≡ record self.old { pex = with_address seat address.now self.old } }
+    {
+        if self.is_questioned(seat) {
             self.pex.suggest(address);
+        }
+    }
+
+    // Addresses of other peers are asked for on a seat's channel; that is noted where it is proven.
+    fn question(&mut self, seat: u8)
+        requires { seat < 64 }
+        ensures { self.new ≡ record self.old { questions = with_question seat self.old } }
+    {
+        if self.is_seat_proven(seat) {
+            self.questions[seat as usize] = true;
         }
     }
 
@@ -205,12 +247,12 @@ impl Parts {
         requires { seat < 64 }
         ensures rest { self.new
             ≡ record self.old { fetching = self.new.fetching; pex = self.new.pex; questions = self.new.questions } }
-        ensures asked { Heeds seat (message_of message.now) self.old self.new }
+        ensures heeds { Heeds seat (message_of message.now) self.old self.new }
     {
         match *message {
             Message::Have { span } => self.offer(seat, span),
             Message::Choke => self.give_back_all(seat),
-            Message::PexReq => self.questions[seat as usize] = true,
+            Message::PexReq => self.question(seat),
             Message::Pex4 { address, port } => self.suggest(seat, &Address::V4(address, port)),
             Message::Pex6 { address, port } => self.suggest(seat, &Address::V6(address, port)),
             _ => {}
@@ -231,7 +273,8 @@ impl Parts {
     fn take_other<'m>(&mut self, seat: u8, message: &'m Message<'m>)
         requires seat { seat < 64 }
         requires kind { IsNoData (message_of message.now) }
-        ensures { (disk : DiskState) → Takes seat (message_of message.now ∷ []) self.old self.new disk disk }
+        ensures takes { (disk : DiskState) → Takes seat (message_of message.now ∷ []) self.old self.new disk disk }
+        ensures exact { TakesOther seat (message_of message.now) self.old self.new }
     {
         self.heed_message(seat, message);
         let noted = self.seats.hear(seat, message);
@@ -249,8 +292,10 @@ impl Parts {
         ensures keeps { Keeps self.old self.new (D.state disk.old) (D.state disk.new) }
         ensures takes { OnOk result (Takes seat (message_of message.now ∷ [])
             self.old self.new (D.state disk.old) (D.state disk.new)) }
+        ensures exact { OnOk result (Does seat (message_of message.now) self.old self.new) }
         ensures cause { self.old.holding.store.live ≡ true
             → HasCause (D.state disk.old).hard (D.state disk.new).hard result }
+        ensures dead { OnErr result (self.new.holding.store.live ≡ false) }
     {
         match *message {
             Message::Data {
@@ -288,8 +333,11 @@ impl Parts {
         ensures hears { IfOk result (λ is_closed.
             Hears seat (read_at descriptor.now bytes.now start) is_closed
             self.old self.new (D.state disk.old) (D.state disk.new)) }
+        ensures exact { IfOk result (λ is_closed.
+            HearsAllOf seat descriptor.now bytes.now start is_closed self.old self.new) }
         ensures cause { self.old.holding.store.live ≡ true
             → HasCause (D.state disk.old).hard (D.state disk.new).hard result }
+        ensures dead { OnErr result (self.new.holding.store.live ≡ false) }
     {
         // Its contract tells that there is such a seat.
         let _ = self.seats.seat(seat);
@@ -315,7 +363,8 @@ impl Parts {
     // The channel of a seat is dropped, with all that was kept of it.
     fn drop_channel(&mut self, seat: u8)
         requires { IsUsedSeat self.old.seats.table seat }
-        ensures { Closes seat self.old self.new }
+        ensures closes { Closes seat self.old self.new }
+        ensures shuts { Shuts seat self.old self.new }
     {
         self.seats.close(seat);
         self.clear_seat(seat);
@@ -335,8 +384,10 @@ impl Parts {
         ensures keeps { Keeps self.old self.new (D.state disk.old) (D.state disk.new) }
         ensures reads { OnOk result (Reads seat (read_at self.old.seats.descriptor bytes.now start)
             self.old self.new (D.state disk.old) (D.state disk.new)) }
+        ensures exact { OnOk result (ReadsAll seat self.old.seats.descriptor bytes.now start self.old self.new) }
         ensures cause { self.old.holding.store.live ≡ true
             → HasCause (D.state disk.old).hard (D.state disk.new).hard result }
+        ensures dead { OnErr result (self.new.holding.store.live ≡ false) }
     {
         let descriptor = self.seats.descriptor();
         if self.take_all(&descriptor, seat, bytes, start, disk)? {

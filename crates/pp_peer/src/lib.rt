@@ -3,11 +3,25 @@
 #![tactic(auto)]
 
 mod arriving;
+#[cfg(test)]
+mod dial_tests;
+mod dialling;
+mod flushing;
 mod greeting;
 mod hearing;
+mod laws;
 mod parts;
 mod serving;
 #[cfg(test)]
+mod slot_tests;
+mod slotting;
+mod speaking;
+mod supporting;
+#[cfg(test)]
 mod tests;
 
+pub use dialling::Dials;
+pub use laws::laws_of_parts;
 pub use parts::Parts;
+pub use speaking::Speaker;
+pub use supporting::{Supports, supported};

@@ -1,5 +1,6 @@
 //! The parts of a peer.
 
+use crate::supporting::Supports;
 use pp_counts::Counts;
 use pp_fetching::Fetching;
 use pp_holding::Holding;
@@ -22,5 +23,12 @@ pub struct Parts {
     pub pex: Pex,
     /// Of each seat, whether its peer asked for such addresses since the last turn.
     pub questions: [bool; 64],
+    /// Of each seat, whether this peer dialled, its reply came, and nothing was sent since: a datagram is due, by which the other peer
+    /// learns that this one is at its address.
+    pub to_prove: [bool; 64],
+    /// Of each seat, which messages of peer exchange its peer takes.
+    pub supports: [Supports; 64],
+    /// How often each of what a peer counts happened since it began: what came, what went, and what was refused. A count
+    /// stands still at the greatest number.
     pub counts: Counts,
 }

@@ -5,7 +5,8 @@ ghost use Rattle.pp_terms.specs.format.Descriptor.{chunks_of};
 ghost use Rattle.pp_tree.specs.Book.{entry};
 ghost use Rattle.pp_seats.specs.Serving.{Serving};
 ghost use Rattle.pp_peer.specs.Flushing.{Flushes};
-ghost use Rattle.pp_peer.specs.Serving.{OnlySeats, ServesBelow, ServesSeat, counted, given_up, sent_of, with_note};
+ghost use Rattle.pp_peer.specs.Serving.{OnlySeats, ServesBelow, ServesSeat, counted, given_up, sent_of};
+ghost use Rattle.pp_peer.specs.Taking.{after_some};
 
 use crate::parts::Parts;
 use pp_counts::Note;
@@ -40,7 +41,7 @@ impl Parts {
         requires swarm { self.old.seats.descriptor ≡ self.old.holding.store.descriptor }
         ensures serves { Serving seat self.old.holding.store (entry self.old.holding.book) result
             self.old.seats self.new.seats (L.seen link.old) (L.seen link.new) (D.state disk.old) (D.state disk.new) }
-        ensures counts { self.new.counts ≡ with_note (counted result) self.old.counts }
+        ensures counts { self.new.counts ≡ after_some (counted result) self.old.counts }
         ensures rest { OnlySeats self.old self.new }
         ensures flushes { Flushes (given_up result)
             (record { parts = self.old; link = L.seen link.old; disk = D.state disk.old })

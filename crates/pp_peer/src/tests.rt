@@ -2,8 +2,8 @@
 //! ade0b876 and 903df1a0, by the first test vector of ChaCha20 (RFC 8439, appendix A.1).
 ghost use Rattle.std.specs.Prelude.{◌≡◌, IfOk};
 
-use crate::Parts;
-use pp_counts::Counts;
+use crate::{Parts, Supports, supported};
+use pp_counts::{Counts, Note};
 use pp_holding::Holding;
 use pp_outside::{Address, Event, Mark, MemoryDisk, MemoryLink};
 use pp_pex::Pex;
@@ -36,6 +36,19 @@ const FRONT: [u8; 7] = [0, 1, 1, 1, 2, 0, 32];
 // Integrity method 1, hash function 2, addressing method 2, the supported messages, chunk size 1024, and the end.
 const REST: [u8; 16] = [3, 1, 4, 2, 6, 2, 8, 2, 0xfe, 0xf8, 9, 0, 0, 4, 0, 255];
 
+// The same up to the bitmap of the supported messages, and behind it.
+const BEFORE_BITMAP: [u8; 8] = [3, 1, 4, 2, 6, 2, 8, 2];
+
+const BEHIND_BITMAP: [u8; 6] = [9, 0, 0, 4, 0, 255];
+
+// Bitmaps, and whether they have PEX_REQ, type 6, and PEX_RESv6, type 12.
+const BITMAPS: [([u8; 2], bool, bool); 4] = [
+    ([0xfe, 0xf8], true, true),
+    ([0x02, 0], true, false),
+    ([0xfd, 0x08], false, true),
+    ([0xfd, 0xf7], false, false),
+];
+
 // Messages that name chunk 0, all but the first without what follows the name.
 const REQUEST: [u8; 9] = [8, 0, 0, 0, 0, 0, 0, 0, 0];
 
@@ -45,6 +58,15 @@ const INTEGRITY: [u8; 9] = [4, 0, 0, 0, 0, 0, 0, 0, 0];
 
 // The moment 6.
 const SIX: [u8; 8] = [0, 0, 0, 0, 0, 0, 0, 6];
+
+// A HAVE of chunk 5, which the content doesn't have.
+const HAVE_FIVE: [u8; 9] = [3, 0, 0, 0, 5, 0, 0, 0, 5];
+
+// A message of a type that there isn't.
+const FAULTY: [u8; 1] = [7];
+
+// A root that isn't the swarm's.
+const OTHER_ROOT: [u8; 32] = [0; 32];
 
 // A handshake of the other peer's channel, but for its options.
 const GREETING: [u8; 5] = [0, 0x0a, 0x0b, 0x0c, 0x0d];
@@ -102,6 +124,8 @@ impl Scene {
             slots: Slots::new(),
             pex: Pex::new(),
             questions: [false; 64],
+            to_prove: [false; 64],
+            supports: [Supports::ALL; 64],
             counts: Counts::new(),
         };
         let link = MemoryLink::new(alloc)?;
@@ -168,6 +192,14 @@ impl Scene {
         self.parts.greet(0, &self.disk, &mut self.link)
     }
 
+    // An address is dialled. Whether the handshake was sent.
+    fn dial(&mut self, to: Address) -> Option<bool>
+        ensures { self.old.parts.holding.store.descriptor ≡ self.old.swarm
+            → self.new.parts.holding.store.descriptor ≡ self.new.swarm }
+    {
+        self.parts.dial(&to, &self.disk, &mut self.link)
+    }
+
     // The chunks of the first seat go out. How many were given up.
     fn serve(&mut self) -> Option<u32>
         requires { self.old.parts.holding.store.descriptor ≡ self.old.swarm }
@@ -203,6 +235,13 @@ fn counted(turns: u64, sent: u64) -> Counts {
     counts
 }
 
+// The same, with one note more.
+fn noted(turns: u64, sent: u64, note: Note) -> Counts {
+    let mut counts = counted(turns, sent);
+    counts.note(note);
+    counts
+}
+
 #[test]
 fn a_chunk_that_is_asked_for_is_served(rt: HostRuntime) -> Result<(), Fail> {
     let mut scene = Scene::greeted(rt.alloc())?;
@@ -216,6 +255,54 @@ fn a_chunk_that_is_asked_for_is_served(rt: HostRuntime) -> Result<(), Fail> {
 }
 
 #[test]
+fn a_handshake_tells_what_its_peer_takes(rt: HostRuntime) -> Result<(), Fail> {
+    let swarm = Descriptor::new(Digest::new(ROOT), 1024, 3, Method::Range32)?;
+    for (bitmap, requests, v6) in BITMAPS {
+        let bytes = joined(
+            rt.alloc(),
+            &[
+                &NONE,
+                &GREETING,
+                &FRONT,
+                &ROOT,
+                &BEFORE_BITMAP,
+                &bitmap,
+                &BEHIND_BITMAP,
+            ],
+        )?;
+        assert_eq!(rt; supported(&bytes, &swarm), Supports { requests, v6 });
+    }
+    assert_eq!(rt; supported(&NONE, &swarm), Supports::ALL);
+    Ok(())
+}
+
+#[test]
+fn a_reply_awaits_a_datagram(rt: HostRuntime) -> Result<(), Fail> {
+    let mut scene = Scene::of_abc(rt.alloc())?;
+    assert_eq!(rt; scene.dial(PEER), Some(true));
+    let (bitmap, requests, v6) = BITMAPS[1];
+    assert!(rt;
+        scene.hear(
+            PEER,
+            6,
+            &[
+                &OURS,
+                &GREETING,
+                &FRONT,
+                &ROOT,
+                &BEFORE_BITMAP,
+                &bitmap,
+                &BEHIND_BITMAP
+            ]
+        )
+    );
+    assert!(rt; scene.parts.to_prove[0]);
+    assert_eq!(rt; scene.parts.supports[0], Supports { requests, v6 });
+    assert_eq!(rt; scene.parts.supports[1], Supports::ALL);
+    Ok(())
+}
+
+#[test]
 fn a_channel_that_was_closed_is_opened_again(rt: HostRuntime) -> Result<(), Fail> {
     let mut scene = Scene::greeted(rt.alloc())?;
     assert!(rt; scene.hear(PEER, 7, &[&OURS, &CLOSING]));
@@ -224,5 +311,54 @@ fn a_channel_that_was_closed_is_opened_again(rt: HostRuntime) -> Result<(), Fail
     assert!(rt; scene.greet());
     assert!(rt; scene.has_sent(1, &[&THEIRS, &[0], &OURS_NEXT, &FRONT, &ROOT, &REST]));
     assert_eq!(rt; scene.parts.counts, counted(3, 2));
+    Ok(())
+}
+
+#[test]
+fn a_short_datagram_is_counted(rt: HostRuntime) -> Result<(), Fail> {
+    let mut scene = Scene::of_abc(rt.alloc())?;
+    assert!(rt; scene.hear(PEER, 5, &[&[1, 2, 3]]));
+    assert_eq!(rt; scene.parts.counts, noted(1, 0, Note::Short));
+    Ok(())
+}
+
+#[test]
+fn a_datagram_for_no_channel_is_a_strangers(rt: HostRuntime) -> Result<(), Fail> {
+    let mut scene = Scene::of_abc(rt.alloc())?;
+    assert!(rt; scene.hear(PEER, 5, &[&OURS]));
+    assert_eq!(rt; scene.parts.counts, noted(1, 0, Note::Stranger));
+    Ok(())
+}
+
+#[test]
+fn a_handshake_of_another_swarm_is_refused(rt: HostRuntime) -> Result<(), Fail> {
+    let mut scene = Scene::of_abc(rt.alloc())?;
+    assert!(rt; scene.hear(PEER, 5, &[&NONE, &GREETING, &FRONT, &OTHER_ROOT, &REST]));
+    assert!(rt; !scene.greet());
+    assert_eq!(rt; scene.parts.counts, noted(1, 0, Note::RefusedHandshake));
+    Ok(())
+}
+
+#[test]
+fn a_channels_number_alone_keeps_it_alive(rt: HostRuntime) -> Result<(), Fail> {
+    let mut scene = Scene::greeted(rt.alloc())?;
+    assert!(rt; scene.hear(PEER, 6, &[&OURS]));
+    assert_eq!(rt; scene.parts.counts, noted(2, 1, Note::KeepAlive));
+    Ok(())
+}
+
+#[test]
+fn a_faulty_message_cuts_its_datagram(rt: HostRuntime) -> Result<(), Fail> {
+    let mut scene = Scene::greeted(rt.alloc())?;
+    assert!(rt; scene.hear(PEER, 6, &[&OURS, &FAULTY, &CLOSING]));
+    assert_eq!(rt; scene.parts.counts, noted(2, 1, Note::Cut));
+    Ok(())
+}
+
+#[test]
+fn a_chunk_outside_the_content_is_counted(rt: HostRuntime) -> Result<(), Fail> {
+    let mut scene = Scene::greeted(rt.alloc())?;
+    assert!(rt; scene.hear(PEER, 6, &[&OURS, &HAVE_FIVE]));
+    assert_eq!(rt; scene.parts.counts, noted(2, 1, Note::Outside));
     Ok(())
 }

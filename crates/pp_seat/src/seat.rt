@@ -66,6 +66,7 @@ impl Seat {
         requires size { size ≤ 8192 }
         ensures follows { IfOk result (λ s. (f : Frame) (t : Tale) → f.chunks ≡ chunks → f.size ≡ size → Begins f t → Follows f none_lost s t) }
         ensures slot { IfOk result (λ s. s.slot ≡ false) }
+        ensures fresh { IfOk result (λ s. IsFresh false s) }
         ensures chunks { IfOk result (λ s. s.told.chunks ≡ chunks) }
     {
         let told = Told::none(alloc, chunks)?;

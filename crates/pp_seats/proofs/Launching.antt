@@ -239,7 +239,7 @@ chunk_plans found aware most p k c before i at book nodes bytes datagram moment 
 pub chunk_stands : (found : ℕ → Bool) (aware : ℕ → ℕ → Bool) (most : ℕ) (p : SeatsState) (k : ℕ) (c : Channel) (before after : SeatState) (i : ℕ) (book : LookUp) (nodes : List Node) (bytes datagram : List ℕ) (moment : ℕ) (past : List Record)
     → StandsFor (record { d = p.descriptor; is_found = found; known_of = aware }) most p past → MaySend p k c before i → IsChunk p.descriptor book c before i p.moment nodes bytes datagram
     → Says Always p.moment (delivery book nodes i p.moment bytes) before after → after.own ≡ before.own
-    → StandsFor (record { d = p.descriptor; is_found = found; known_of = aware }) most (record p { table = with_sent p.table k 1 p.moment; seats = set p.seats k after }) (Sent moment (address_of c.address) datagram ∷ past)
+    → StandsFor (record { d = p.descriptor; is_found = found; known_of = aware }) most (record p { table = with_sent p.table k false 1 p.moment; seats = set p.seats k after }) (Sent moment (address_of c.address) datagram ∷ past)
 chunk_stands found aware most p k c before after i book nodes bytes datagram moment past h may is says same =
     let d = p.descriptor in
     let x : Setting = record { d = d; is_found = found; known_of = aware } in
@@ -301,7 +301,7 @@ sends_chunk p q k store book far before after i nodes bytes datagram link later 
   stands = λ x most past h. subst (λ (y : Far). StandsFor x most q (Sent m (address_of y.address) datagram ∷ past)) (sym f.is)
       (subst (λ (o : SeatsState). StandsFor x most o (Sent m (address_of f.channel.address) datagram ∷ past)) (sym is)
       (subst (λ (d : Descriptor). StandsFor (record { d = d; is_found = x.is_found; known_of = x.known_of }) most p past
-      → StandsFor (record { d = d; is_found = x.is_found; known_of = x.known_of }) most (record p { table = with_sent p.table k 1 p.moment; seats = set p.seats k after }) (Sent m (address_of f.channel.address) datagram ∷ past))
+      → StandsFor (record { d = d; is_found = x.is_found; known_of = x.known_of }) most (record p { table = with_sent p.table k false 1 p.moment; seats = set p.seats k after }) (Sent m (address_of f.channel.address) datagram ∷ past))
       h.swarm (λ g. chunk_stands x.is_found x.known_of most p k f.channel before after i book nodes bytes datagram m past g can chunk says (ap (λ (o : SeatState). o.own) exact)) h));
   serves = λ x most past h. subst (λ (y : Far). Serves x.d book (lets_send x.d.chunk) past (Sent m (address_of y.address) datagram)) (sym f.is)
       (subst (λ (d : Descriptor). StandsFor (record { d = d; is_found = x.is_found; known_of = x.known_of }) most p past

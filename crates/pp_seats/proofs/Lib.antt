@@ -7,6 +7,7 @@ pub mod Composing
 pub mod Firsts
 pub mod Waits
 pub mod Outgoing
+pub mod Opened
 pub mod Speaking
 pub mod Tellings
 pub mod Carrying

@@ -1,11 +1,11 @@
 -- Lists of which one place is changed.
-use Rattle.std.proofs.Common.{◌≡◌, ◌≢◌, ⊎_elim, ℕ, zero, suc, ◌+◌, ◌<◌, eqb, Some, List, [], ◌∷◌, ◌++◌, length, get_or, map, take, refl, sym, ◌∙◌, ap, arith}
+use Rattle.std.proofs.Common.{◌≡◌, ◌≢◌, ⊎_elim, ℕ, zero, suc, ◌+◌, ◌<◌, eqb, false, Some, List, [], ◌∷◌, ◌++◌, length, get_or, map, take, refl, sym, ◌∙◌, ap, subst, arith}
 use Rattle.std.specs.List.{slice_get}
 use Rattle.std.proofs.Math.ListN.{set}
 use Rattle.std.proofs.lemmas.Bool.{cases_Bool, eqb-true, eqb-false}
 use Rattle.std.proofs.lemmas.Option.{same_Some}
-use Rattle.pp_seat.specs.Seats.{SeatState}
-use Rattle.pp_seats.specs.Standing.{AllHold}
+use Rattle.pp_seat.specs.Seats.{SeatState, IsFresh}
+use Rattle.pp_seats.specs.Standing.{AllHold, AllFresh}
 use Rattle.pp_seats.specs.Hearing.{looked_up}
 
 pub get_set_there : (xs : List SeatState) (i : ℕ) (x y : SeatState) → slice_get xs i ≡ Some y → slice_get (set xs i x) i ≡ Some x
@@ -60,6 +60,12 @@ push_holds chunks [] s room same zero x has = ap (λ (o : SeatState). o.told.chu
 push_holds chunks [] s room same (suc n) x has = absurd cc
 push_holds chunks (y ∷ ys) s room same zero x has = room 0 x has
 push_holds chunks (y ∷ ys) s room same (suc n) x has = push_holds chunks ys s (λ k o at. room (suc k) o at) same n x has
+
+pub push_fresh : (xs : List SeatState) (s : SeatState) → AllFresh xs → IsFresh false s → AllFresh (xs ++ s ∷ [])
+push_fresh [] s room fresh zero x has = subst (λ (o : SeatState). IsFresh false o) (same_Some s x has) fresh
+push_fresh [] s room fresh (suc n) x has = absurd cc
+push_fresh (y ∷ ys) s room fresh zero x has = room 0 x has
+push_fresh (y ∷ ys) s room fresh (suc n) x has = push_fresh ys s (λ k o at. room (suc k) o at) fresh n x has
 
 pub push_length : (xs : List SeatState) (s : SeatState) → length (xs ++ s ∷ []) ≡ length xs + 1
 push_length [] s = refl

@@ -200,7 +200,7 @@ After w bs past = records_of w bs ++ past
 abbrev First : Way → Batch → List Record → List Record
 First w b past = cond b.sent (Sent w.moment w.receiver b.bytes ∷ []) [] ++ past
 
-after_more : (w : Way) (b : Batch) (bs : List Batch) (past : List Record) → After w (b ∷ bs) past ≡ After w bs (First w b past)
+pub after_more : (w : Way) (b : Batch) (bs : List Batch) (past : List Record) → After w (b ∷ bs) past ≡ After w bs (First w b past)
 after_more w b bs past = append_assoc (records_of w bs) (cond b.sent (Sent w.moment w.receiver b.bytes ∷ []) []) past
 
 all_front : (P : Note → Type 0) (xs ys : List Note) → AllByRecursion P (xs ++ ys) → AllByRecursion P xs × AllByRecursion P ys
@@ -410,7 +410,7 @@ record IsNoted (t new : Seats) (k : ℕ) (c : Channel) : Type 0 where
   begun : is_begun channel.opening ≡ is_begun c.opening
   are : AreSeats t.channels → AreSeats new.channels
 
-noted_sent : (t : Seats) (k : ℕ) (c : Channel) (sent at : ℕ) → channel_at t k ≡ Some c → IsNoted t (with_sent t k sent at) k c
+noted_sent : (t : Seats) (k : ℕ) (c : Channel) (sent at : ℕ) → channel_at t k ≡ Some c → IsNoted t (with_sent t k false sent at) k c
 noted_sent t k c sent at there = by (nat_lt 0 sent)
   where
     by : (b : Bool) → IsNoted t (cond b (with_datagram t k false at) t) k c
@@ -434,12 +434,12 @@ pub settled_in : (x : Setting) (known_of : ℕ → ℕ → Bool) (most more : �
     → (h : StandsFor x most p past) → channel_at p.table k ≡ Some c → is_waiting c ≡ false → slice_get p.seats k ≡ Some before → most ≤ more
     → ((n : ℕ) → n ≢ k → known_of n ≡ x.known_of n)
     → Leaves x p.table h.lives k past (added ++ past) → ((life : Life) → h.lives k ≡ Some life → IsFollowed (at_seat (record x { known_of = known_of }) k) more after life (added ++ past))
-    → StandsFor (record x { known_of = known_of }) more (record p { table = with_sent p.table k sent p.moment; seats = set p.seats k after }) (added ++ past)
+    → StandsFor (record x { known_of = known_of }) more (record p { table = with_sent p.table k false sent p.moment; seats = set p.seats k after }) (added ++ past)
 settled_in x known_of most more p k c sent before after added past h there known has le elsewhere leaves own =
     let y : Setting = record x { known_of = known_of } in
     let t = p.table in
     let noted = noted_sent t k c sent p.moment there in
-    let new = with_sent t k sent p.moment in
+    let new = with_sent t k false sent p.moment in
     let waits : is_waiting noted.channel ≡ is_waiting c = steady_waits c noted.channel noted.steady in
     let stays = steady_stays x.d t new h.lives k c noted.channel (added ++ past) leaves.standing there noted.steady noted.begun (noted.are h.standing.seated.are) noted.change in
     record {
@@ -467,7 +467,7 @@ settled_in x known_of most more p k c sent before after added past h there known
 pub settled : (x : Setting) (most more : ℕ) (p : SeatsState) (k : ℕ) (c : Channel) (sent : ℕ) (before after : SeatState) (added past : List Record)
     → (h : StandsFor x most p past) → channel_at p.table k ≡ Some c → is_waiting c ≡ false → slice_get p.seats k ≡ Some before → most ≤ more
     → Leaves x p.table h.lives k past (added ++ past) → ((life : Life) → h.lives k ≡ Some life → IsFollowed (at_seat x k) more after life (added ++ past))
-    → StandsFor x more (record p { table = with_sent p.table k sent p.moment; seats = set p.seats k after }) (added ++ past)
+    → StandsFor x more (record p { table = with_sent p.table k false sent p.moment; seats = set p.seats k after }) (added ++ past)
 settled x most more p k c sent before after added past h there known has le leaves own =
     settled_in x x.known_of most more p k c sent before after added past h there known has le (λ n ne. refl) leaves own
 
@@ -492,7 +492,7 @@ pub spoken : (found : ℕ → Bool) (aware : ℕ → ℕ → Bool) (most : ℕ) 
     → AllByRecursion steps.IsPlain (notes_of bs)
     → DeliversEach w bs (record { seat = before; link = link; so_far = none_delivered }) (record { seat = after; link = later; so_far = delivered })
     → HoldsAnnounced x held past → MaySay held (notes_of bs) before
-    → StandsFor (with_told k (notes_of bs) x) (most + delivered.refused) (record p { table = with_sent p.table k delivered.sent p.moment; seats = set p.seats k after }) (After w bs past)
+    → StandsFor (with_told k (notes_of bs) x) (most + delivered.refused) (record p { table = with_sent p.table k false delivered.sent p.moment; seats = set p.seats k after }) (After w bs past)
 spoken found aware most p k c moment bs before after link later delivered past held h there known has plains each holds may =
     let d = p.descriptor in
     let x : Setting = record { d = d; is_found = found; known_of = aware } in
@@ -516,17 +516,10 @@ spoken found aware most p k c moment bs before after link later delivered past h
     (same_Some life l (sym knows.1 ∙ lives_there))
     (own_followed d found (aware k) most c (unwrap_or c.remote 0) moment p.moment bs from to life past held each on (h.follow k c life before there known knows.1 has) refl refl (holds.known k) may)))
 
--- what was announced then is held
-pub told_held : (x : Setting) (d : Descriptor) (c : Channel) (channel moment at : ℕ) (k : ℕ) (bs : List Batch) (old new : At) (past : List Record) (held : ℕ → Bool) → x.d ≡ d
-    → DeliversEach (W d c channel moment at) bs old new → AllByRecursion (Announces held) (notes_of bs) → HoldsAnnounced x held past
-    → HoldsAnnounced (with_told k (notes_of bs) x) held (After (W d c channel moment at) bs past)
-told_held x d c channel moment at k bs old new past held swarm each announces_held holds = record {
-  found = holds.found;
-  announced = λ i e. announced_held d c channel moment at held i bs old new past each announces_held
-      (subst (λ (o : Descriptor). is_announced o i past ≡ true → held i ≡ true) swarm (holds.announced i))
-      (sym (ap (λ (o : Descriptor). is_announced o i (After (W d c channel moment at) bs past)) swarm) ∙ e);
-  known = λ seat i e. by seat (eqb seat k) i e;
-}
+-- what another peer is to know of once notes were delivered is held
+pub told_known : (x : Setting) (k : ℕ) (ns : List Note) (held : ℕ → Bool) → AllByRecursion (Announces held) ns → ((seat i : ℕ) → x.known_of seat i ≡ true → held i ≡ true)
+    → (seat i : ℕ) → (with_told k ns x).known_of seat i ≡ true → held i ≡ true
+told_known x k ns held announces_held knows seat i e = by seat (eqb seat k) i e
   where
     note_in : (i : ℕ) (note : Note) → Announces held note → tells_note i note ≡ true → held i ≡ true
     note_in i KeepAlive a e = absurd cc
@@ -546,6 +539,18 @@ told_held x d c channel moment at k bs old new past held swarm each announces_he
     notes_in i [] a e = absurd cc
     notes_in i (note ∷ ns) a e = ⊎_elim (λ here. note_in i note a.0 here) (λ behind. notes_in i ns a.1 behind) (or_cases (tells_note i note) (list_any (tells_note i) ns) e)
 
-    by : (seat : ℕ) (b : Bool) (i : ℕ) → (let f : ℕ → Bool = cond b (λ j. x.known_of k j || list_any (tells_note j) (notes_of bs)) (x.known_of seat) in f i ≡ true) → held i ≡ true
-    by seat true i e = ⊎_elim (λ was. holds.known k i was) (λ tells. notes_in i (notes_of bs) announces_held tells) (or_cases (x.known_of k i) (list_any (tells_note i) (notes_of bs)) e)
-    by seat false i e = holds.known seat i e
+    by : (seat : ℕ) (b : Bool) (i : ℕ) → (let f : ℕ → Bool = cond b (λ j. x.known_of k j || list_any (tells_note j) ns) (x.known_of seat) in f i ≡ true) → held i ≡ true
+    by seat true i e = ⊎_elim (λ was. knows k i was) (λ tells. notes_in i ns announces_held tells) (or_cases (x.known_of k i) (list_any (tells_note i) ns) e)
+    by seat false i e = knows seat i e
+
+-- what was announced then is held
+pub told_held : (x : Setting) (d : Descriptor) (c : Channel) (channel moment at : ℕ) (k : ℕ) (bs : List Batch) (old new : At) (past : List Record) (held : ℕ → Bool) → x.d ≡ d
+    → DeliversEach (W d c channel moment at) bs old new → AllByRecursion (Announces held) (notes_of bs) → HoldsAnnounced x held past
+    → HoldsAnnounced (with_told k (notes_of bs) x) held (After (W d c channel moment at) bs past)
+told_held x d c channel moment at k bs old new past held swarm each announces_held holds = record {
+  found = holds.found;
+  announced = λ i e. announced_held d c channel moment at held i bs old new past each announces_held
+      (subst (λ (o : Descriptor). is_announced o i past ≡ true → held i ≡ true) swarm (holds.announced i))
+      (sym (ap (λ (o : Descriptor). is_announced o i (After (W d c channel moment at) bs past)) swarm) ∙ e);
+  known = told_known x k (notes_of bs) held announces_held holds.known;
+}

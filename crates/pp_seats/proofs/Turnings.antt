@@ -26,7 +26,7 @@ use Rattle.pp_seats.specs.Laws.{KnownChanges}
 use Rattle.pp_seats.proofs.Lists.{get_set_there, get_set_other}
 use Rattle.pp_seats.proofs.Outgoing.{more_followed}
 
-seat_changed : (x : Setting) (most more : ℕ) (p : SeatsState) (k : ℕ) (before after : SeatState) (past : List Record) → StandsFor x most p past
+pub seat_changed : (x : Setting) (most more : ℕ) (p : SeatsState) (k : ℕ) (before after : SeatState) (past : List Record) → StandsFor x most p past
     → slice_get p.seats k ≡ Some before → most ≤ more
     → ((life : Life) → IsFollowed (at_seat x k) most before life past → IsFollowed (at_seat x k) more after life past)
     → StandsFor x more (record p { seats = set p.seats k after }) past

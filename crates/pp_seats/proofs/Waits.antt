@@ -22,14 +22,14 @@ use Rattle.pp_seats.specs.Sending.{requested, AsksFirst, FitAll}
 
 -- ---- what may be asked for
 
-fit_of : (range : Span) (ranges : List Span) (own : List Asking) → FitAll (range ∷ ranges) own → CanAsk range own
+pub fit_of : (range : Span) (ranges : List Span) (own : List Asking) → FitAll (range ∷ ranges) own → CanAsk range own
 fit_of range ranges own f = record {
   room = (let r = f.room in omega arith);
   absent = λ i at. f.absent i (or_left (within range i) (has ranges i) at);
 }
 
 -- the rest, where the first was asked for
-fit_asked : (range : Span) (ranges : List Span) (now : ℕ) (own new : List Asking) → FitAll (range ∷ ranges) own → AsksAll range now own new → FitAll ranges new
+pub fit_asked : (range : Span) (ranges : List Span) (now : ℕ) (own new : List Asking) → FitAll (range ∷ ranges) own → AsksAll range now own new → FitAll ranges new
 fit_asked range [] now own new f asks = tt
 fit_asked range (r ∷ rs) now own new f asks = record {
   room = (let a = f.room in let b = asks.len in omega arith);
@@ -42,7 +42,7 @@ fit_asked range (r ∷ rs) now own new f asks = record {
     out i at = ⊎_elim (λ here. absurd (both_ways (has (r ∷ rs) i) (f.apart.0 i here) at)) (λ apart. apart) (cases_Bool (within range i))
 
 -- and where it wasn't
-fit_refused : (range : Span) (ranges : List Span) (own : List Asking) → FitAll (range ∷ ranges) own → FitAll ranges own
+pub fit_refused : (range : Span) (ranges : List Span) (own : List Asking) → FitAll (range ∷ ranges) own → FitAll ranges own
 fit_refused range [] own f = tt
 fit_refused range (r ∷ rs) own f = record {
   room = (let a = f.room in omega arith);
@@ -51,7 +51,7 @@ fit_refused range (r ∷ rs) own f = record {
 }
 
 -- where nothing is asked for
-none_first : (notes : List Note) → requested notes ≡ [] → AsksFirst notes
+pub none_first : (notes : List Note) → requested notes ≡ [] → AsksFirst notes
 none_first [] e = tt
 none_first (KeepAlive ∷ notes) e = none_first notes e
 none_first (Handshake source ∷ notes) e = none_first notes e
@@ -164,7 +164,7 @@ sent_notes d now back (note ∷ notes) more ms old new h s a f =
     }
 
 -- refused notes leave the own requests
-refused_notes : (notes more : List Note) (own : List Asking) → AsksFirst (notes ++ more) → FitAll (requested (notes ++ more)) own → AsksFirst more × FitAll (requested more) own
+pub refused_notes : (notes more : List Note) (own : List Asking) → AsksFirst (notes ++ more) → FitAll (requested (notes ++ more)) own → AsksFirst more × FitAll (requested more) own
 refused_notes [] more own a f = (a, f)
 refused_notes (KeepAlive ∷ notes) more own a f = refused_notes notes more own a f
 refused_notes (Handshake source ∷ notes) more own a f = refused_notes notes more own a f

@@ -1,5 +1,5 @@
 -- What goes out on the seats' channels, and what the link carries of it.
-use Rattle.std.specs.Prelude.{◌≡◌, ℕ, ◌+◌, ◌<◌, ◌≤◌, nat_lt, Bool, true, false, Option, Some, None, List, [], ◌∷◌, ◌++◌, length, slice_get, slice_set, if◌then◌else◌, ◌==◌, ◌||◌}
+use Rattle.std.specs.Prelude.{◌≡◌, ℕ, ◌+◌, ◌<◌, ◌≤◌, nat_lt, Bool, true, false, Option, Some, None, List, [], ◌∷◌, ◌++◌, length, slice_get, slice_set, if◌then◌else◌, ◌==◌, ◌||◌, is_some}
 use Rattle.std.specs.List.{AllByRecursion, list_any}
 use Rattle.pp_terms.specs.format.Traffic.{Record, LinkState, GainsRecords}
 use Rattle.pp_terms.specs.tree.Range.{Span, within, has}
@@ -17,8 +17,9 @@ use Rattle.pp_draft.specs.declared.note.Note.TheVariants.{Ack, Have, Request, Ca
 use Rattle.pp_seat.specs.Seats.{SeatState}
 use Rattle.pp_desk.specs.declared.steps.Delivered.{Delivered}
 use Rattle.pp_desk.specs.Steps.{cursor_behind}
-use Rattle.pp_desk.specs.Delivers.{Way, none_delivered, Delivers}
+use Rattle.pp_desk.specs.Delivers.{Way, At, none_delivered, Goes, batches_of}
 use Rattle.pp_desk.specs.Laws.{records_of}
+use Rattle.pp_seats.specs.Reading.{opening_of}
 use Rattle.pp_seats.specs.Standing.{SeatsState, Setting, StandsFor}
 
 -- ---- what may be told
@@ -97,31 +98,51 @@ pub record MaySay (held : ℕ → Bool) (notes : List Note) (s : SeatState) : Ty
 abbrev pub way_of : SeatsState → Far → (moment : ℕ) → Way
 way_of p far moment = record { d = p.descriptor; receiver = address_of far.address; channel = far.number; moment = moment; now = p.moment }
 
--- the channels once the notes of one were delivered: it is noted when something was sent last
-abbrev pub with_sent : Seats → ℕ → (sent now : ℕ) → Seats
-with_sent table seat sent now = if nat_lt 0 sent then with_datagram table seat false now else table
+-- the channels once the notes of one were delivered, behind a handshake or not: it is noted when something was sent last
+abbrev pub with_sent : Seats → ℕ → (opens : Bool) → (sent now : ℕ) → Seats
+with_sent table seat opens sent now = if nat_lt 0 sent then with_datagram table seat opens now else table
 
--- The notes were delivered on a seat, whose channel's peer has a known number and was sent a handshake: the link carries records
--- of what was sent, and the seats stand for it, whatever was refused.
-pub record Speaks (seat : ℕ) (notes : List Note) (moment : ℕ) (delivered : Delivered) (old new : SeatsState) (link later : LinkState) : Type 0 where
+-- this peer's number for the channel of a seat, where its handshake goes before what is said there
+abbrev pub opening_at : SeatsState → ℕ → Option ℕ
+opening_at p seat = opening_of p.moment (channel_at p.table seat)
+
+-- what the link carries then
+abbrev pub records_by : (opening : Option ℕ) (w : Way) (notes : List Note) (old new : At) → Goes opening w notes old new → List Record
+records_by opening w notes old new goes = records_of w (batches_of opening w notes old new goes)
+
+-- The notes were delivered on a seat, whose channel's peer has a known number, behind this peer's handshake where that is due: the
+-- link carries records of what was sent, and the seats stand for it, whatever was refused.
+pub record SpeaksBy (opening : Option ℕ) (seat : ℕ) (notes : List Note) (moment : ℕ) (delivered : Delivered) (old new : SeatsState)
+    (link later : LinkState) : Type 0 where
   pub far : Far
   pub is_far : far_of (channel_at old.table seat) ≡ Some far
-  pub begun : far.begun ≡ true
+  -- else a handshake was sent before
+  pub begun : opening ≡ None → far.begun ≡ true
   pub before : SeatState
   pub after : SeatState
   pub there : slice_get old.seats seat ≡ Some before
-  pub is : new ≡ record old { table = with_sent old.table seat delivered.sent old.moment; seats = slice_set old.seats seat after }
-  pub delivers : Delivers (way_of old far moment) notes [] (record { seat = before; link = link; so_far = none_delivered })
+  pub is : new ≡ record old { table = with_sent old.table seat (is_some opening) delivered.sent old.moment; seats = slice_set old.seats seat after }
+  pub goes : Goes opening (way_of old far moment) notes (record { seat = before; link = link; so_far = none_delivered })
       (record { seat = after; link = later; so_far = delivered })
-  pub gained : GainsRecords link.traffic (records_of (way_of old far moment) delivers.batches) later.traffic
+  pub added : List Record
+  pub added_are : added ≡ records_by opening (way_of old far moment) notes (record { seat = before; link = link; so_far = none_delivered })
+      (record { seat = after; link = later; so_far = delivered }) goes
+  pub gained : GainsRecords link.traffic added later.traffic
   pub stands : (x : Setting) (most : ℕ) (past : List Record) (held : ℕ → Bool) → StandsFor x most old past → HoldsAnnounced x held past
-      → MaySay held notes before
-      → StandsFor (with_told seat notes x) (most + delivered.refused) new (records_of (way_of old far moment) delivers.batches ++ past)
+      → MaySay held notes before → StandsFor (with_told seat notes x) (most + delivered.refused) new (added ++ past)
   -- what was announced then is in the set too
   pub announced : (x : Setting) (most : ℕ) (past : List Record) (held : ℕ → Bool) → StandsFor x most old past → HoldsAnnounced x held past
-      → MaySay held notes before → HoldsAnnounced (with_told seat notes x) held (records_of (way_of old far moment) delivers.batches ++ past)
+      → MaySay held notes before → HoldsAnnounced (with_told seat notes x) held (added ++ past)
+
+abbrev pub Speaks : ℕ → List Note → ℕ → Delivered → SeatsState → SeatsState → LinkState → LinkState → Type 0
+Speaks seat notes moment delivered old new link later = SpeaksBy (opening_at old seat) seat notes moment delivered old new link later
 
 -- Nothing can be said on a seat that is free, or whose peer's number isn't known, or to which no handshake was sent.
 abbrev pub IsSilent : Option Far → Type 0
 IsSilent None = Unit {0}
 IsSilent (Some far) = far.begun ≡ false
+
+-- Nor can it where no handshake was sent and none is due.
+abbrev pub IsMute : (opening : Option ℕ) → Option Far → Type 0
+IsMute opening None = Unit {0}
+IsMute opening (Some far) = (opening ≡ None) × (far.begun ≡ false)

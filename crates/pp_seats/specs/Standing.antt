@@ -9,7 +9,7 @@ use Rattle.pp_channels.specs.Seats.{Seats, channel_at}
 use Rattle.pp_channels.specs.declared.channel.Channel.{Channel}
 use Rattle.pp_lives.specs.Reading.{is_waiting}
 use Rattle.pp_lives.specs.Standing.{Standing, AllBegun}
-use Rattle.pp_seat.specs.Seats.{SeatState}
+use Rattle.pp_seat.specs.Seats.{SeatState, IsFresh}
 use Rattle.pp_seat.specs.Follows.{Frame, Lost, Follows}
 use Rattle.pp_seat.specs.Frames.{frame_of, tale_of}
 use Rattle.pp_seat.specs.Awaited.{AreAwaited}
@@ -54,6 +54,10 @@ pub record IsFollowed (x : SeatSetting) (most : ℕ) (s : SeatState) (life : Lif
 -- Each seat is one of a content of so many chunks.
 abbrev pub AllHold : ℕ → List SeatState → Type 0
 AllHold chunks seats = (n : ℕ) (s : SeatState) → slice_get seats n ≡ Some s → s.told.chunks ≡ chunks
+
+-- On no seat's channel anything was said yet.
+abbrev pub AllFresh : List SeatState → Type 0
+AllFresh seats = (n : ℕ) (s : SeatState) → slice_get seats n ≡ Some s → IsFresh false s
 
 -- So it is with each seat on whose channel the other peer's number is known, and with the channel's life.
 abbrev pub EachKnown : Seats → (ℕ → Option Life) → List SeatState → (ℕ → SeatState → Life → Type 0) → Type 0

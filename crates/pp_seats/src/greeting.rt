@@ -10,8 +10,8 @@ use pp_draft::Receiver;
 use pp_outside::{Address, Disk, Link};
 
 impl Seats {
-    /// Sends this peer's handshake on a seat's channel: the reply where the other peer opened it, another one where a dial awaits its
-    /// reply. Answers whether the link took it; where it didn't, the handshake stays due.
+    /// Sends this peer's handshake alone on a seat's channel: another one where a dial awaits its reply, or the reply where the other
+    /// peer opened it, which `speak` sends with what follows it. Answers whether the link took it; where it didn't, the handshake stays due.
     pub fn greet<D: Disk, L: Link>(&mut self, seat: u8, disk: &D, link: &mut L) -> bool
         ensures { IsGreeted seat (moment_of (D.state disk.now).history) result self.old self.new (L.seen link.old) (L.seen link.new) }
     {

@@ -1,12 +1,16 @@
 //! What can be read of the channels.
 
-ghost use Rattle.std.specs.Prelude.{◌≡◌, IsSome};
-ghost use Rattle.pp_channels.specs.Seats.{IsUsedSeat, channel_at, used_of};
+ghost use Rattle.std.specs.Prelude.{◌≡◌, IsSome, is_some, position};
+ghost use Rattle.std.specs.List.{list_any};
+ghost use Rattle.pp_terms.specs.format.Descriptor.{chunks_of};
+ghost use Rattle.pp_channels.specs.Seats.{IsUsedSeat, channel_at, has_address, is_found, used_of};
 ghost use Rattle.pp_lives.specs.Fars.{far_of};
 ghost use Rattle.pp_seats.specs.Reading.{is_due_at, is_silent_at};
+ghost use Rattle.pp_seats.specs.Standing.{AllHold};
 
 use crate::seats::Seats;
 use pp_lives::Far;
+use pp_outside::Address;
 
 impl Seats {
     /// Where a seat's datagrams go, and how far its channel has come: None where the seat is free, or the other peer's number isn't
@@ -14,6 +18,7 @@ impl Seats {
     pub fn far(&self, seat: u8) -> Option<Far>
         ensures exact { result ≡ far_of (channel_at self.now.table seat) }
         ensures used { IsSome result → IsUsedSeat self.now.table seat }
+        ensures content { AllHold (chunks_of self.now.descriptor) self.now.seats }
     {
         self.lives.far(seat)
     }
@@ -37,6 +42,20 @@ impl Seats {
             Some(_) => self.lives.is_silent(seat, self.moment),
             None => false,
         }
+    }
+
+    /// Whether a channel has the address.
+    pub fn has_address(&self, address: &Address) -> bool
+        ensures { result ≡ list_any (has_address address.now) self.now.table.channels }
+    {
+        self.lives.has_address(address)
+    }
+
+    /// Whether a channel has that number, of this peer's, and that address.
+    pub fn owns(&self, number: u32, address: &Address) -> bool
+        ensures { result ≡ is_some (position (is_found number address.now) self.now.table.channels) }
+    {
+        self.lives.owns(number, address)
     }
 
     /// How many channels there are.

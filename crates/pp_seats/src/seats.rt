@@ -10,7 +10,7 @@ ghost use Rattle.pp_channels.specs.Seats.{IsUsedSeat, closed};
 ghost use Rattle.pp_lives.specs.Arriving.{Arrives, IsSeated, IsBehind};
 ghost use Rattle.pp_wire.specs.Views.{message_of};
 ghost use Rattle.pp_desk.specs.Hearing.{IsNoData, Hears};
-ghost use Rattle.pp_seats.specs.Standing.{Setting, AllHold, StandsFor};
+ghost use Rattle.pp_seats.specs.Standing.{Setting, AllHold, AllFresh, StandsFor};
 ghost use Rattle.pp_seats.specs.Hearing.{HearsAll, Begins, IsShown, Prepares, Ready, OnceRead, ChangesSeat, IsAnswered, looked_up};
 
 use pp_counts::Note;
@@ -58,7 +58,7 @@ fn new_seats(alloc: Global, chunks: u32, size: u32) -> Result<Vec<Seat>, AllocEr
     requires most { chunks ≤ 2 ^ 20 }
     requires positive { 0 < size }
     requires size { size ≤ 8192 }
-    ensures { IfOk result (λ v. (length v.items ≡ 64) × AllHold chunks v.items) }
+    ensures { IfOk result (λ v. (length v.items ≡ 64) × AllHold chunks v.items × AllFresh v.items) }
 {
     let mut seats = Vec::with_capacity(alloc, SEATS)?;
     for _ in 0..SEATS {
@@ -81,6 +81,7 @@ impl Seats {
     pub fn new(alloc: Global, descriptor: &Descriptor, seed: [u8; 32]) -> Result<Seats, AllocError>
         ensures swarm { IfOk result (λ s. s.descriptor ≡ descriptor.now) }
         ensures table { IfOk result (λ s. s.table ≡ record { channels = replicate 64 None; numbers = of_seed seed }) }
+        ensures seats { IfOk result (λ s. AllFresh s.seats) }
         ensures now { IfOk result (λ s. s.moment ≡ 0) }
     {
         Ok(Seats {

@@ -1,6 +1,8 @@
 //! Seats by datagrams. The swarm is that of the content `abc`, of one chunk; with a seed of zeros the first channels have the numbers
 //! ade0b876 and 903df1a0, by the first test vector of ChaCha20 (RFC 8439, appendix A.1).
 ghost use Rattle.std.specs.Prelude.{◌≡◌};
+ghost use Rattle.pp_desk.specs.Steps.{IsPlain};
+ghost use Rattle.pp_draft.specs.Notes.{IsInside};
 
 use crate::{Seats, Served};
 use pp_counts::Note;
@@ -51,6 +53,16 @@ fn opened(alloc: Global) -> Result<Seats, Fail> {
     Ok(seats)
 }
 
+// Says one thing on the first channel: how many datagrams were sent, and how many refused.
+fn says(seats: &mut Seats, note: Sent, link: &mut MemoryLink) -> Option<(u32, u32)>
+    requires plain { IsPlain note }
+    requires inside { IsInside seats.old.descriptor note }
+    ensures { seats.new.descriptor ≡ seats.old.descriptor }
+{
+    let delivered = seats.speak(0, &[note], &NullDisk::new(), link)?;
+    Some((delivered.sent, delivered.refused))
+}
+
 #[test]
 fn a_channel_is_opened_and_greeted(rt: HostRuntime) -> Result<(), Fail> {
     let mut seats = Seats::new(rt.alloc(), &swarm()?, [0; 32])?;
@@ -60,15 +72,22 @@ fn a_channel_is_opened_and_greeted(rt: HostRuntime) -> Result<(), Fail> {
         Arrival::Opened { seat: 0, next: 64 }
     );
     seats.taken();
-    // Nothing can be said before the reply.
+    assert!(rt; !seats.greet(1, &NullDisk::new(), &mut link));
     assert_eq!(rt;
-        seats.speak(0, &[Sent::KeepAlive], &NullDisk::new(), &mut link),
+        seats.speak(1, &[Sent::Choke], &NullDisk::new(), &mut link),
         None
     );
-    assert!(rt; seats.greet(0, &NullDisk::new(), &mut link));
-    assert!(rt; !seats.greet(1, &NullDisk::new(), &mut link));
-    assert_eq!(rt; link.sent(), 1);
-    assert_eq!(rt; link.sent_bytes(0)[..], handshake(THEIRS, OURS)[..]);
+    // The reply stays due where it was refused, and nothing goes behind it.
+    link.fail_next(Call::Send);
+    assert_eq!(rt; says(&mut seats, Sent::Choke, &mut link), Some((0, 1)));
+    assert_eq!(rt; link.sent(), 0);
+    assert_eq!(rt; says(&mut seats, Sent::Choke, &mut link), Some((1, 0)));
+    let bytes = link.sent_bytes(0);
+    assert_eq!(rt; bytes.len(), 65);
+    assert_eq!(rt; bytes[..64], handshake(THEIRS, OURS)[..]);
+    assert_eq!(rt; bytes[64..], [10][..]);
+    assert_eq!(rt; says(&mut seats, Sent::Unchoke, &mut link), Some((1, 0)));
+    assert_eq!(rt; link.sent_bytes(1)[..], [0x0a, 0x0b, 0x0c, 0x0d, 11][..]);
     Ok(())
 }
 

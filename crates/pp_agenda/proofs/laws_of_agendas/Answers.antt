@@ -1,5 +1,8 @@
-use Rattle.pp_agenda.proofs.Agreeing.{may_be_said, covers_news, covers_rows, knows_no_more, exchanges_all, cancels_all, chokes_where_due, never_silent}
+use Rattle.pp_agenda.proofs.Agreeing.{all_may_go, may_be_said, covers_news, covers_rows, knows_no_more, exchanges_all, cancels_all, chokes_where_due, never_silent}
 use Rattle.pp_agenda.proofs.laws_of_agendas.Goals as goal
+
+pub returns-clause-goes : goal.returns-clause-goes
+returns-clause-goes c = all_may_go
 
 pub returns-clause-said : goal.returns-clause-said
 returns-clause-said c = may_be_said

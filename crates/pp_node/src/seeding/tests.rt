@@ -11,6 +11,7 @@ use std::test::Fail;
 
 mod counting;
 mod cutting;
+mod fetching;
 mod methods;
 mod refusing;
 mod trees;
@@ -183,15 +184,26 @@ impl Ran {
         Ok(false)
     }
 
-    // Whether that one is the reply, with the news that the chunk is there.
+    // Whether that one is the reply, and behind it the news that the chunk is there.
     fn has_replied(&self, n: usize) -> Result<bool, AllocError> {
         self.has_sent(n, &[&ANSWER, &OPTIONS, &HAVE])
+    }
+
+    // Whether that one closes the channel.
+    fn has_closed(&self, n: usize) -> Result<bool, AllocError> {
+        self.has_sent(n, &[&THEIRS, &[0, 0, 0, 0, 0, 0xff]])
     }
 
     // Whether that one is the chunk behind its hash, with this time.
     fn has_served(&self, n: usize, time: u64) -> Result<bool, AllocError> {
         let time = time.to_be_bytes();
         self.has_sent(n, &[&THEIRS, &INTEGRITY, &ROOT, &DATA, &time, b"abc"])
+    }
+
+    // Whether that one is the chunk alone, for a peer that acknowledged it and so has its hash.
+    fn has_served_again(&self, n: usize, time: u64) -> Result<bool, AllocError> {
+        let time = time.to_be_bytes();
+        self.has_sent(n, &[&THEIRS, &DATA, &time, b"abc"])
     }
 
     // Whether the sink has this line, behind another one.
@@ -253,13 +265,13 @@ fn audit(
     audit_entries(alloc, descriptor, book, &entries)
 }
 
-// The datagram of the last record.
+// The datagram of the last record but one, behind which the channel is closed.
 fn last_bytes(link: &MemoryLink) -> &[u8] {
     let count = link.marks();
-    if count == 0 {
+    if count < 2 {
         return &[];
     }
-    link.mark_bytes(count - 1)
+    link.mark_bytes(count - 2)
 }
 
 #[test]
@@ -270,9 +282,10 @@ fn seeds_one_chunk(rt: HostRuntime) -> Result<(), Fail> {
     coming.add(&[&OURS, &REQUEST])?;
     let ran = coming.seed(&mut disk)?;
     assert_eq!(rt; ran.status, 0);
-    assert_eq!(rt; ran.link.sent(), 2);
+    assert_eq!(rt; ran.link.sent(), 3);
     assert!(rt; ran.has_replied(0)?);
     assert!(rt; ran.has_served(1, BEGIN + 1)?);
+    assert!(rt; ran.has_closed(2)?);
     assert_eq!(rt; ran.serves, Some(true));
     assert_eq!(rt; disk.bytes(), store_of_abc().as_slice());
     Ok(())
@@ -297,6 +310,7 @@ fn audits_a_changed_byte(rt: HostRuntime) -> Result<(), Fail> {
     assert_eq!(rt; *byte, b'c');
     *byte = b'b';
     let mut entries = entries_of(alloc, &ran.link)?;
+    let _closing = entries.pop();
     let Some(Entry::Sent { moment, to, .. }) = entries.pop() else {
         return Err("nothing was sent last".into());
     };

@@ -1,30 +1,40 @@
-use Rattle.std.proofs.Common.{◌∙◌, ◌-◌, length, take, drop, arith}
-use Rattle.std.proofs.lemmas.List.{length-take, length-drop}
-use Rattle.pp_desk.proofs.Delivering.{rest_of, delivers_more, delivers_all, follow_chunks, counted_sum}
+use Rattle.std.proofs.Common.{Bool, true, false, Option, ℕ, ◌+◌, List, [], sym, ◌∙◌, ap, subst, take, drop, length, ◌-◌}
+use Rattle.std.proofs.lemmas.Bool.{not-false}
+use Rattle.pp_terms.specs.disk.Disk.{moment_of}
+use Rattle.pp_terms.specs.format.Traffic.{LinkState}
+use Rattle.pp_outside.specs.Outside.{address_of}
+use Rattle.pp_draft.specs.declared.note.Note.{Note}
+use Rattle.pp_draft.specs.Posts.{PostsBehind, Sends}
+use Rattle.pp_desk.specs.Delivers.{Way, At, Goes, Delivers, none_delivered}
+use Rattle.pp_desk.proofs.Saying.{after_chunks}
+use Rattle.pp_desk.proofs.Delivering.{rest_of, opens_with}
 use Rattle.pp_desk.proofs.delivery.deliver.Goals as goal
 
-pub loop-from-preserved : goal.loop-from-preserved
-loop-from-preserved g c =
-    let notes = c.args.outgoing.now.notes.now in
-    let from = c.loop-from.from in
-    let rest = take (length notes - from) (drop from notes) in
-    let count = c.post-posted.result.count in
-    let within = c.post-posted.ensures.packs.within in
-    let some = c.post-posted.ensures.packs.some in
-    let more = counted_sum c.post-posted.result.sent (take count rest) c.loop-from.so_far c.follow-so_far.result c.follow-so_far.ensures.counted in
-    record {
-      within = omega (arith, within, c.loop-from.invariant.within, length-drop from notes, length-take (length notes - from) (drop from notes));
-      few = omega (arith, some, more, c.loop-from.invariant.few);
-      chunks = follow_chunks c.args.outgoing.now.sent_at c.loop-from.so_far.set_back c.post-posted.result.sent (take count rest) c.loop-from.seat c.follow-so_far.new.seat
-          c.follow-so_far.ensures.follows ∙ c.loop-from.invariant.chunks;
-      size = c.post-posted.auto.out ∙ c.loop-from.invariant.size;
-      delivers = delivers_more _ notes rest from count c.post-posted.result.sent _ _ _
-          (rest_of notes from) c.loop-from.invariant.delivers c.post-posted.ensures c.follow-so_far.ensures.follows c.follow-so_far.ensures.counted;
-    }
+pub deliver_notes-delivered-requires-clause-content : goal.deliver_notes-delivered-requires-clause-content
+deliver_notes-delivered-requires-clause-content g c =
+    after_chunks c.args.outgoing.now.sent_at false (take c.post_reply-posted.result.count c.args.outgoing.now.notes.now) c.args.seat.now c.said_all.new.seat c.said_all.ensures.after ∙ c.requires.content
 
-pub returns : goal.returns
-returns g c = record {
-  delivers = delivers_all _ c.args.outgoing.now.notes.now c.loop-from.from _ _ (omega (arith, c.loop-from-test.false)) c.loop-from.invariant.delivers;
-  few = omega (arith, c.loop-from.invariant.few, c.loop-from.invariant.within);
-  content = c.loop-from.invariant.chunks;
-}
+pub returns-clause-goes : goal.returns-clause-goes
+returns-clause-goes g c =
+    let notes = c.args.outgoing.now.notes.now in
+    let count = c.post_reply-posted.result.count in
+    let link = g.L.Link.seen c.args.link.now in
+    let between = g.L.Link.seen c.post_reply-posted.new.link in
+    let w : Way = record { d = c.args.descriptor.now; receiver = address_of c.args.outgoing.now.to.address; channel = c.args.outgoing.now.to.channel; moment = moment_of (g.D.Disk.state c.args.disk.now).history; now = c.args.outgoing.now.sent_at } in
+    let from : At = record { seat = c.args.seat.now; link = link; so_far = none_delivered } in
+    let to : At = record { seat = c.deliver_notes-delivered.new.seat; link = g.L.Link.seen c.deliver_notes-delivered.new.link; so_far = record c.deliver_notes-delivered.result { sent = c.deliver_notes-delivered.result.sent + 1 } } in
+    subst (λ (o : Option ℕ). Goes o w notes from to) (sym c.in-Some.is) (
+      true,
+      opens_with w c.in-Some.source count notes c.args.seat.now c.said_all.new.seat c.deliver_notes-delivered.new.seat link between (g.L.Link.seen c.deliver_notes-delivered.new.link)
+          c.deliver_notes-delivered.result
+          (subst (λ (b : Bool). PostsBehind w.d w.channel c.in-Some.source notes count (λ bytes. Sends w.receiver bytes w.moment link between b)) (not-false c.post_reply-posted.result.sent c.if-not-posted.false)
+          c.post_reply-posted.ensures)
+          c.said_all.ensures
+          (subst (λ (ns : List Note). Delivers w ns [] (record { seat = c.said_all.new.seat; link = between; so_far = none_delivered })
+          (record { seat = c.deliver_notes-delivered.new.seat; link = g.L.Link.seen c.deliver_notes-delivered.new.link; so_far = c.deliver_notes-delivered.result })) (rest_of notes count)
+          c.deliver_notes-delivered.ensures.delivers),
+    )
+
+pub returns-clause-content : goal.returns-clause-content
+returns-clause-content g c = c.deliver_notes-delivered.ensures.content
+    ∙ after_chunks c.args.outgoing.now.sent_at false (take c.post_reply-posted.result.count c.args.outgoing.now.notes.now) c.args.seat.now c.said_all.new.seat c.said_all.ensures.after

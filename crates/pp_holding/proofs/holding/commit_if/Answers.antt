@@ -1,9 +1,11 @@
-use Rattle.std.proofs.Common.{Bool, ap, sym, ◌∙◌}
+use Rattle.std.proofs.Common.{Bool, ap, sym, ◌∙◌, subst}
 use Rattle.std.specs.Prelude.{count_by, if◌then◌else◌}
 use Rattle.pp_terms.specs.disk.Disk.{DiskState}
 use Rattle.pp_promises.specs.Batches.{after_commit}
 use Rattle.pp_holding.specs.Queue.{QueueState}
-use Rattle.pp_holding.specs.Holding.{batch_from}
+use Rattle.pp_store.specs.Store.{StoreState}
+use Rattle.pp_holding.specs.Holding.{batch_from, AreCommitted}
+use Rattle.pp_holding.proofs.Committed.{committed_same, committed_more, committed_released}
 use Rattle.pp_holding.proofs.Images.{commit_lengthens, refused_lengthens}
 use Rattle.pp_holding.proofs.Advancing.{commit_advances, refused_advances}
 use Rattle.pp_holding.proofs.Waitings.{batch_committed}
@@ -32,3 +34,21 @@ returns-in-Ok-clause-batch g c =
     ap (λ (q : QueueState). batch_from c.commit.new.self q.waiting) c.release.ensures
     ∙ batch_committed c.args.store.now c.commit.new.self c.args.queue.now.waiting c.requires.waits c.in-Ok.ensures.committed
     ∙ ap (λ (b : Bool). if b then after_commit before else before) (sym c.if-not-is_due.false)
+
+pub returns-in-Ok-clause-came : goal.returns-in-Ok-clause-came
+returns-in-Ok-clause-came g c came =
+    subst (λ (q : QueueState). AreCommitted c.commit.new.self q.tickets) (sym c.release.ensures)
+    (committed_released c.args.store.now c.commit.new.self c.args.queue.now c.requires.waits c.in-Ok.ensures.committed came)
+
+pub returns-in-Ok-clause-again : goal.returns-in-Ok-clause-again
+returns-in-Ok-clause-again g c again =
+    subst (λ (q : QueueState). AreCommitted c.commit.new.self q.repeats) (sym c.release.ensures)
+    (committed_more c.args.store.now c.commit.new.self c.args.queue.now.repeats c.in-Ok.ensures.committed again)
+
+pub returns-in-Err-clause-came : goal.returns-in-Err-clause-came
+returns-in-Err-clause-came g c came =
+    committed_same c.args.store.now c.commit.new.self c.args.queue.now.tickets (ap (λ (s : StoreState). s.committed) c.in-Err.ensures.dead) came
+
+pub returns-in-Err-clause-again : goal.returns-in-Err-clause-again
+returns-in-Err-clause-again g c again =
+    committed_same c.args.store.now c.commit.new.self c.args.queue.now.repeats (ap (λ (s : StoreState). s.committed) c.in-Err.ensures.dead) again

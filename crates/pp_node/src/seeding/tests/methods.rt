@@ -31,7 +31,7 @@ fn serves_by(
         &mut MemoryDisk::new(alloc, &store_of_abc())?,
     )?;
     assert_eq!(rt; ran.status, 0, "method {number}");
-    assert_eq!(rt; ran.link.sent(), 2, "method {number}");
+    assert_eq!(rt; ran.link.sent(), 3, "method {number}");
     assert!(rt;
         ran.has_sent(0, &[&ANSWER, &options, &[3], name])?,
         "method {number}"

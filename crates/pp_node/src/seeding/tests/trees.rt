@@ -141,7 +141,7 @@ fn has_path(alloc: Global, ran: &Ran) -> Result<bool, AllocError> {
     Ok(joined(alloc, &parts)?.len() == 1250 && ran.has_sent(1, &parts)?)
 }
 
-// The reply has 73 bytes and announces all seven; chunk 0 goes behind the hashes of its path, in 1,250 bytes.
+// The reply goes, all seven chunks are announced behind it, and chunk 0 goes behind the hashes of its path, in 1,250 bytes.
 #[test]
 fn sends_a_chunk_behind_its_path(rt: HostRuntime) -> Result<(), Fail> {
     let alloc = rt.alloc();
@@ -151,10 +151,11 @@ fn sends_a_chunk_behind_its_path(rt: HostRuntime) -> Result<(), Fail> {
     coming.add(&[&OURS, &named(8, 0, 0)])?;
     let ran = seed_seven(coming, &mut disk)?;
     assert_eq!(rt; ran.status, 0);
-    assert_eq!(rt; ran.link.sent(), 2);
-    assert!(rt; ran.has_sent(0, &[&ANSWER, &BEFORE, &SEVEN, &BEHIND, &named(3, 0, 6)])?);
+    assert_eq!(rt; ran.link.sent(), 3);
+    let reply: [&[u8]; 5] = [&ANSWER, &BEFORE, &SEVEN, &BEHIND, &named(3, 0, 6)];
+    assert!(rt; joined(alloc, &reply)?.len() == 73 && ran.has_sent(0, &reply)?);
     assert!(rt; has_path(alloc, &ran)?);
-    assert!(rt; ran.has_said("sent 2\n")?);
+    assert!(rt; ran.has_said("sent 3\n")?);
     Ok(())
 }
 
@@ -170,7 +171,7 @@ fn sends_two_chunks_and_waits(rt: HostRuntime) -> Result<(), Fail> {
     coming.add(&[&OURS, &named(2, 2, 3), &[0; 8]])?;
     let ran = seed_seven(coming, &mut disk)?;
     assert_eq!(rt; ran.status, 0);
-    assert_eq!(rt; ran.link.sent(), 5);
+    assert_eq!(rt; ran.link.sent(), 6);
     for (i, want) in [(0, 0), (1, 0), (2, 1), (3, 1), (4, 0), (5, 1), (6, 1)] {
         assert_eq!(rt; count_of(&ran, i)?, want, "chunk {i}");
     }
@@ -188,7 +189,7 @@ fn sends_no_changed_chunk(rt: HostRuntime) -> Result<(), Fail> {
     coming.add(&[&OURS, &named(8, 2, 2)])?;
     let ran = seed_seven(coming, &mut disk)?;
     assert_eq!(rt; ran.status, 0);
-    assert_eq!(rt; ran.link.sent(), 1);
+    assert_eq!(rt; ran.link.sent(), 2);
     assert!(rt; ran.sink.bytes().starts_with(b"held 7 of 7 0-6\n"));
     assert!(rt; ran.has_said("damaged 1\n")?);
     Ok(())

@@ -6,7 +6,7 @@ use Rattle.pp_store.specs.Sound.{IsGated}
 use Rattle.pp_store.specs.Store.{is_committed, AllStand}
 use Rattle.pp_promises.specs.Batches.{most_pending}
 use Rattle.pp_holding.specs.Queue.{QueueState, HasRoom}
-use Rattle.pp_holding.specs.Holding.{HasWaiting}
+use Rattle.pp_holding.specs.Holding.{HasWaiting, AreCommitted}
 use Rattle.pp_holding.proofs.Advancing.{known_kept}
 use Rattle.pp_holding.proofs.Begins.{begun_waiting, begun_kept}
 use Rattle.pp_holding.proofs.holding.Holding.open.Goals as goal
@@ -26,6 +26,8 @@ invariant_of-result g c =
             (begun_waiting c.in-Ok-open.store (none g c) (c.in-Ok-open.ensures.found.count ∙ ap (λ (d : Descriptor). chunks_of d) (sym same)));
         few = λ live. subst (λ (q : QueueState). length q.waiting < most_pending) (sym queue) (omega arith);
         room = subst (λ (q : QueueState). HasRoom q) (sym queue) (record { tickets = omega arith; repeats = omega arith });
+        came = subst (λ (q : QueueState). AreCommitted c.in-Ok-open.store q.tickets) (sym queue) tt;
+        again = subst (λ (q : QueueState). AreCommitted c.in-Ok-open.store q.repeats) (sym queue) tt;
       },
     )
 

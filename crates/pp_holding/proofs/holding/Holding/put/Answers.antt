@@ -1,4 +1,4 @@
-use Rattle.std.proofs.Common.{◌<◌, Bool, List, length, ap, sym, ◌∙◌, subst, arith}
+use Rattle.std.proofs.Common.{◌≡◌, ◌<◌, Bool, List, length, ap, sym, ◌∙◌, subst, arith}
 use Rattle.pp_terms.specs.tree.Book.{IsRooted}
 use Rattle.pp_tree.specs.Book.{entry, IsBookOf}
 use Rattle.pp_terms.specs.tree.Claims.{latest}
@@ -6,6 +6,7 @@ use Rattle.pp_terms.specs.format.Descriptor.{Descriptor, chunks_of}
 use Rattle.pp_holding.specs.Stock.{Advances}
 use Rattle.pp_holding.specs.Holding.{HoldingState, stock_of}
 use Rattle.pp_holding.proofs.Advancing.{put_advances}
+use Rattle.pp_holding.proofs.Committed.{committed_same}
 use Rattle.pp_holding.proofs.Puts.{live_after, same_committed, held_on, waiting_after, dead_after, few_tickets, PutDone, put_done}
 use Rattle.pp_holding.proofs.Tying.{book_on, tied_refused, tied_after}
 use Rattle.pp_holding.proofs.holding.Holding.put.Goals as goal
@@ -96,6 +97,9 @@ returns-clause-room g c = (done g c).room
 pub returns-clause-advances : goal.returns-clause-advances
 returns-clause-advances g c = (done g c).advances
 
+same_set : (g : _) (c : goal.After-heed g) → c.put.new.self.committed ≡ c.self.inside.store.committed
+same_set g c = same_committed c.put.result c.args.parcel.now.ticket.chunk c.self.inside.store c.put.new.self c.put.ensures.store c.put.ensures.dead
+
 pub invariant_of-self-2 : goal.invariant_of-self-2
 invariant_of-self-2 g c = (
   c.self.invariant.0 ∙ ap (λ (d : Descriptor). chunks_of d) (sym (c.heed.ensures.descriptor ∙ c.put.ensures.descriptor)),
@@ -105,5 +109,7 @@ invariant_of-self-2 g c = (
       (c.heed.ensures.knows (entry c.put.new.book) (c.put.ensures.knows c.self.invariant.1.knows)) c.heed.ensures.waits c.heed.ensures.few
       (dead_after c.heed.result c.put.new.self c.heed.new.store _ c.heed.new.queue c.heed.ensures.dead) (few_tickets c.heed.result c.in_ok-put.put _ c.args.parcel.now.ticket c.args.parcel.now.at c.put.new.self c.heed.new.store
       c.self.inside.queue c.heed.new.queue c.self.invariant.1.room
-      c.heed.ensures.queue c.heed.ensures.dead),
+      c.heed.ensures.queue c.heed.ensures.dead)
+      (c.heed.ensures.came (committed_same c.self.inside.store c.put.new.self c.self.inside.queue.tickets (same_set g c) c.self.invariant.1.came))
+      (c.heed.ensures.again (committed_same c.self.inside.store c.put.new.self c.self.inside.queue.repeats (same_set g c) c.self.invariant.1.again)),
 )

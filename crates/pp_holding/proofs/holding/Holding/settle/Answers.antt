@@ -17,7 +17,8 @@ invariant_of-self g c = (
       (c.self.invariant.1.few (sym c.is_live.ensures ∙ c.if-not-is_live.false)) c.commit_if.ensures.queue)
       (dead_settled c.commit_if.result c.self.inside.store c.commit_if.new.store c.self.inside.queue c.commit_if.new.queue c.commit_if.ensures.dead)
       (room_settled c.commit_if.result c.is_due-is_due.result c.self.inside.store c.commit_if.new.store c.self.inside.queue c.commit_if.new.queue c.self.invariant.1.room
-      c.commit_if.ensures.queue c.commit_if.ensures.dead),
+      c.commit_if.ensures.queue c.commit_if.ensures.dead)
+      (c.commit_if.ensures.came c.self.invariant.1.came) (c.commit_if.ensures.again c.self.invariant.1.again),
 )
 
 pub returns-clause-nothing : goal.returns-clause-nothing

@@ -7,16 +7,22 @@ use Rattle.pp_terms.specs.format.Traffic.{Received}
 use Rattle.pp_outside.specs.Outside.{address_of}
 use Rattle.pp_peer.specs.Taking.{after_some}
 use Rattle.pp_peer.specs.declared.parts.Parts.{Parts}
+use Rattle.pp_peer.specs.Standing.{size_of}
 use Rattle.pp_peer.proofs.Heard.{ok_then}
 use Rattle.pp_peer.proofs.Fetched.{arrived_fetches}
 use Rattle.pp_peer.proofs.Arrived.{arrival_counts, datagram_advanced, stocks_from, once_heard}
+use Rattle.pp_peer.proofs.Events.{datagram_exact}
 use Rattle.pp_peer.proofs.parts.Parts.take_datagram.Goals as goal
 
 pub returns-clause-advanced : goal.returns-clause-advanced
 returns-clause-advanced g c = datagram_advanced c.args.bytes.now c.args.self.now c.note.new.self c.take_arrival.new.self _ (g.D.Disk.state c.args.disk.now) (g.D.Disk.state c.take_arrival.new.disk)
     (ap (λ (p : Parts). p.holding) c.note.ensures)
     (ap (λ (p : Parts). p.counts) c.note.ensures ∙ ap (λ (o : Option Note). after_some o c.args.self.now.counts) c.note_of.ensures)
-    (arrival_counts _ _ _ _ _ c.args.bytes.now c.args.self.now.counts c.arrive-arrival.result c.arrive-arrival.ensures.arrives) c.take_arrival.ensures.advanced
+    (arrival_counts _ _ _ _ _ c.args.bytes.now c.args.self.now.counts c.arrive-arrival.result c.arrive-arrival.ensures.arrives)
+    (record {
+      swarm = ap (λ (p : Parts). p.seats.descriptor) c.note.ensures ∙ c.arrive-arrival.ensures.swarm;
+      size = ap (λ (p : Parts). size_of p.fetching) c.note.ensures;
+    }) c.take_arrival.ensures.advanced
 
 pub returns-clause-stocks : goal.returns-clause-stocks
 returns-clause-stocks g c = stocks_from c.take_arrival.result c.args.self.now c.note.new.self c.take_arrival.new.self (ap (λ (p : Parts). p.holding) c.note.ensures) c.take_arrival.ensures.stocks
@@ -35,3 +41,8 @@ returns-clause-fetches g c = ok_then c.take_arrival.result (λ fetches f. fetche
     (subst (λ (p : SeatsState). Prepares c.args.self.now.seats.descriptor c.is_free-slot.result c.arrive-arrival.result (record p { seats = c.args.self.now.seats.seats }) p)
     (sym (ap (λ (p : Parts). p.seats) c.note.ensures)) c.arrive-arrival.ensures.makes)
     (ap (λ (p : Parts). p.fetching) c.note.ensures) f)) c.take_arrival.ensures.fetches
+
+pub returns-clause-exact : goal.returns-clause-exact
+returns-clause-exact g c = datagram_exact c.take_arrival.result c.args.from.now c.args.bytes.now c.args.at c.is_free-slot.result c.arrive-arrival.result c.arrive-arrival.new.self c.note_of.result
+    c.args.self.now c.note.new.self c.take_arrival.new.self c.is_free-slot.ensures c.note.ensures c.note_of.ensures c.arrive-arrival.ensures.now c.arrive-arrival.ensures.swarm
+    c.arrive-arrival.ensures.arrives c.arrive-arrival.ensures.makes c.take_arrival.ensures.exact

@@ -1,4 +1,0 @@
-use Rattle.pp_core.proofs.writing.put_have.Goals as goal
-
-pub returns-clause-front : goal.returns-clause-front
-returns-clause-front c channel ms front = c.append.ensures.more channel ms front tt

@@ -1,0 +1,292 @@
+-- What a run of a peer promises, from what it does.
+use Rattle.std.proofs.Common.{◌≡◌, inl, inr, ⊎_elim, ℕ, ◌+◌, ◌<◌, ◌≤◌, Bool, true, false, None, Option, List, [], ◌∷◌, ◌++◌, length, refl, sym, ◌∙◌, ap, subst, arith}
+use Rattle.std.specs.List.{AllByRecursion}
+use Rattle.std.proofs.lemmas.Bool.{cases_lt}
+use Rattle.pp_terms.specs.Count.{HasRisen, capped}
+use Rattle.pp_terms.specs.command.Report.{disk_fault_line}
+use Rattle.pp_terms.specs.disk.Disk.{DiskState, Epoch, IsImage, IsKnown, GainsName, Throughout, moment_of}
+use Rattle.pp_terms.specs.disk.Image.{StandsIn, is_found}
+use Rattle.pp_terms.specs.disk.Sound.{IsSound, BeganSound}
+use Rattle.pp_terms.specs.format.Descriptor.{Descriptor, chunks_of}
+use Rattle.pp_terms.specs.format.Messages.{Datagram}
+use Rattle.pp_terms.specs.format.Traffic.{LinkState, Record, GainsRecords, GainsAddress}
+use Rattle.pp_terms.proofs.Knowing.{known_on}
+use Rattle.pp_terms.proofs.Risings.{risen_less}
+use Rattle.pp_traffic.specs.Committed.{is_in, AreCommitted, RequestsNone}
+use Rattle.pp_traffic.specs.Keeping.{EachAnnounced, StoodThroughout, StandsSince}
+use Rattle.pp_traffic.specs.Life.{closes}
+use Rattle.pp_traffic.specs.Meter.{lets_send}
+use Rattle.pp_traffic.specs.Serving.{ServesAll}
+use Rattle.pp_traffic.specs.Tallied.{TookTurns, IsTallied}
+use Rattle.pp_traffic.specs.Turns.{is_closing}
+use Rattle.pp_promises.specs.Datagrams.{IsWhole, PlansAll}
+use Rattle.pp_promises.specs.Missing.{IsComplete, IsFirstMissing}
+use Rattle.pp_counts.specs.Counts.{tally_of}
+use Rattle.pp_avail.specs.declared.ranker.Rank.{Rank}
+use Rattle.pp_tree.specs.Book.{BookState, entry, IsBookOf}
+use Rattle.pp_lives.specs.declared.lives.Far.{Far}
+use Rattle.pp_store.specs.Store.{StoreState, is_committed}
+use Rattle.pp_holding.specs.Holding.{HoldingState}
+use Rattle.pp_peer.specs.Greeting.{IsFarewell, fars_of}
+use Rattle.pp_peer.specs.Greeting as farewells
+use Rattle.pp_peer.specs.Standing.{Beginning}
+use Rattle.pp_core.specs.Keeping.{IsThere, IsKeeping}
+use Rattle.pp_core.specs.Opening.{WantsIf, beginning}
+use Rattle.pp_core.specs.Peers.{PeerState}
+use Rattle.pp_node.specs.Looking.{IsOf, Lasts}
+use Rattle.pp_node.specs.Outside.{Outside}
+use Rattle.pp_node.specs.Preparing.{IsUnsent, IsReady}
+use Rattle.pp_node.specs.Promising.{IsClosed, HasRun, IsStopped, LeavesFile, Binds, PeerEnds}
+use Rattle.pp_node.specs.Seeding.{words_of, set_of, HasEvery}
+use Rattle.pp_node.specs.Status.{number_of}
+use Rattle.pp_node.specs.Text.{Says}
+use Rattle.pp_node.specs.Turning.{Post, post, IsBegun, Went, TakesTurns, Ends}
+use Rattle.pp_node.specs.declared.preparing.Peering.{Peering}
+use Rattle.pp_node.specs.declared.status.Status.{Status}
+use Rattle.pp_node.proofs.Steps.{each_announced, turns_closed}
+
+-- ---- a peer that was made ready
+
+-- What holds once it was.
+pub record WasReady (w : Peering) (old new : Outside) (opened : DiskState) (listens : LinkState) (first : PeerState) (room : ℕ) : Type 0 where
+  pub ready : IsReady w old.disk opened first room
+  pub unsent : IsUnsent old.link listens
+  pub bound : GainsAddress old.link.bound (words_of w).listen listens.bound
+  pub lasts : IsKnown old.disk → Lasts w.descriptor.now opened.history
+  pub named : IsKnown old.disk → GainsName old.disk.history.names w.store.now opened.history.names
+  pub unread : new.source ≡ old.source
+
+-- A peer's book at the end.
+pub record HasBook (last : PeerState) (book : BookState) : Type 0 where
+  pub book_is : book ≡ last.parts.holding.book
+  pub rooted : IsBookOf last.parts.holding.store.descriptor book
+
+farewell_closes : (d : Descriptor) (moment : ℕ) (fars : ℕ → Option Far) (r : Record) → IsFarewell d moment fars r → is_closing d r ≡ true
+farewell_closes d moment fars r f =
+    subst (λ (x : Record). is_closing d x ≡ true) (sym f.is) (ap (λ (x : Datagram). closes x.messages.read) f.written.read)
+
+farewells_close : (d : Descriptor) (moment : ℕ) (fars : ℕ → Option Far) (xs : List Record) → AllByRecursion (IsFarewell d moment fars) xs
+    → AllByRecursion (λ r. is_closing d r ≡ true) xs
+farewells_close d moment fars [] all = tt
+farewells_close d moment fars (r ∷ xs) all = (farewell_closes d moment fars r all.0, farewells_close d moment fars xs all.1)
+
+module _ (w : Peering) (old new : Outside) (opened : DiskState) (listens : LinkState) (first : PeerState) (room : ℕ)
+    (r : WasReady w old new opened listens first room) where
+  abbrev pub d : Descriptor
+  d = w.descriptor.now
+
+  abbrev pub b : Beginning
+  b = beginning first (moment_of opened.history)
+
+  abbrev pub start : Post
+  start = post first opened listens
+
+  pub has_begun : IsBegun b start
+  has_begun = record { past = omega arith; stands = r.ready.stands; counts = r.ready.begun.counts; live = r.ready.begun.holding.live }
+
+  pub d_is : b.d ≡ d
+  d_is = r.ready.begun.holding.descriptor
+
+  pub known_then : IsKnown old.disk → IsKnown opened
+  known_then = known_on old.disk opened r.ready.tells r.ready.honest
+
+  module _ (taken : ℕ) (last : PeerState) (t : Went b taken start (post last new.disk new.link)) (k : HasBook last new.book) where
+    pub known_before : IsKnown new.disk → IsKnown old.disk
+    known_before known =
+        known_on opened old.disk (sym r.ready.tells) (sym r.ready.honest) (known_on new.disk opened (sym t.advances.disk.tells) (sym t.advances.disk.honest) known)
+
+    pub last_d : last.parts.holding.store.descriptor ≡ d
+    last_d = t.advances.descriptor ∙ d_is
+
+    pub first_same : IsKnown old.disk → new.disk.history.first ≡ opened.history.first
+    first_same known = (t.advances.disk.attachment (known_then known)).first
+
+    pub start_same : IsKnown old.disk → new.disk.history.start ≡ opened.history.start
+    start_same known = (t.advances.disk.attachment (known_then known)).start
+
+    pub found_same : IsKnown old.disk → new.disk.history.found ≡ opened.history.found
+    found_same known = (t.advances.disk.attachment (known_then known)).found
+
+    pub began_then : IsKnown old.disk → BeganSound d new.disk.history → BeganSound d opened.history
+    began_then known began = subst (λ (e : Epoch). (image : List ℕ) → IsImage e image → IsSound d image) (first_same known) began
+
+    pub stood_then : IsKnown old.disk → (i : ℕ) → StoodThroughout d new.disk.history i → StoodThroughout d opened.history i
+    stood_then known i stood = subst (λ (e : Epoch). (image : List ℕ) → IsImage e image → StandsIn d image i) (first_same known) stood
+
+    pub keeping : IsKnown old.disk → BeganSound d new.disk.history → IsKeeping b.since last new.disk t.added
+    keeping known began = t.keeps (r.ready.fresh.kept known (began_then known began))
+
+    pub lasts_now : IsKnown old.disk → Lasts d new.disk.history
+    lasts_now known = record {
+      stood = λ i stood. subst (λ (m : ℕ). StandsSince d new.disk.history m i) (sym (start_same known))
+          (subst (λ (x : Descriptor). (moment : ℕ) → moment ≤ moment_of opened.history → Throughout opened.history moment (λ image. StandsIn x image i)
+          → Throughout new.disk.history moment (λ image. StandsIn x image i)) d_is
+          (t.advances.goes_on (known_then known) i (r.ready.fresh.taken known i (stood_then known i stood)))
+          opened.history.start (r.ready.fresh.started known) ((r.lasts known).stood i (stood_then known i stood)));
+      sound = λ began. subst (λ (m : ℕ). Throughout new.disk.history m (IsSound d)) (sym (start_same known))
+          (subst (λ (x : Descriptor). (moment : ℕ) → moment ≤ moment_of opened.history → Throughout opened.history moment (IsSound x)
+          → Throughout new.disk.history moment (IsSound x)) d_is
+          (t.advances.sound b.since (r.ready.fresh.kept known (began_then known began)).kept)
+          opened.history.start (r.ready.fresh.started known) ((r.lasts known).sound (began_then known began)));
+    }
+
+    pub announced_now : IsKnown old.disk → BeganSound d new.disk.history → EachAnnounced d (StandsSince d new.disk.history) t.added
+    announced_now known began =
+        subst (λ (x : Descriptor). EachAnnounced x (StandsSince x new.disk.history) t.added) last_d
+        (each_announced last.parts.holding.store.descriptor (IsThere last new.disk) (StandsSince last.parts.holding.store.descriptor new.disk.history)
+        (λ moment i at. at.stands) t.added (keeping known began).announced)
+
+    pub rooted_now : IsBookOf d new.book
+    rooted_now = subst (λ (x : Descriptor). IsBookOf x new.book) last_d k.rooted
+
+    pub took_now : TookTurns taken old.link new.link t.added
+    took_now = record {
+      nexts = λ some. t.took.nexts some ∙ ap (λ (n : ℕ). capped (n + taken)) r.unsent.nexts;
+      still = λ none. t.took.still none ∙ r.unsent.nexts;
+      refused = t.took.refused;
+      each = t.took.each;
+      why = ⊎_elim (λ none. inl none) (λ risen. inr (risen_less old.link.faults listens.faults new.link.faults r.unsent.later risen)) t.took.why;
+    }
+
+    pub asks_none_now : w.asks ≡ None → RequestsNone d t.added
+    asks_none_now none = subst (λ (x : Descriptor). RequestsNone x t.added) d_is
+        (t.asks_none (subst (λ (o : Option Rank). WantsIf (chunks_of d) (is_committed first.parts.holding.store) o first.parts.fetching) none r.ready.begun.fetching))
+
+    pub begins_now : IsKnown old.disk → IsOf d new.disk.history.found
+    begins_now known = subst (IsOf d) (sym (found_same known)) (r.ready.fresh.begins known)
+
+    abbrev pub peer_ends : (status : Status) → Binds status (words_of w).listen old.link new.link → LeavesFile status old new → PeerEnds (number_of status) (words_of w) old new
+    peer_ends status bound leaves = record {
+      status = status;
+      number = refl;
+      added = t.added;
+      gained = subst (λ (o : Option (List Record)). GainsRecords o t.added new.link.traffic) r.unsent.traffic t.gained;
+      serves = subst (λ (x : BookState). ServesAll d (entry x) (lets_send d.chunk) t.added) (sym k.book_is)
+          (subst (λ (x : Descriptor). ServesAll x (entry last.parts.holding.book) (lets_send x.chunk) t.added) d_is t.ledger.served);
+      plans = subst (λ (x : Descriptor). PlansAll x (lets_send x.chunk) t.added) d_is t.ledger.plans;
+      whole = subst (λ (x : Descriptor). AllByRecursion (IsWhole x) t.added) d_is t.whole;
+      keeps = λ known. record { held = (lasts_now known).stood; announced = announced_now known };
+      lasts = lasts_now;
+      named = λ known. subst (λ (o : Option (List (List ℕ))). GainsName old.disk.history.names w.store.now o)
+          (sym (t.advances.disk.attachment (known_then known)).names) (r.named known);
+      bound = bound;
+      leaves = leaves;
+      unread = r.unread;
+      rooted = inr rooted_now;
+    }
+
+    pub bound_now : GainsAddress old.link.bound (words_of w).listen new.link.bound
+    bound_now = subst (GainsAddress old.link.bound (words_of w).listen) (sym t.bound) r.bound
+
+    -- ---- the turns were taken
+
+    pub committed_now : (i : ℕ) → is_committed first.parts.holding.store i ≡ true → is_in (set_of last) i ≡ true
+    committed_now i at = t.advances.committed i at
+
+    pub are_now : length (set_of last) ≡ chunks_of last.parts.holding.store.descriptor → AreCommitted d new.disk t.added (set_of last)
+    are_now sized = record {
+      size = sized ∙ ap chunks_of last_d;
+      announced = subst (λ (x : Descriptor). EachAnnounced x (λ moment i. is_in (set_of last) i ≡ true) t.added) d_is
+          (each_announced b.d (λ moment i. (is_in (set_of last) i ≡ true) × (b.since ≤ moment)) (λ moment i. is_in (set_of last) i ≡ true)
+          (λ moment i of_it. of_it.0) t.added t.ledger.announced);
+      stand = λ known began i at. subst (λ (x : Descriptor). StandsSince x new.disk.history (moment_of new.disk.history) i) last_d
+          ((keeping (known_before known) began).kept.stands i at);
+      kept = λ known i stood. committed_now i (r.ready.fresh.taken (known_before known) i (stood_then (known_before known) i stood));
+    }
+
+    pub tallied_now : IsTallied (tally_of last.parts.counts) taken t.added
+    tallied_now = record {
+      turns = t.turns;
+      datagrams = t.ledger.tied.datagrams;
+      sent = t.ledger.tied.sent;
+      short = t.ledger.tied.short;
+      receive_faults = let all = t.took.each in let is = t.receive_faults in omega (arith, all, is);
+    }
+
+    abbrev pub run_now : (n : ℕ) → taken ≡ n → length (set_of last) ≡ chunks_of last.parts.holding.store.descriptor → IsClosed d old new t.added
+        → HasRun (words_of w) n old new t.added
+    run_now n is sized closed = record {
+      committed = set_of last;
+      tally = tally_of last.parts.counts;
+      are = are_now sized;
+      found = λ known i within at. committed_now i (r.ready.fresh.held known i within
+          ∙ subst (λ (bytes : List ℕ). is_found d bytes i ≡ true) (found_same known) at);
+      begins = begins_now;
+      took = subst (λ (m : ℕ). TookTurns m old.link new.link t.added) is took_now;
+      tallied = subst (λ (m : ℕ). IsTallied (tally_of last.parts.counts) m t.added) is tallied_now;
+      closed = closed;
+      rooted = rooted_now;
+    }
+
+    pub stopped_now : taken ≤ w.turns → 0 < taken → HasRisen opened.hard new.disk.hard → Says disk_fault_line old.sink new.sink
+        → IsStopped (words_of w) old new t.added
+    stopped_now within some hard said = record {
+      taken = taken;
+      some = some;
+      within = within;
+      took = took_now;
+      hard = risen_less old.disk.hard opened.hard new.disk.hard r.ready.hard hard;
+      begins = begins_now;
+      said = said;
+      rooted = rooted_now;
+    }
+
+  -- ---- and the channels closed
+
+  module _ (most : ℕ) (fetches : Bool) (last : PeerState) (e : Ends b most fetches start (post last new.disk new.link)) where
+    abbrev pub taken_in : ℕ
+    taken_in = e.takes.taken
+
+    closed_turns : (t : TakesTurns b taken_in start (post last new.disk new.link)) × (t.went.added ≡ e.closes.parting.flushes.added ++ e.takes.some.turns.went.added)
+    closed_turns = turns_closed taken_in b start e.mid (post last new.disk new.link) e.disk e.closes e.takes.some.turns
+
+    pub went_closed : Went b taken_in start (post last new.disk new.link)
+    went_closed = closed_turns.0.went
+
+    mid_d : e.mid.peer.parts.seats.descriptor ≡ d
+    mid_d = e.takes.some.turns.stands.seats.swarm ∙ d_is
+
+    pub is_closed : IsClosed d old new went_closed.added
+    unfolding went_closed
+    is_closed = record {
+      turned = e.takes.some.turns.went.added;
+      last = e.closes.parting.flushes.added;
+      behind = closed_turns.1;
+      closing = subst (λ (x : Descriptor). AllByRecursion (λ y. is_closing x y ≡ true) e.closes.parting.flushes.added) mid_d
+          (farewells_close e.mid.peer.parts.seats.descriptor (moment_of e.mid.disk.history) (fars_of e.mid.peer.parts) e.closes.parting.flushes.added
+          e.closes.parting.others);
+      beginning = b;
+      swarm = d_is;
+      refused = e.takes.some.turns.refused;
+      peer = e.mid.peer.parts;
+      stands = e.takes.some.turns.stands;
+      each = λ seat far within is_far proven. ⊎_elim
+          (λ closed. inl (subst (λ (s : DiskState). farewells.IsClosed d (moment_of s.history) far e.closes.parting.flushes.added) (sym e.disk)
+          (subst (λ (x : Descriptor). farewells.IsClosed x (moment_of e.mid.disk.history) far e.closes.parting.flushes.added) mid_d closed)))
+          (λ risen. inr (risen_less old.link.faults e.mid.link.faults new.link.faults
+          (let h1 = r.unsent.later in let h2 = e.takes.some.turns.went.later in omega (arith, h1, h2)) risen))
+          (e.closes.parting.each seat far within is_far proven);
+    }
+
+    -- what was committed when the turns ended is committed
+    store_same : last.parts.holding.store ≡ e.mid.peer.parts.holding.store
+    store_same = ap (λ (h : HoldingState). h.store) e.closes.parting.flushes.holding
+
+    pub early_now : taken_in < most → HasEvery (set_of last)
+    early_now lt = subst (λ (s : StoreState). HasEvery s.committed) (sym store_same) (e.takes.early lt).1
+
+    pub all_taken : (fetches ≡ true → HasEvery (set_of last) → ⊥) → taken_in ≡ most
+    all_taken never = ⊎_elim
+        (λ lt. absurd (never (e.takes.early lt).0 (early_now lt)))
+        (λ le. let within = e.takes.within in omega (arith, within, le))
+        (cases_lt taken_in most)
+
+    last_sized : length (set_of last) ≡ chunks_of d
+    last_sized = e.sized ∙ ap chunks_of (went_closed.advances.descriptor ∙ d_is)
+
+    pub complete_now : HasEvery (set_of last) → IsComplete d (set_of last)
+    complete_now all i within = all i (subst (λ (n : ℕ). i < n) (sym last_sized) within)
+
+    pub missing_now : (i : ℕ) → i < length (set_of last) → is_in (set_of last) i ≡ false → ((k : ℕ) → k < i → is_in (set_of last) k ≡ true)
+        → IsFirstMissing d (set_of last) i
+    missing_now i within missing before = record { below = subst (λ (n : ℕ). i < n) last_sized within; missing = missing; none_before = before }

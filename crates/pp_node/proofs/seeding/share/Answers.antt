@@ -1,0 +1,67 @@
+use Rattle.std.proofs.Common.{refl, length}
+use Rattle.pp_node.specs.Outside.{Outside, outside}
+use Rattle.pp_node.proofs.Peers.{WasReady, b, has_begun}
+use Rattle.pp_node.proofs.Endings.{Leaves, seed_fault, fetch_fault, fault_ends, seed_served, fetch_served}
+use Rattle.pp_node.proofs.seeding.share.Goals as goal
+
+pub returns-in-Ok-clause-seeds : goal.returns-in-Ok-clause-seeds
+returns-in-Ok-clause-seeds g c none source =
+    let old : Outside = outside (g.D.Disk.state c.args.disk.now) (g.L.Link.seen c.args.link.now) source (g.K.Sink.state c.args.sink.now) c.args.book.now in
+    let new : Outside = outside (g.D.Disk.state c.serve.new.disk) (g.L.Link.seen c.serve.new.link) source (g.K.Sink.state c.serve.new.sink) c.serve.new.book in
+    let r : WasReady c.args.words.now old new (g.D.Disk.state c.prepare.new.disk) (g.L.Link.seen c.prepare.new.link) c.in-Ok.ready.peer (length c.in-Ok.ready.buffer.items) = record {
+      ready = c.in-Ok.ensures.prepared;
+      unsent = c.prepare.ensures.unsent;
+      bound = c.in-Ok.ensures.link;
+      lasts = c.prepare.ensures.lasts;
+      named = c.prepare.ensures.named;
+      unread = refl;
+    } in
+    let s = c.serve.ensures (b c.args.words.now old new (g.D.Disk.state c.prepare.new.disk) (g.L.Link.seen c.prepare.new.link) c.in-Ok.ready.peer (length c.in-Ok.ready.buffer.items) r)
+    (has_begun c.args.words.now old new (g.D.Disk.state c.prepare.new.disk) (g.L.Link.seen c.prepare.new.link) c.in-Ok.ready.peer (length c.in-Ok.ready.buffer.items) r) in
+    seed_served c.args.words.now old new (g.D.Disk.state c.prepare.new.disk) (g.L.Link.seen c.prepare.new.link) c.in-Ok.ready.peer (length c.in-Ok.ready.buffer.items) r
+    s.last (record { book_is = s.book_is; rooted = s.rooted }) c.serve.result none s.serves
+
+pub returns-in-Ok-clause-fetches : goal.returns-in-Ok-clause-fetches
+returns-in-Ok-clause-fetches g c asked source =
+    let old : Outside = outside (g.D.Disk.state c.args.disk.now) (g.L.Link.seen c.args.link.now) source (g.K.Sink.state c.args.sink.now) c.args.book.now in
+    let new : Outside = outside (g.D.Disk.state c.serve.new.disk) (g.L.Link.seen c.serve.new.link) source (g.K.Sink.state c.serve.new.sink) c.serve.new.book in
+    let r : WasReady c.args.words.now old new (g.D.Disk.state c.prepare.new.disk) (g.L.Link.seen c.prepare.new.link) c.in-Ok.ready.peer (length c.in-Ok.ready.buffer.items) = record {
+      ready = c.in-Ok.ensures.prepared;
+      unsent = c.prepare.ensures.unsent;
+      bound = c.in-Ok.ensures.link;
+      lasts = c.prepare.ensures.lasts;
+      named = c.prepare.ensures.named;
+      unread = refl;
+    } in
+    let s = c.serve.ensures (b c.args.words.now old new (g.D.Disk.state c.prepare.new.disk) (g.L.Link.seen c.prepare.new.link) c.in-Ok.ready.peer (length c.in-Ok.ready.buffer.items) r)
+    (has_begun c.args.words.now old new (g.D.Disk.state c.prepare.new.disk) (g.L.Link.seen c.prepare.new.link) c.in-Ok.ready.peer (length c.in-Ok.ready.buffer.items) r) in
+    fetch_served c.args.words.now old new (g.D.Disk.state c.prepare.new.disk) (g.L.Link.seen c.prepare.new.link) c.in-Ok.ready.peer (length c.in-Ok.ready.buffer.items) r
+    s.last (record { book_is = s.book_is; rooted = s.rooted }) c.serve.result asked s.serves
+
+pub returns-in-Err-clause-seeds : goal.returns-in-Err-clause-seeds
+returns-in-Err-clause-seeds g c none source =
+    let old : Outside = outside (g.D.Disk.state c.args.disk.now) (g.L.Link.seen c.args.link.now) source (g.K.Sink.state c.args.sink.now) c.args.book.now in
+    let new : Outside = outside (g.D.Disk.state c.prepare.new.disk) (g.L.Link.seen c.prepare.new.link) source (g.K.Sink.state c.report.new.sink) c.args.book.now in
+    let leaves : Leaves c.args.words.now old new = record {
+      lasts = c.prepare.ensures.lasts;
+      named = c.prepare.ensures.named;
+      unwritten = c.prepare.ensures.unwritten;
+      unread = refl;
+      unfilled = refl;
+    } in
+    seed_fault _ _ old new (fault_ends c.args.words.now old new leaves c.report.result c.in-Err.fault c.in-Err.ensures.prepared c.in-Err.ensures.disk c.in-Err.ensures.link
+    c.prepare.ensures.unsent c.report.ensures)
+
+pub returns-in-Err-clause-fetches : goal.returns-in-Err-clause-fetches
+returns-in-Err-clause-fetches g c asked source =
+    let old : Outside = outside (g.D.Disk.state c.args.disk.now) (g.L.Link.seen c.args.link.now) source (g.K.Sink.state c.args.sink.now) c.args.book.now in
+    let new : Outside = outside (g.D.Disk.state c.prepare.new.disk) (g.L.Link.seen c.prepare.new.link) source (g.K.Sink.state c.report.new.sink) c.args.book.now in
+    let leaves : Leaves c.args.words.now old new = record {
+      lasts = c.prepare.ensures.lasts;
+      named = c.prepare.ensures.named;
+      unwritten = c.prepare.ensures.unwritten;
+      unread = refl;
+      unfilled = refl;
+    } in
+    fetch_fault _ _ old new (fault_ends c.args.words.now old new leaves c.report.result c.in-Err.fault c.in-Err.ensures.prepared c.in-Err.ensures.disk c.in-Err.ensures.link
+    c.prepare.ensures.unsent c.report.ensures)
