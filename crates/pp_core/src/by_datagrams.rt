@@ -149,7 +149,7 @@ fn there_are_64_channels(rt: HostRuntime) -> Result<(), Fail> {
 }
 
 // The same counts after a turn with a datagram, and one note more.
-fn noted(before: &Counts, note: Note) -> Counts {
+pub(crate) fn noted(before: &Counts, note: Note) -> Counts {
     let mut counts = *before;
     counts.note(Note::Turn);
     counts.note(Note::Datagram);

@@ -13,11 +13,11 @@ use std::test::*;
 const OTHER: Address = Address::V4([10, 0, 0, 3], 7000);
 
 // An acknowledgement of chunks, with this delay in microseconds.
-fn ack(first: u8, last: u8, delay: u8) -> [u8; 17] {
+pub(crate) fn ack(first: u8, last: u8, delay: u8) -> [u8; 17] {
     [2, 0, 0, 0, first, 0, 0, 0, last, 0, 0, 0, 0, 0, 0, 0, delay]
 }
 
-fn have(first: u8, last: u8) -> [u8; 9] {
+pub(crate) fn have(first: u8, last: u8) -> [u8; 9] {
     [3, 0, 0, 0, first, 0, 0, 0, last]
 }
 
@@ -82,10 +82,11 @@ fn hundred() -> Result<Descriptor, Fail> {
     Ok(Descriptor::new(Digest::new([7; 32]), 256, 25_600, Method::Range32)?)
 }
 
-// The options of its handshakes.
-fn options() -> [u8; 55] {
-    let mut options = [7; 55];
+// The options of a handshake of such a swarm with this root.
+pub(crate) fn options(root: &[u8; 32]) -> [u8; 55] {
+    let mut options = [0; 55];
     options[..7].copy_from_slice(&FRONT);
+    options[7..39].copy_from_slice(root);
     options[39..].copy_from_slice(&[3, 1, 4, 2, 6, 2, 8, 2, 0xfe, 0xf8, 9, 0, 0, 1, 0, 255]);
     options
 }
@@ -96,7 +97,7 @@ fn asks(alloc: Global, order: Rank, first: u8, last: u8) -> Result<bool, Fail> {
     let mut side = Side::open(alloc, &hundred()?, Some(order), &[PEER, OTHER], disk)?;
     side.waits(1);
     side.skip();
-    let options = options();
+    let options = options(&[7; 32]);
     let half: [&[u8]; 5] = [&NUMBERS[1], &[0], &THEIRS, &options, &have(0, 49)];
     let all: [&[u8]; 5] = [&OURS, &[0], &THEIRS, &options, &have(0, 99)];
     Ok(

@@ -2,6 +2,10 @@
 #![tactic(auto)]
 
 #[cfg(test)]
+mod by_chunks;
+#[cfg(test)]
+mod by_counts;
+#[cfg(test)]
 mod by_datagrams;
 #[cfg(test)]
 mod by_rows;

@@ -44,7 +44,7 @@ fn full_disk(alloc: Global) -> Result<MemoryDisk, Fail> {
 }
 
 // The swarm of the content.
-fn swarm() -> Result<Descriptor, Fail> {
+pub(crate) fn swarm() -> Result<Descriptor, Fail> {
     Ok(Descriptor::new(Digest::new(ROOT), 1024, 7000, Method::Range32)?)
 }
 
@@ -54,7 +54,7 @@ pub(crate) struct Side {
     alloc: Global,
     pub(crate) peer: Peer,
     pub(crate) disk: MemoryDisk,
-    link: MemoryLink,
+    pub(crate) link: MemoryLink,
     seen: usize,
 }
 
