@@ -1,2 +1,5 @@
 pub mod Beginning
 pub mod Keeping
+pub mod Paths
+pub mod Storing
+pub mod Listing

@@ -15,7 +15,7 @@ ghost use Rattle.pp_terms.specs.tree.Content.{chunk_length};
 ghost use Rattle.pp_store.specs.Keep.{KeepsDisk};
 ghost use Rattle.pp_store.specs.ReadChunk.{HasRead};
 ghost use Rattle.pp_store.specs.Sound.{StaysSound};
-ghost use Rattle.pp_store.specs.Store.{is_committed, IsOpened, GoesOn};
+ghost use Rattle.pp_store.specs.Store.{is_committed, HoldsAll, IsOpened, GoesOn};
 ghost use Rattle.pp_terms.specs.format.Descriptor.{chunks_of};
 ghost use Rattle.pp_holding.specs.Holding.{stock_of, AreTied};
 ghost use Rattle.pp_holding.specs.Opening.{IsOpenFault};
@@ -25,7 +25,9 @@ ghost use Rattle.pp_peer.specs.Events.{Absorbs};
 ghost use Rattle.pp_peer.specs.Standing.{Beginning, Ledger, StandsFor};
 ghost use Rattle.pp_channels.specs.Seats.{is_found};
 ghost use Rattle.pp_core.specs.Keeping.{IsKeeping};
+ghost use Rattle.pp_core.specs.Listing.{ListsRequests};
 ghost use Rattle.pp_core.specs.Opening.{HasBegun, beginning};
+ghost use Rattle.pp_core.specs.Storing.{StoresWhatFits};
 ghost use Rattle.pp_core.specs.Turning.{after_refusal, limited, with_limit, Sends, Closes};
 
 use crate::opening::{Room, begin};
@@ -124,6 +126,9 @@ impl Peer {
     ) -> Result<(), DiskFault>
         requires { IsEvent event.now bytes.now }
         ensures exact { OnOk result (Absorbs event.now bytes.now self.old.parts self.new.parts) }
+        // A chunk that comes on a proven channel and fits is held, and a chunk that is asked for by a channel with a slot is on its list.
+        ensures stores { OnOk result (StoresWhatFits event.now bytes.now self.old.parts self.new.parts) }
+        ensures lists { OnOk result (ListsRequests event.now bytes.now self.old.parts self.new.parts) }
         ensures rest { self.new ≡ record self.old { parts = self.new.parts } }
         ensures advanced { Advanced (with_event event.now bytes.now self.old.parts.counts)
             self.old.parts self.new.parts (D.state disk.old) (D.state disk.new) }
@@ -135,6 +140,9 @@ impl Peer {
             → Ledger b self.new.parts (record_of event.now bytes.now ∷ past) }
         ensures keeps { (since : ℕ) (past : List Record) → IsKeeping since self.old (D.state disk.old) past
             → IsKeeping since self.new (D.state disk.new) (record_of event.now bytes.now ∷ past) }
+        // Each chunk that is held, committed or not, is in what the disk reads.
+        ensures reads { (since : ℕ) (past : List Record) → IsKeeping since self.old (D.state disk.old) past
+            → OnOk result (HoldsAll self.new.parts.holding.store (D.state disk.new).history.reads) }
         ensures stands { OnOk result ((b : Beginning) (most : ℕ) (past : List Record) → StandsFor b most self.old.parts past
             → StandsFor b most self.new.parts (record_of event.now bytes.now ∷ past)) }
         ensures cause { self.old.parts.holding.store.live ≡ true
