@@ -126,7 +126,8 @@ impl Peer {
     ) -> Result<(), DiskFault>
         requires { IsEvent event.now bytes.now }
         ensures exact { OnOk result (Absorbs event.now bytes.now self.old.parts self.new.parts) }
-        // A chunk that comes on a proven channel and fits is held, and a chunk that is asked for by a channel with a slot is on its list.
+        // A chunk that comes on a proven channel, and by the book and the channel's claims fits, is held. What a channel with a slot asks
+        // for is on its list, unless it is cancelled, or finds no room, or the channel is closed.
         ensures stores { OnOk result (StoresWhatFits event.now bytes.now self.old.parts self.new.parts) }
         ensures lists { OnOk result (ListsRequests event.now bytes.now self.old.parts self.new.parts) }
         ensures rest { self.new ≡ record self.old { parts = self.new.parts } }
