@@ -39,7 +39,8 @@ read_ends seat d bytes start old new reads = record {
 
 module _ (P : Path → Type 0) where
   on_heard : (arrival : Arrival) (sender : Address) (bytes : List ℕ) (slot : Bool) (old new : Parts)
-      (hears : HearsArrival arrival sender bytes slot old new) → ((path : Path) → Ends path new → P path) → IfSome (path_heard arrival sender bytes slot old new hears) P
+      (hears : HearsArrival arrival sender bytes slot old new) → ((path : Path) → Ends path new → P path)
+      → IfSome (path_heard arrival sender bytes slot old new hears) P
   on_heard (arrivals.Opened seat next) sender bytes slot old new hears each =
       each (path_read seat old.seats.descriptor bytes next (with_channel false seat bytes (with_seated slot seat old)) new hears)
       (read_ends seat old.seats.descriptor bytes next (with_channel false seat bytes (with_seated slot seat old)) new hears)

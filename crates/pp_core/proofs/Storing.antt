@@ -92,43 +92,50 @@ puts_in : (ticket : Ticket) (bytes : List ℕ) (claims : List Claim) (old new : 
 puts_in ticket bytes claims old new i puts in_b =
     subst (λ (b : Batch). IsIn b i) (sym puts.batch) (answered_in puts.put ticket.chunk old.seats.moment (batch_of old.holding) i in_b)
 
-same_in : (old new : Parts) (i : ℕ) → new.holding ≡ old.holding → IsIn (batch_of old.holding) i → IsIn (batch_of new.holding) i
-same_in old new i same in_b = subst (λ (h : HoldingState). IsIn (batch_of h) i) (sym same) in_b
+-- what puts keep of a holding, each message keeps
+module _ (Q : HoldingState → Type 0)
+    (kept : (ticket : Ticket) (bytes : List ℕ) (claims : List Claim) (old new : Parts) → Puts ticket bytes claims old new
+    → Q old.holding → Q new.holding) where
+  same_keeps : (old new : Parts) → new.holding ≡ old.holding → Q old.holding → Q new.holding
+  same_keeps old new same q = subst Q (sym same) q
 
-data_in : (seat chunk sent_at : ℕ) (bytes : List ℕ) (old new : Parts) (i : ℕ) → TakesData seat chunk sent_at bytes old new
-    → IsIn (batch_of old.holding) i → IsIn (batch_of new.holding) i
-data_in seat chunk sent_at bytes old new i takes in_b = ⊎_elim
-    (λ inside. ⊎_elim
-    (λ proven. puts_in (ticket_of seat chunk sent_at mid.seats.moment) bytes (claims_in (slice_get mid.seats.seats seat)) mid new i
-    (takes.judged (ltb-true chunk chunks inside) proven) there)
-    (λ unproven. same_in mid new i (ap (λ (p : Parts). p.holding) (takes.unproven (ltb-true chunk chunks inside) unproven)) there)
-    (cases_Bool (is_proven_in (slice_get mid.seats.seats seat))))
-    (λ outside. same_in mid new i (ap (λ (p : Parts). p.holding) (takes.outside (ltb-false chunk chunks outside))) there)
-    (cases_Bool (nat_lt chunk chunks))
-  where
-    mid : Parts
-    mid = takes.mid
+  data_keeps : (seat chunk sent_at : ℕ) (bytes : List ℕ) (old new : Parts) → TakesData seat chunk sent_at bytes old new
+      → Q old.holding → Q new.holding
+  data_keeps seat chunk sent_at bytes old new takes q = ⊎_elim
+      (λ inside. ⊎_elim
+      (λ proven. kept (ticket_of seat chunk sent_at mid.seats.moment) bytes (claims_in (slice_get mid.seats.seats seat)) mid new
+      (takes.judged (ltb-true chunk chunks inside) proven) there)
+      (λ unproven. same_keeps mid new (ap (λ (p : Parts). p.holding) (takes.unproven (ltb-true chunk chunks inside) unproven)) there)
+      (cases_Bool (is_proven_in (slice_get mid.seats.seats seat))))
+      (λ outside. same_keeps mid new (ap (λ (p : Parts). p.holding) (takes.outside (ltb-false chunk chunks outside))) there)
+      (cases_Bool (nat_lt chunk chunks))
+    where
+      mid : Parts
+      mid = takes.mid
 
-    chunks : ℕ
-    chunks = chunks_of mid.holding.store.descriptor
+      chunks : ℕ
+      chunks = chunks_of mid.holding.store.descriptor
 
-    there : IsIn (batch_of mid.holding) i
-    there = same_in old mid i (ap (λ (p : Parts). p.holding) takes.ends.rest) in_b
+      there : Q mid.holding
+      there = same_keeps old mid (ap (λ (p : Parts). p.holding) takes.ends.rest) q
 
-other_in : (seat : ℕ) (m : Message) (old new : Parts) (i : ℕ) → TakesOther seat m old new
-    → IsIn (batch_of old.holding) i → IsIn (batch_of new.holding) i
-other_in seat m old new i takes in_b =
-    same_in old new i (ap (λ (p : Parts). p.holding) takes.rest ∙ (heeded_beside seat m old takes.mid takes.heeds).holding) in_b
+  other_keeps : (seat : ℕ) (m : Message) (old new : Parts) → TakesOther seat m old new → Q old.holding → Q new.holding
+  other_keeps seat m old new takes q =
+      same_keeps old new (ap (λ (p : Parts). p.holding) takes.rest ∙ (heeded_beside seat m old takes.mid takes.heeds).holding) q
 
-does_in : (seat : ℕ) (m : Message) (old new : Parts) (i : ℕ) → Does seat m old new → IsIn (batch_of old.holding) i → IsIn (batch_of new.holding) i
-does_in seat m old new i does in_b = data_or_other (IsIn (batch_of new.holding) i) seat m old new does
-    (λ chunk sent_at bytes takes. data_in seat chunk sent_at bytes old new i takes in_b) (λ takes. other_in seat m old new i takes in_b)
+  does_keep : (seat : ℕ) (m : Message) (old new : Parts) → Does seat m old new → Q old.holding → Q new.holding
+  does_keep seat m old new does q = data_or_other (Q new.holding) seat m old new does
+      (λ chunk sent_at bytes takes. data_keeps seat chunk sent_at bytes old new takes q) (λ takes. other_keeps seat m old new takes q)
+
+  in_turn_keeps : (seat : ℕ) (ms : List Message) (old new : Parts) → InTurn seat ms old new → Q old.holding → Q new.holding
+  in_turn_keeps seat [] old new in_turn q = subst (λ (p : Parts). Q p.holding) (sym in_turn) q
+  in_turn_keeps seat (m ∷ ms) old new in_turn q =
+      in_turn_keeps seat ms in_turn.0 new in_turn.2 (does_keep seat m old in_turn.0 in_turn.1 q)
 
 in_turn_in : (seat : ℕ) (ms : List Message) (old new : Parts) (i : ℕ) → InTurn seat ms old new → IsIn (batch_of old.holding) i
     → IsIn (batch_of new.holding) i
-in_turn_in seat [] old new i in_turn in_b = subst (λ (p : Parts). IsIn (batch_of p.holding) i) (sym in_turn) in_b
-in_turn_in seat (m ∷ ms) old new i in_turn in_b =
-    in_turn_in seat ms in_turn.0 new i in_turn.2 (does_in seat m old in_turn.0 i in_turn.1 in_b)
+in_turn_in seat ms old new i = in_turn_keeps (λ h. IsIn (batch_of h) i)
+    (λ ticket bytes claims old new puts in_b. puts_in ticket bytes claims old new i puts in_b) seat ms old new
 
 -- ---- a chunk that fits
 
