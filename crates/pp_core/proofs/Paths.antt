@@ -22,14 +22,16 @@ use Rattle.pp_core.specs.Paths.{Path, path_read, path_heard, path_of}
 
 -- ---- where a path ends
 
--- Behind the path nothing is stored, and the seats are changed only where the channel is closed.
-pub record Ends (path : Path) (new : Parts) : Type 0 where
+-- Before the path and behind it nothing is stored, and behind it the seats are changed only where the channel is closed.
+pub record Ends (path : Path) (old new : Parts) : Type 0 where
+  pub begins : path.first.holding ≡ old.holding
   pub holding : new.holding ≡ path.last.holding
   pub seats : path.is_closed ≡ false → new.seats ≡ path.last.seats
 
 read_ends : (seat : ℕ) (d : Descriptor) (bytes : List ℕ) (start : ℕ) (old new : Parts) (reads : ReadsAll seat d bytes start old new)
-    → Ends (path_read seat d bytes start old new reads) new
-read_ends seat d bytes start old new reads = record {
+    (begin : Parts) → old.holding ≡ begin.holding → Ends (path_read seat d bytes start old new reads) begin new
+read_ends seat d bytes start old new reads begin begins = record {
+  begins = begins;
   holding = ⊎_elim
       (λ shut. ap (λ (p : Parts). p.holding) (reads.shuts shut).rest)
       (λ still. ap (λ (p : Parts). p.holding) (reads.stays still))
@@ -39,23 +41,24 @@ read_ends seat d bytes start old new reads = record {
 
 module _ (P : Path → Type 0) where
   on_heard : (arrival : Arrival) (sender : Address) (bytes : List ℕ) (slot : Bool) (old new : Parts)
-      (hears : HearsArrival arrival sender bytes slot old new) → ((path : Path) → Ends path new → P path)
-      → IfSome (path_heard arrival sender bytes slot old new hears) P
-  on_heard (arrivals.Opened seat next) sender bytes slot old new hears each =
+      (hears : HearsArrival arrival sender bytes slot old new) (begin : Parts) → old.holding ≡ begin.holding
+      → ((path : Path) → Ends path begin new → P path) → IfSome (path_heard arrival sender bytes slot old new hears) P
+  on_heard (arrivals.Opened seat next) sender bytes slot old new hears begin begins each =
       each (path_read seat old.seats.descriptor bytes next (with_channel false seat bytes (with_seated slot seat old)) new hears)
-      (read_ends seat old.seats.descriptor bytes next (with_channel false seat bytes (with_seated slot seat old)) new hears)
-  on_heard (arrivals.Replied seat) sender bytes slot old new hears each =
+      (read_ends seat old.seats.descriptor bytes next (with_channel false seat bytes (with_seated slot seat old)) new hears begin begins)
+  on_heard (arrivals.Replied seat) sender bytes slot old new hears begin begins each =
       each (path_read seat hears.mid.seats.descriptor bytes 4 hears.mid new hears.reads)
-      (read_ends seat hears.mid.seats.descriptor bytes 4 hears.mid new hears.reads)
-  on_heard (arrivals.Heard seat) sender bytes slot old new hears each =
+      (read_ends seat hears.mid.seats.descriptor bytes 4 hears.mid new hears.reads begin (ap (λ (p : Parts). p.holding) hears.hears.rest ∙ begins))
+  on_heard (arrivals.Heard seat) sender bytes slot old new hears begin begins each =
       each (path_read seat hears.mid.seats.descriptor bytes 4 hears.mid new hears.reads)
-      (read_ends seat hears.mid.seats.descriptor bytes 4 hears.mid new hears.reads)
-  on_heard _ sender bytes slot old new hears each = tt
+      (read_ends seat hears.mid.seats.descriptor bytes 4 hears.mid new hears.reads begin (ap (λ (p : Parts). p.holding) hears.hears.rest ∙ begins))
+  on_heard _ sender bytes slot old new hears begin begins each = tt
 
   -- what holds of each path that ends so holds of the path of an event
   pub on_path : (event : Event) (bytes : List ℕ) (old new : Parts) (takes : TakesEvent event bytes old new)
-      → ((path : Path) → Ends path new → P path) → IfSome (path_of event bytes old new takes) P
-  on_path (events.Datagram sender len at) bytes old new takes each = on_heard takes.arrival sender bytes takes.slot takes.mid new takes.hears each
+      → ((path : Path) → Ends path old new → P path) → IfSome (path_of event bytes old new takes) P
+  on_path (events.Datagram sender len at) bytes old new takes each =
+      on_heard takes.arrival sender bytes takes.slot takes.mid new takes.hears old (ap (λ (p : Parts). p.holding) takes.rest) each
   on_path (events.Quiet at) bytes old new takes each = tt
 
 -- ---- what a message changes

@@ -25,7 +25,7 @@ use Rattle.pp_outside.specs.declared.link.Event.{Event}
 use Rattle.pp_store.specs.declared.admitting.Put.{Put}
 use Rattle.pp_store.specs.declared.admitting.Put.TheVariants.{Stored, Held, Missing, Wrong, Length}
 use Rattle.pp_store.specs.Answer.{peaked, by_peaks, by_verdict, put_answer}
-use Rattle.pp_store.specs.Store.{is_held}
+use Rattle.pp_store.specs.Store.{StoreState, is_held}
 use Rattle.pp_holding.specs.Holding.{HoldingState, batch_of, HasWaiting}
 use Rattle.pp_holding.specs.Answers.{answer_to, stored_by}
 use Rattle.pp_holding.specs.declared.queue.Ticket.{Ticket}
@@ -220,17 +220,21 @@ data_fits seat chunk sent_at bytes old new takes waits fits =
 
 -- ---- along the path
 
-module _ (batch : Batch) (seat : ℕ) (last : Parts) (stays : (i : ℕ) → IsIn (batch_of last.holding) i → is_in batch i ≡ true) where
-  holds_one : (m : Message) (old new : Parts) → Does seat m old new → ((i : ℕ) → IsIn (batch_of new.holding) i → is_in batch i ≡ true)
-      → HoldsIfFit batch seat m old
-  holds_one (Data chunk sent_at bytes) old new does on = λ waits fits. on chunk (data_fits seat chunk sent_at bytes old new does waits fits)
-  holds_one _ old new does on = tt
+-- what waits is what is pending
+abbrev Waits : HoldingState → Type 0
+Waits h = HasWaiting h.store h.queue.waiting
 
-  holds_all : (ms : List Message) (old : Parts) (in_turn : InTurn seat ms old last) → HoldsFitting batch seat ms old last in_turn
-  holds_all [] old in_turn = tt
-  holds_all (m ∷ ms) old in_turn = (
-    holds_one m old in_turn.0 in_turn.1 (λ i in_b. stays i (in_turn_in seat ms in_turn.0 last i in_turn.2 in_b)),
-    holds_all ms in_turn.0 in_turn.2,
+module _ (store : StoreState) (seat : ℕ) (last : Parts) (held : (i : ℕ) → IsIn (batch_of last.holding) i → is_held store i ≡ true) where
+  holds_one : (m : Message) (old new : Parts) → Does seat m old new → Waits old.holding → ((i : ℕ) → IsIn (batch_of new.holding) i → is_held store i ≡ true)
+      → HoldsIfFit store seat m old
+  holds_one (Data chunk sent_at bytes) old new does waits on = λ fits. on chunk (data_fits seat chunk sent_at bytes old new does waits fits)
+  holds_one _ old new does waits on = tt
+
+  holds_all : (ms : List Message) (old : Parts) (in_turn : InTurn seat ms old last) → Waits old.holding → HoldsFitting store seat ms old last in_turn
+  holds_all [] old in_turn waits = tt
+  holds_all (m ∷ ms) old in_turn waits = (
+    holds_one m old in_turn.0 in_turn.1 waits (λ i in_b. held i (in_turn_in seat ms in_turn.0 last i in_turn.2 in_b)),
+    holds_all ms in_turn.0 in_turn.2 (does_keep Waits (λ ticket bytes claims old new puts before. puts.waits) seat m old in_turn.0 in_turn.1 waits),
   )
 
 -- ---- the whole
@@ -238,12 +242,13 @@ module _ (batch : Batch) (seat : ℕ) (last : Parts) (stays : (i : ℕ) → IsIn
 pub stores_what_fits : (event : Event) (bytes : List ℕ) (old new : Parts) → Absorbs event bytes old new → StoresWhatFits event bytes old new
 stores_what_fits event bytes old new a = record {
   absorbs = a;
-  holds = on_path (λ path. HoldsFitting (batch_of new.holding) path.seat path.messages path.first path.last path.in_turn)
+  holds = on_path (λ path. HoldsFitting new.holding.store path.seat path.messages path.first path.last path.in_turn)
       event bytes old a.mid a.takes
-      (λ path ends. holds_all (batch_of new.holding) path.seat path.last
-      (λ i in_b. stays i (subst (λ (h : HoldingState). IsIn (batch_of h) i) (sym ends.holding) in_b)) path.messages path.first path.in_turn);
+      (λ path ends. holds_all new.holding.store path.seat path.last
+      (λ i in_b. held i (subst (λ (h : HoldingState). IsIn (batch_of h) i) (sym ends.holding) in_b)) path.messages path.first path.in_turn
+      (subst (λ (h : HoldingState). HasWaiting h.store h.queue.waiting) (sym ends.begins) a.waited));
 }
   where
-    stays : (i : ℕ) → IsIn (batch_of a.mid.holding) i → is_in (batch_of new.holding) i ≡ true
-    stays i in_b = ap (λ (b : Batch). is_in b i) a.batch
+    held : (i : ℕ) → IsIn (batch_of a.mid.holding) i → is_held new.holding.store i ≡ true
+    held i in_b = sym (is_in-batch new.holding.store new.holding.queue.waiting i a.waits) ∙ ap (λ (b : Batch). is_in b i) a.batch
         ∙ (maybe_committed (is_due (is_quiet event) a.mid.seats.moment (batch_of a.mid.holding)) (batch_of a.mid.holding) i in_b).is

@@ -10,9 +10,9 @@ use Rattle.pp_paths.specs.declared.settling.Settled.TheVariants as settlements
 use Rattle.pp_paths.specs.Judge.{judged}
 use Rattle.pp_paths.specs.Settle.{settled}
 use Rattle.pp_store.specs.Answer.{peaked}
-use Rattle.pp_promises.specs.Batches.{Batch, is_in}
+use Rattle.pp_store.specs.Store.{StoreState, is_held}
 use Rattle.pp_outside.specs.declared.link.Event.{Event}
-use Rattle.pp_holding.specs.Holding.{HoldingState, HasWaiting, batch_of}
+use Rattle.pp_holding.specs.Holding.{HoldingState}
 use Rattle.pp_peer.specs.declared.parts.Parts.{Parts}
 use Rattle.pp_peer.specs.Messages.{is_proven_in, claims_in, InTurn}
 use Rattle.pp_peer.specs.Events.{Absorbs}
@@ -29,21 +29,19 @@ pub record Fits (seat chunk : ℕ) (bytes : List ℕ) (p : Parts) : Type 0 where
   pub proven : is_proven_in (slice_get p.seats.seats seat) ≡ true
   pub judged_fit : IsJudgedFit p.holding (latest (claims_in (slice_get p.seats.seats seat))) chunk bytes
 
--- The chunk of a DATA that fits in this state, where as in each holding the chunks that wait are those that are pending in the store,
--- is in the batch: it is committed, or waits for a commit.
-abbrev pub HoldsIfFit : Batch → (seat : ℕ) → Message → Parts → Type 0
-HoldsIfFit batch seat (Data chunk sent_at bytes) p =
-    HasWaiting p.holding.store p.holding.queue.waiting → Fits seat chunk bytes p → is_in batch chunk ≡ true
-HoldsIfFit batch seat _ p = Unit {0}
+-- The chunk of a DATA that fits in this state is held in the store.
+abbrev pub HoldsIfFit : StoreState → (seat : ℕ) → Message → Parts → Type 0
+HoldsIfFit store seat (Data chunk sent_at bytes) p = Fits seat chunk bytes p → is_held store chunk ≡ true
+HoldsIfFit store seat _ p = Unit {0}
 
--- Each chunk that fits when it comes is in the batch.
-abbrev pub HoldsFitting : Batch → (seat : ℕ) (ms : List Message) (old new : Parts) → InTurn seat ms old new → Type 0
-HoldsFitting batch seat [] old new in_turn = Unit {0}
-HoldsFitting batch seat (m ∷ ms) old new in_turn =
-    HoldsIfFit batch seat m old × HoldsFitting batch seat ms in_turn.0 new in_turn.2
+-- Each chunk that fits when it comes is held in the store.
+abbrev pub HoldsFitting : StoreState → (seat : ℕ) (ms : List Message) (old new : Parts) → InTurn seat ms old new → Type 0
+HoldsFitting store seat [] old new in_turn = Unit {0}
+HoldsFitting store seat (m ∷ ms) old new in_turn =
+    HoldsIfFit store seat m old × HoldsFitting store seat ms in_turn.0 new in_turn.2
 
--- Each chunk that comes by an event, and fits when it comes, is committed or waits for a commit once the event is over.
+-- Each chunk that comes by an event, and fits when it comes, is held once the event is over: it is committed, or pending.
 pub record StoresWhatFits (event : Event) (bytes : List ℕ) (old new : Parts) : Type 0 where
   pub absorbs : Absorbs event bytes old new
   pub holds : IfSome (path_of event bytes old absorbs.mid absorbs.takes)
-      (λ path. HoldsFitting (batch_of new.holding) path.seat path.messages path.first path.last path.in_turn)
+      (λ path. HoldsFitting new.holding.store path.seat path.messages path.first path.last path.in_turn)

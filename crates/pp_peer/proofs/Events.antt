@@ -8,7 +8,7 @@ use Rattle.pp_outside.specs.declared.link.Event.{Event}
 use Rattle.pp_counts.specs.declared.note.Note.{Note}
 use Rattle.pp_lives.specs.Arriving.{Arrives}
 use Rattle.pp_lives.specs.declared.arriving.Arrival.{Arrival}
-use Rattle.pp_holding.specs.Holding.{HoldingState, batch_of}
+use Rattle.pp_holding.specs.Holding.{HoldingState, batch_of, HasWaiting}
 use Rattle.pp_holding.specs.Answers.{queue_settled}
 use Rattle.pp_seats.specs.Standing.{SeatsState}
 use Rattle.pp_seats.specs.Hearing.{Prepares, looked_up}
@@ -48,9 +48,10 @@ datagram_exact (Err e) sender bytes at slot arrival arrived noted old mid new fr
 pub absorbed_exact : (event : Event) (bytes : List ℕ) (quiet : Bool) (at : ℕ) (held : HoldingState) (looked : SeatsState) (old mid new : Parts) → TakesEvent event bytes old mid
     → quiet ≡ is_quiet event → at ≡ mid.seats.moment → batch_of held ≡ after_read quiet at (batch_of mid.holding)
     → held.queue ≡ queue_settled (is_due quiet at (batch_of mid.holding)) mid.holding.queue → held.book ≡ mid.holding.book → held.store.live ≡ true
+    → HasWaiting old.holding.store old.holding.queue.waiting → HasWaiting held.store held.queue.waiting
     → looked ≡ record mid.seats { seats = map (looked_up mid.seats.moment) mid.seats.seats }
     → new ≡ record mid { seats = looked; holding = held } → Absorbs event bytes old new
-absorbed_exact event bytes quiet at held looked old mid new takes is when batch queue book live looks rest = record {
+absorbed_exact event bytes quiet at held looked old mid new takes is when batch queue book live waited waits looks rest = record {
   mid = mid;
   takes = takes;
   batch = ap batch_of holds ∙ batch ∙ ap (λ (b : Bool). after_read b at (batch_of mid.holding)) is
@@ -59,6 +60,8 @@ absorbed_exact event bytes quiet at held looked old mid new takes is when batch 
       ∙ ap (λ (n : ℕ). queue_settled (is_due (is_quiet event) n (batch_of mid.holding)) mid.holding.queue) when;
   book = ap (λ (h : HoldingState). h.book) holds ∙ book;
   live = ap (λ (h : HoldingState). h.store.live) holds ∙ live;
+  waited = waited;
+  waits = subst (λ (h : HoldingState). HasWaiting h.store h.queue.waiting) (sym holds) waits;
   rest = rest ∙ ap (λ (s : SeatsState). record mid { seats = s; holding = held }) looks
       ∙ ap (λ (h : HoldingState). record mid { seats = record mid.seats { seats = map (looked_up mid.seats.moment) mid.seats.seats }; holding = h }) (sym holds);
 }

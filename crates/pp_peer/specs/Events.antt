@@ -11,7 +11,7 @@ use Rattle.pp_pex.specs.Exchange as exchange
 use Rattle.pp_lives.specs.Arriving.{Arrives, contents}
 use Rattle.pp_lives.specs.declared.arriving.Arrival.{Arrival}
 use Rattle.pp_lives.specs.declared.arriving.Arrival.TheVariants as arrivals
-use Rattle.pp_holding.specs.Holding.{batch_of}
+use Rattle.pp_holding.specs.Holding.{batch_of, HasWaiting}
 use Rattle.pp_holding.specs.Answers.{queue_settled}
 use Rattle.pp_seats.specs.Hearing.{Prepares, looked_up}
 use Rattle.pp_peer.specs.declared.parts.Parts.{Parts}
@@ -104,6 +104,7 @@ TakesEvent (Datagram sender len at) bytes old new = TakesDatagram sender bytes a
 TakesEvent (Quiet at) bytes old new = new ≡ record (after_turn old) { seats = record old.seats { moment = max at old.seats.moment } }
 
 -- An event came: a datagram was counted, and its messages did what they do; then what was due was committed, and each seat looked up.
+-- Before and after, what waits is what is pending in the store.
 pub record Absorbs (event : Event) (bytes : List ℕ) (old new : Parts) : Type 0 where
   pub mid : Parts
   pub takes : TakesEvent event bytes old mid
@@ -111,6 +112,8 @@ pub record Absorbs (event : Event) (bytes : List ℕ) (old new : Parts) : Type 0
   pub queue : new.holding.queue ≡ queue_settled (is_due (is_quiet event) mid.seats.moment (batch_of mid.holding)) mid.holding.queue
   pub book : new.holding.book ≡ mid.holding.book
   pub live : new.holding.store.live ≡ true
+  pub waited : HasWaiting old.holding.store old.holding.queue.waiting
+  pub waits : HasWaiting new.holding.store new.holding.queue.waiting
   pub rest : new ≡ record mid {
     seats = record mid.seats { seats = map (looked_up mid.seats.moment) mid.seats.seats };
     holding = new.holding;

@@ -20,7 +20,7 @@ use Rattle.pp_store.specs.declared.admitting.Put.{Put}
 use Rattle.pp_store.specs.declared.admitting.Put.TheVariants.{Stored, Held, Missing, Wrong, Length}
 use Rattle.pp_channels.specs.Seats.{closed}
 use Rattle.pp_pex.specs.Exchange.{Exchange, suggested}
-use Rattle.pp_holding.specs.Holding.{batch_of}
+use Rattle.pp_holding.specs.Holding.{batch_of, HasWaiting}
 use Rattle.pp_holding.specs.Answers.{answer_to, learned_from, stored_by, queue_after}
 use Rattle.pp_holding.specs.declared.queue.Ticket.{Ticket}
 use Rattle.pp_fetching.specs.Fetching.{FetchState, GivesBack, without_request}
@@ -134,6 +134,8 @@ pub record Puts (ticket : Ticket) (bytes : List ℕ) (claims : List Claim) (old 
   pub learned : old.holding.store.live ≡ true → (k j : ℕ)
       → entry new.holding.book k j ≡ learned_from old.holding (latest claims) ticket.chunk bytes k j
   pub live : new.holding.store.live ≡ true
+  -- what waits is what is pending in the store
+  pub waits : HasWaiting new.holding.store new.holding.queue.waiting
   pub rest : new ≡ record old {
     holding = new.holding;
     fetching = got_of put ticket.chunk old.fetching;

@@ -218,6 +218,8 @@ impl Parts {
         let now = self.seats.moment();
         self.holding.settle(is_quiet(event), now, disk)?;
         self.seats.taken();
+        // And what is pending once all is settled.
+        let _ = self.holding.store();
         Ok(())
     }
 

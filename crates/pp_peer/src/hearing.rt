@@ -101,6 +101,8 @@ impl Parts {
         let claims = self.seats.seat(parcel.ticket.seat).claims();
         let put = self.holding.put(parcel, claims, disk)?;
         self.heed_put(put, parcel.ticket.chunk);
+        // Its contract tells that what waits is what is pending.
+        let _ = self.holding.store();
         Ok(())
     }
 

@@ -25,4 +25,4 @@ returns-clause-fetches g c = λ f. looked_fetches c.take_event.new.self.seats.mo
 pub returns-clause-exact : goal.returns-clause-exact
 returns-clause-exact g c = absorbed_exact c.args.event.now c.args.bytes.now c.is_quiet.result c.moment-now.result c.settle.new.self c.taken.new.self c.args.self.now c.take_event.new.self _
     c.in_ok-take_event.ensures.exact c.is_quiet.ensures c.moment-now.ensures c.in_ok-settle.ensures.batch c.in_ok-settle.ensures.queue c.settle.ensures.book
-    c.in_ok-settle.ensures.live c.taken.ensures.exact refl
+    c.in_ok-settle.ensures.live c.store.ensures.tied.waits c.store-2.ensures.tied.waits c.taken.ensures.exact refl
