@@ -12,6 +12,7 @@ use std::test::Fail;
 mod counting;
 mod cutting;
 mod fetching;
+mod joining;
 mod methods;
 mod refusing;
 mod trees;
