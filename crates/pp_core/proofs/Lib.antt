@@ -3,3 +3,11 @@ pub mod Keeping
 pub mod Paths
 pub mod Storing
 pub mod Listing
+pub mod Links
+pub mod Delivered
+pub mod Kept
+pub mod Turns
+pub mod Before
+pub mod Spoken
+pub mod Told
+pub mod Slots

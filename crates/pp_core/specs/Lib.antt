@@ -5,3 +5,5 @@ pub mod Turning
 pub mod Paths
 pub mod Storing
 pub mod Listing
+pub mod Telling
+pub mod Slots

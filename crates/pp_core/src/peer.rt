@@ -27,8 +27,10 @@ ghost use Rattle.pp_channels.specs.Seats.{is_found};
 ghost use Rattle.pp_core.specs.Keeping.{IsKeeping};
 ghost use Rattle.pp_core.specs.Listing.{ListsRequests};
 ghost use Rattle.pp_core.specs.Opening.{HasBegun, beginning};
+ghost use Rattle.pp_core.specs.Slots.{KeepsSlots};
 ghost use Rattle.pp_core.specs.Storing.{StoresWhatFits};
-ghost use Rattle.pp_core.specs.Turning.{after_refusal, limited, with_limit, Sends, Closes};
+ghost use Rattle.pp_core.specs.Telling.{Acknowledges, Announces, Greets, Cancels, Exchanges, TakesTurns};
+ghost use Rattle.pp_core.specs.Turning.{after_refusal, limited, with_limit, scene, Sends, Closes};
 
 use crate::opening::{Room, begin};
 use arrayvec::ArrayVec;
@@ -166,7 +168,17 @@ impl Peer {
 
     /// Sends what is due, at most 512 chunks on a channel. What the link or the disk refuses is counted.
     pub fn flush<D: Disk, L: Link>(&mut self, disk: &mut D, link: &mut L)
-        ensures { (refused : ℕ) × Sends refused self.old self.new (L.seen link.old) (L.seen link.new) (D.state disk.old) (D.state disk.new) }
+        ensures sends { (refused : ℕ) × Sends refused self.old self.new (L.seen link.old) (L.seen link.new) (D.state disk.old) (D.state disk.new) }
+        // On each channel whose time isn't over what came is acknowledged, what was committed told of, what isn't awaited any more cancelled;
+        // handshakes, CHOKEs and UNCHOKEs that are due go, and addresses are exchanged; unless the link refused a datagram.
+        ensures acknowledged { Acknowledges (scene self.old.parts (L.seen link.old) (D.state disk.old)) (L.seen link.new) }
+        ensures announced { Announces (scene self.old.parts (L.seen link.old) (D.state disk.old)) (L.seen link.new) }
+        ensures greeted { Greets (scene self.old.parts (L.seen link.old) (D.state disk.old)) (L.seen link.new) }
+        ensures cancelled { Cancels (scene self.old.parts (L.seen link.old) (D.state disk.old)) (L.seen link.new) }
+        ensures exchanged { Exchanges (scene self.old.parts (L.seen link.old) (D.state disk.old)) (L.seen link.new) }
+        ensures turned { TakesTurns (scene self.old.parts (L.seen link.old) (D.state disk.old)) (L.seen link.new) }
+        // No seat loses its upload slot on whose channel no CHOKE was due, but the one that has it longest, once slots are to be turned.
+        ensures slots { KeepsSlots self.old.parts self.new.parts }
     {
         self.parts
             .flush(&mut self.dials, &mut self.speaker, disk, link);

@@ -1,10 +1,11 @@
-use Rattle.std.proofs.Common.{refl}
-use Rattle.pp_core.specs.Peers.{PeerState}
+use Rattle.pp_core.specs.Turning.{scene}
 use Rattle.pp_core.proofs.Keeping.{flush_goes}
+use Rattle.pp_core.proofs.Slots.{slots_kept}
+use Rattle.pp_core.proofs.Told.{acknowledged, announced, greeted, cancelled, exchanged, turned}
 use Rattle.pp_core.proofs.peer.Peer.flush.Goals as goal
 
-pub returns : goal.returns
-returns g c = rw (← c.self.view_is) (
+pub returns-clause-sends : goal.returns-clause-sends
+returns-clause-sends g c = rw (← c.self.view_is) (
   c.flush.result,
   record {
     sent = c.flush.new.self;
@@ -17,3 +18,38 @@ returns g c = rw (← c.self.view_is) (
     rest = λ t. record c.flush.new.self { holding = c.forget_tickets.ensures t };
   },
 )
+
+pub returns-clause-acknowledged : goal.returns-clause-acknowledged
+returns-clause-acknowledged g c = rw (← c.self.view_is) (acknowledged c.self.inside.dials c.flush.new.dials c.self.inside.speaker c.flush.new.speaker c.flush.result
+    (scene c.self.inside.parts (g.L.Link.seen c.args.link.now) (g.D.Disk.state c.args.disk.now))
+    (scene c.flush.new.self (g.L.Link.seen c.flush.new.link) (g.D.Disk.state c.flush.new.disk)) c.flush.ensures.sends)
+
+pub returns-clause-announced : goal.returns-clause-announced
+returns-clause-announced g c = rw (← c.self.view_is) (announced c.self.inside.dials c.flush.new.dials c.self.inside.speaker c.flush.new.speaker c.flush.result
+    (scene c.self.inside.parts (g.L.Link.seen c.args.link.now) (g.D.Disk.state c.args.disk.now))
+    (scene c.flush.new.self (g.L.Link.seen c.flush.new.link) (g.D.Disk.state c.flush.new.disk)) c.flush.ensures.sends)
+
+pub returns-clause-greeted : goal.returns-clause-greeted
+returns-clause-greeted g c = rw (← c.self.view_is) (greeted c.self.inside.dials c.flush.new.dials c.self.inside.speaker c.flush.new.speaker c.flush.result
+    (scene c.self.inside.parts (g.L.Link.seen c.args.link.now) (g.D.Disk.state c.args.disk.now))
+    (scene c.flush.new.self (g.L.Link.seen c.flush.new.link) (g.D.Disk.state c.flush.new.disk)) c.flush.ensures.sends)
+
+pub returns-clause-cancelled : goal.returns-clause-cancelled
+returns-clause-cancelled g c = rw (← c.self.view_is) (cancelled c.self.inside.dials c.flush.new.dials c.self.inside.speaker c.flush.new.speaker c.flush.result
+    (scene c.self.inside.parts (g.L.Link.seen c.args.link.now) (g.D.Disk.state c.args.disk.now))
+    (scene c.flush.new.self (g.L.Link.seen c.flush.new.link) (g.D.Disk.state c.flush.new.disk)) c.flush.ensures.sends)
+
+pub returns-clause-exchanged : goal.returns-clause-exchanged
+returns-clause-exchanged g c = rw (← c.self.view_is) (exchanged c.self.inside.dials c.flush.new.dials c.self.inside.speaker c.flush.new.speaker c.flush.result
+    (scene c.self.inside.parts (g.L.Link.seen c.args.link.now) (g.D.Disk.state c.args.disk.now))
+    (scene c.flush.new.self (g.L.Link.seen c.flush.new.link) (g.D.Disk.state c.flush.new.disk)) c.flush.ensures.sends)
+
+pub returns-clause-turned : goal.returns-clause-turned
+returns-clause-turned g c = rw (← c.self.view_is) (turned c.self.inside.dials c.flush.new.dials c.self.inside.speaker c.flush.new.speaker c.flush.result
+    (scene c.self.inside.parts (g.L.Link.seen c.args.link.now) (g.D.Disk.state c.args.disk.now))
+    (scene c.flush.new.self (g.L.Link.seen c.flush.new.link) (g.D.Disk.state c.flush.new.disk)) c.flush.ensures.sends)
+
+pub returns-clause-slots : goal.returns-clause-slots
+returns-clause-slots g c = rw (← c.self.view_is) (slots_kept c.self.inside.dials c.flush.new.dials c.self.inside.speaker c.flush.new.speaker c.flush.result
+    (scene c.self.inside.parts (g.L.Link.seen c.args.link.now) (g.D.Disk.state c.args.disk.now))
+    (scene c.flush.new.self (g.L.Link.seen c.flush.new.link) (g.D.Disk.state c.flush.new.disk)) c.flush.ensures.sends)
