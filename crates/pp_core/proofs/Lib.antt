@@ -11,3 +11,11 @@ pub mod Before
 pub mod Spoken
 pub mod Told
 pub mod Slots
+pub mod Rounds
+pub mod Having
+pub mod Reaching
+pub mod Awaiting
+pub mod Asking
+pub mod Rooms
+pub mod Turned
+pub mod Flushes

@@ -50,7 +50,7 @@ use Rattle.pp_peer.specs.Flushing.{Scene}
 use Rattle.pp_peer.specs.Greeting.{StaysBut, IsExpired, IsGreeted}
 use Rattle.pp_peer.specs.Sending.{SendsAll}
 use Rattle.pp_peer.specs.Speaking.{is_taken, SpeaksTo, TurnsIf}
-use Rattle.pp_core.specs.Telling.{Tells, end_of, Reaches, HasOne, IsLasting, HasPeer, IsProven, is_new_from, Acknowledges, TellsChunk, TellsFrom, Announces, BeginsWith, Greets, cancels, Cancels, brings, asks_addresses, Exchanges, chokes, unchokes, TakesTurns}
+use Rattle.pp_core.specs.Telling.{Tells, end_of, IsTold, HasOne, IsLasting, HasPeer, IsProven, is_new_from, Acknowledges, TellsChunk, TellsFrom, Announces, BeginsWith, Greets, cancels, Cancels, brings, asks_addresses, Exchanges, chokes, unchokes, TakesTurns}
 use Rattle.pp_core.proofs.Delivered.{opens_reach, said_one, acks_note, brings_note, ack_says, have_says, cancel_says, address_says, question_says, choke_says, unchoke_says, acked_notes, addressed_notes}
 use Rattle.pp_core.proofs.Kept.{turn_stays}
 use Rattle.pp_core.proofs.Spoken.{is_heard, heard_at, SeatTurn, seat_turn, IsSpoken, marked_due, spoken, seats_rest, turn_reaches, notes_reach, IsFilled, filled, turn_then, cursor_first, holding_then}
@@ -126,7 +126,7 @@ module _ (seat : ℕ) (c : Channel) (known : SeatState) (old : Scene) (later : L
   committed = to.fills.committed ∙ ap (λ (h : HoldingState). h.store.committed) f.kept.holding
 
   -- what came is acknowledged
-  pub acks : (i : ℕ) → is_new_from seat i old.parts ≡ true → Reaches c (HasOne (acknowledges i)) old later
+  pub acks : (i : ℕ) → is_new_from seat i old.parts ≡ true → IsTold c (HasOne (acknowledges i)) old later
   acks i is = notes_reach seat (end_of c) old later s (HasOne (acknowledges i)) (acks_note i)
       (said_one to.picked.seats.descriptor (acks_note i) (acknowledges i) (ack_says to.picked.seats.descriptor i))
       (acked_notes i s.turn.left.agenda
@@ -147,7 +147,7 @@ module _ (seat : ℕ) (c : Channel) (known : SeatState) (old : Scene) (later : L
 
   -- something goes where a datagram is due
   pub goes_any : channel_at old.parts.seats.table seat ≡ Some c
-      → (is_silent old.parts.seats.moment c ≡ true) ⊎ (slice_index_or old.parts.to_prove seat false ≡ true) → Reaches c (λ messages. Unit {0}) old later
+      → (is_silent old.parts.seats.moment c ≡ true) ⊎ (slice_index_or old.parts.to_prove seat false ≡ true) → IsTold c (λ messages. Unit {0}) old later
   goes_any there due = notes_reach seat (end_of c) old later s (λ messages. Unit {0}) (λ n. true) (λ notes ms some said. tt)
       (any_note s.turn.left.agenda (never_silent to.fills.known to.fills.due s.turn.left.agenda to.fills.agenda (inl tells)
       (to.fills.silent ∙ ⊎_elim
@@ -159,7 +159,7 @@ module _ (seat : ℕ) (c : Channel) (known : SeatState) (old : Scene) (later : L
 
   -- what isn't awaited any more is cancelled
   pub drops : (i asked : ℕ) → asked_at known.own i ≡ Some asked → old.parts.seats.moment < asked + 10_000_000 → is_committed old.parts.holding.store i ≡ true
-      → Reaches c (HasOne (cancels i)) old later
+      → IsTold c (HasOne (cancels i)) old later
   drops i asked was lately is = notes_reach seat (end_of c) old later s (HasOne (cancels i)) (cancels_note i)
       (said_one to.picked.seats.descriptor (cancels_note i) (cancels i) (cancel_says to.picked.seats.descriptor i))
       (cancels_all to.fills.known to.fills.due s.turn.left.agenda to.fills.agenda i
@@ -190,8 +190,8 @@ module _ (seat : ℕ) (c : Channel) (known : SeatState) (old : Scene) (later : L
 
   pub tells_all : (takes : Supports) → slice_get old.parts.supports seat ≡ Some takes → slice_index_or old.parts.questions seat false ≡ true
       → IsRested known.answer old.parts.seats.moment 10_000_000
-      → AllByRecursion (λ a. Reaches c (HasOne (brings a)) old later) (filter (is_taken takes.v6) (answers old.parts.pex.table c.address old.parts.seats.moment))
-  tells_all takes has asked rested = all_in (λ a. Reaches c (HasOne (brings a)) old later) (filter (is_taken takes.v6) (answers old.parts.pex.table c.address old.parts.seats.moment))
+      → AllByRecursion (λ a. IsTold c (HasOne (brings a)) old later) (filter (is_taken takes.v6) (answers old.parts.pex.table c.address old.parts.seats.moment))
+  tells_all takes has asked rested = all_in (λ a. IsTold c (HasOne (brings a)) old later) (filter (is_taken takes.v6) (answers old.parts.pex.table c.address old.parts.seats.moment))
       (λ a at. notes_reach seat (end_of c) old later s (HasOne (brings a)) (brings_note a)
       (said_one to.picked.seats.descriptor (brings_note a) (brings a) (address_says to.picked.seats.descriptor a))
       (addressed_notes a s.turn.left.agenda
@@ -201,7 +201,7 @@ module _ (seat : ℕ) (c : Channel) (known : SeatState) (old : Scene) (later : L
       ∙ at))
 
   pub asks_some : (takes : Supports) → slice_get old.parts.supports seat ≡ Some takes → takes.requests ≡ true → is_some old.parts.fetching ≡ true
-      → IsRested known.question old.parts.seats.moment 60_000_000 → Reaches c (HasOne asks_addresses) old later
+      → IsRested known.question old.parts.seats.moment 60_000_000 → IsTold c (HasOne asks_addresses) old later
   asks_some takes has requests fetches rested = notes_reach seat (end_of c) old later s (HasOne asks_addresses) is_address_request
       (said_one to.picked.seats.descriptor is_address_request asks_addresses (question_says to.picked.seats.descriptor))
       ((exchanges_all to.fills.known to.fills.due s.turn.left.agenda to.fills.agenda).asks_addresses
@@ -211,7 +211,7 @@ module _ (seat : ℕ) (c : Channel) (known : SeatState) (old : Scene) (later : L
       ∙ and_from (is_some to.picked.fetching) to.fills.takes.requests (f.kept.fetches ∙ fetches)
       (ap (λ (x : Supports). x.requests) (same_Some to.fills.takes takes (sym to.fills.supports ∙ ap (λ xs. slice_get xs seat) f.kept.supports ∙ has)) ∙ requests)))
 
-  pub unchoked : due_turn known ≡ Some Unchoke → Reaches c (HasOne unchokes) old later
+  pub unchoked : due_turn known ≡ Some Unchoke → IsTold c (HasOne unchokes) old later
   unchoked due = notes_reach seat (end_of c) old later s (HasOne unchokes) is_unchoke
       (said_one to.picked.seats.descriptor is_unchoke unchokes (unchoke_says to.picked.seats.descriptor))
       ((chokes_where_due to.fills.known to.fills.due s.turn.left.agenda to.fills.agenda).unchokes
@@ -221,7 +221,7 @@ module _ (seat : ℕ) (c : Channel) (known : SeatState) (old : Scene) (later : L
 -- ---- handshakes
 
 greets_spoken : (seat : ℕ) (c : Channel) (old : Scene) (later : LinkState) → channel_at old.parts.seats.table seat ≡ Some c
-    → handshake_due old.parts.seats.moment c ≡ true → IsSpoken seat (end_of c) old later → Reaches c (BeginsWith old.parts.seats.descriptor c.local) old later
+    → handshake_due old.parts.seats.moment c ≡ true → IsSpoken seat (end_of c) old later → IsTold c (BeginsWith old.parts.seats.descriptor c.local) old later
 greets_spoken seat c old later there due s =
     let to = s.speaks.speaks in
     let sp = to.says.speaks in
@@ -267,7 +267,7 @@ waits_none true far e = refl
 waits_none false far e = absurd cc
 
 greets_alone : (seat : ℕ) (c : Channel) (old : Scene) (later : LinkState) → channel_at old.parts.seats.table seat ≡ Some c
-    → handshake_due old.parts.seats.moment c ≡ true → is_waiting c ≡ true → SeatTurn seat old later → Reaches c (BeginsWith old.parts.seats.descriptor c.local) old later
+    → handshake_due old.parts.seats.moment c ≡ true → is_waiting c ≡ true → SeatTurn seat old later → IsTold c (BeginsWith old.parts.seats.descriptor c.local) old later
 greets_alone seat c old later there due waits t =
     let m = subst (λ (o : Option Channel). StaysBut o (channel_at t.begin.parts.seats.table seat)) there t.kept.seats.channel in
     let none : far_of (channel_at t.begin.parts.seats.table seat) ≡ None = ap far_of m.1 ∙ waits_none (is_waiting c) _ waits in
@@ -308,7 +308,7 @@ module _ (dials lefts : List Dial) (speaker left : Speaker) (refused : ℕ) (old
   }
 
   greets_due : (seat : ℕ) (c : Channel) → IsLasting seat c old.parts → handshake_due old.parts.seats.moment c ≡ true
-      → Reaches c (BeginsWith old.parts.seats.descriptor c.local) old new.link
+      → IsTold c (BeginsWith old.parts.seats.descriptor c.local) old new.link
   greets_due seat c h due = ⊎_elim
       (λ (waits : is_waiting c ≡ true). greets_alone seat c old new.link h.there due waits (turn_of seat c h))
       (λ (known : is_waiting c ≡ false). greets_spoken seat c old new.link h.there due
@@ -330,7 +330,7 @@ module _ (dials lefts : List Dial) (speaker left : Speaker) (refused : ℕ) (old
     asks = λ seat c takes h has requests fetches rested. asks_some seat c h.peer.known old new.link h.proven (fill seat c h) takes has requests fetches rested;
   }
 
-  choke_goes : (seat : ℕ) (c : Channel) → (h : HasPeer seat c old.parts) → due_turn h.known ≡ Some Choke → Reaches c (HasOne chokes) old new.link
+  choke_goes : (seat : ℕ) (c : Channel) → (h : HasPeer seat c old.parts) → due_turn h.known ≡ Some Choke → IsTold c (HasOne chokes) old new.link
   choke_goes seat c h due =
       let sp = speak seat c h in
       let f = sp.speaks.speaks.fills in

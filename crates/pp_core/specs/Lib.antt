@@ -7,3 +7,6 @@ pub mod Storing
 pub mod Listing
 pub mod Telling
 pub mod Slots
+pub mod Having
+pub mod Reaching
+pub mod Asking

@@ -55,8 +55,8 @@ end_of c = record {
 }
 
 -- A datagram of whose messages this holds went on a channel, or the link refused one.
-abbrev pub Reaches : Channel → (List Message → Type 0) → Scene → LinkState → Type 0
-Reaches c says old later =
+abbrev pub IsTold : Channel → (List Message → Type 0) → Scene → LinkState → Type 0
+IsTold c says old later =
     Tells old.parts.seats.descriptor (end_of c) says old.link later ⊎ HasRisen old.link.faults later.faults
 
 -- One of the messages passes a test.
@@ -93,13 +93,13 @@ is_new_from seat i p = has_chunk (of_seat seat p.holding.queue.tickets) i || has
 -- An ACK of each chunk that came went on the channel that it came on.
 abbrev pub Acknowledges : Scene → LinkState → Type 0
 Acknowledges old later = (seat i : ℕ) (c : Channel) → IsProven seat c old.parts → is_new_from seat i old.parts ≡ true
-    → Reaches c (HasOne (acknowledges i)) old later
+    → IsTold c (HasOne (acknowledges i)) old later
 
 -- ---- chunks that are committed
 
 -- A HAVE of a chunk went on a channel.
 abbrev pub TellsChunk : Channel → ℕ → Scene → LinkState → Type 0
-TellsChunk c i old later = Reaches c (HasOne (has_in i)) old later
+TellsChunk c i old later = IsTold c (HasOne (has_in i)) old later
 
 -- All committed chunks from a number on were told of, or the next 64 ranges of them.
 abbrev pub TellsFrom : ℕ → Channel → Scene → LinkState → Type 0
@@ -127,10 +127,10 @@ BeginsWith d source messages = (rest : List Message) × (messages ≡ Handshake 
 -- seconds, or if the other peer awaited one to learn this one's address.
 pub record Greets (old : Scene) (later : LinkState) : Type 0 where
   pub due : (seat : ℕ) (c : Channel) → IsLasting seat c old.parts → handshake_due old.parts.seats.moment c ≡ true
-      → Reaches c (BeginsWith old.parts.seats.descriptor c.local) old later
+      → IsTold c (BeginsWith old.parts.seats.descriptor c.local) old later
   pub silent : (seat : ℕ) (c : Channel) → IsProven seat c old.parts
       → (is_silent old.parts.seats.moment c ≡ true) ⊎ (slice_index_or old.parts.to_prove seat false ≡ true)
-      → Reaches c (λ messages. Unit {0}) old later
+      → IsTold c (λ messages. Unit {0}) old later
 
 -- ---- chunks that aren't awaited any more
 
@@ -143,7 +143,7 @@ cancels i _ = false
 abbrev pub Cancels : Scene → LinkState → Type 0
 Cancels old later = (seat i asked : ℕ) (c : Channel) → (h : IsProven seat c old.parts)
     → asked_at h.peer.known.own i ≡ Some asked → old.parts.seats.moment < asked + 10_000_000
-    → is_committed old.parts.holding.store i ≡ true → Reaches c (HasOne (cancels i)) old later
+    → is_committed old.parts.holding.store i ≡ true → IsTold c (HasOne (cancels i)) old later
 
 -- ---- addresses of other peers
 
@@ -163,11 +163,11 @@ pub record Exchanges (old : Scene) (later : LinkState) : Type 0 where
   pub answers_all : (seat : ℕ) (c : Channel) (takes : Supports) → (h : IsProven seat c old.parts)
       → slice_get old.parts.supports seat ≡ Some takes → slice_index_or old.parts.questions seat false ≡ true
       → IsRested h.peer.known.answer old.parts.seats.moment 10_000_000
-      → AllByRecursion (λ a. Reaches c (HasOne (brings a)) old later)
+      → AllByRecursion (λ a. IsTold c (HasOne (brings a)) old later)
       (filter (is_taken takes.v6) (answers old.parts.pex.table c.address old.parts.seats.moment))
   pub asks : (seat : ℕ) (c : Channel) (takes : Supports) → (h : IsProven seat c old.parts)
       → slice_get old.parts.supports seat ≡ Some takes → takes.requests ≡ true → is_some old.parts.fetching ≡ true
-      → IsRested h.peer.known.question old.parts.seats.moment 60_000_000 → Reaches c (HasOne asks_addresses) old later
+      → IsRested h.peer.known.question old.parts.seats.moment 60_000_000 → IsTold c (HasOne asks_addresses) old later
 
 -- ---- who may be sent chunks
 
@@ -182,6 +182,6 @@ unchokes _ = false
 -- CHOKE went on each channel on which it was due, and UNCHOKE on each proven one.
 pub record TakesTurns (old : Scene) (later : LinkState) : Type 0 where
   pub chokes_due : (seat : ℕ) (c : Channel) → (h : HasPeer seat c old.parts) → due_turn h.known ≡ Some turns.Choke
-      → Reaches c (HasOne chokes) old later
+      → IsTold c (HasOne chokes) old later
   pub unchokes_due : (seat : ℕ) (c : Channel) → (h : IsProven seat c old.parts) → due_turn h.peer.known ≡ Some turns.Unchoke
-      → Reaches c (HasOne unchokes) old later
+      → IsTold c (HasOne unchokes) old later

@@ -24,9 +24,12 @@ ghost use Rattle.pp_peer.specs.Absorbing.{with_event, Advanced, InTime, is_quiet
 ghost use Rattle.pp_peer.specs.Events.{Absorbs};
 ghost use Rattle.pp_peer.specs.Standing.{Beginning, Ledger, StandsFor};
 ghost use Rattle.pp_channels.specs.Seats.{is_found};
+ghost use Rattle.pp_core.specs.Asking.{Asks};
+ghost use Rattle.pp_core.specs.Having.{HasHeld};
 ghost use Rattle.pp_core.specs.Keeping.{IsKeeping};
 ghost use Rattle.pp_core.specs.Listing.{ListsRequests};
 ghost use Rattle.pp_core.specs.Opening.{HasBegun, beginning};
+ghost use Rattle.pp_core.specs.Reaching.{Reaches};
 ghost use Rattle.pp_core.specs.Slots.{KeepsSlots};
 ghost use Rattle.pp_core.specs.Storing.{StoresWhatFits};
 ghost use Rattle.pp_core.specs.Telling.{Acknowledges, Announces, Greets, Cancels, Exchanges, TakesTurns};
@@ -108,6 +111,8 @@ impl Peer {
         ensures sound { IsKnown (D.state disk.old) → StaysSound descriptor.now (D.state disk.old).history (D.state disk.new).history }
         ensures goes_on { IsKnown (D.state disk.old) → GoesOn descriptor.now (D.state disk.old).history (D.state disk.new).history }
         ensures disk { KeepsDisk (D.state disk.old) (D.state disk.new) }
+        // What a peer that fetches has is what it holds.
+        ensures had { IfOk result (λ p. HasHeld p.parts) }
     {
         let Ok(room) = Room::new(alloc, descriptor, random, asks, dial) else {
             return Err(ScanFault::Memory);
@@ -152,6 +157,8 @@ impl Peer {
             → HasCause (D.state disk.old).hard (D.state disk.new).hard result }
         ensures live { self.old.parts.holding.store.live ≡ true → OnOk result (self.new.parts.holding.store.live ≡ true) }
         ensures dead { OnErr result (self.new.parts.holding.store.live ≡ false) }
+        // What a peer that fetches has goes on being what it holds.
+        ensures had { OnOk result (HasHeld self.old.parts → HasHeld self.new.parts) }
     {
         self.parts.absorb(event, bytes, disk)
     }
@@ -161,6 +168,7 @@ impl Peer {
         ensures exact { self.new ≡ after_refusal self.old }
         ensures stands { (b : Beginning) (most : ℕ) (past : List Record) → StandsFor b most self.old.parts past
             → StandsFor b most self.new.parts past }
+        ensures had { HasHeld self.old.parts → HasHeld self.new.parts }
     {
         self.parts.counts.note(Note::Turn);
         self.parts.counts.note(Note::ReceiveFault);
@@ -168,7 +176,7 @@ impl Peer {
 
     /// Sends what is due, at most 512 chunks on a channel. What the link or the disk refuses is counted.
     pub fn flush<D: Disk, L: Link>(&mut self, disk: &mut D, link: &mut L)
-        ensures sends { (refused : ℕ) × Sends refused self.old self.new (L.seen link.old) (L.seen link.new) (D.state disk.old) (D.state disk.new) }
+        ensures exact { (refused : ℕ) × Sends refused self.old self.new (L.seen link.old) (L.seen link.new) (D.state disk.old) (D.state disk.new) }
         // On each channel whose time isn't over what came is acknowledged, what was committed told of, what isn't awaited any more cancelled;
         // handshakes, CHOKEs and UNCHOKEs that are due go, and addresses are exchanged; unless the link refused a datagram.
         ensures acknowledged { Acknowledges (scene self.old.parts (L.seen link.old) (D.state disk.old)) (L.seen link.new) }
@@ -179,6 +187,12 @@ impl Peer {
         ensures turned { TakesTurns (scene self.old.parts (L.seen link.old) (D.state disk.old)) (L.seen link.new) }
         // No seat loses its upload slot on whose channel no CHOKE was due, but the one that has it longest, once slots are to be turned.
         ensures slots { KeepsSlots self.old.parts self.new.parts }
+        ensures had { HasHeld self.old.parts → HasHeld self.new.parts }
+        // Each address that it was told to dial has a channel, or rests, or no seat is free.
+        ensures reaches { Reaches self.old self.new (L.seen link.old) (L.seen link.new) (D.state disk.old) (D.state disk.new) }
+        // On a channel on which more may be asked for all that it offers was asked for.
+        ensures asks { HasHeld self.old.parts → (b : Beginning) (most : ℕ) (past : List Record) → StandsFor b most self.old.parts past
+            → Asks self.old self.new (L.seen link.old) (L.seen link.new) (D.state disk.old) (D.state disk.new) }
     {
         self.parts
             .flush(&mut self.dials, &mut self.speaker, disk, link);
@@ -187,7 +201,8 @@ impl Peer {
 
     /// Sends a closing handshake on each proven channel, by rising seat.
     pub fn close<D: Disk, L: Link>(&mut self, disk: &D, link: &mut L)
-        ensures { Closes self.old self.new (L.seen link.old) (L.seen link.new) (D.state disk.now) }
+        ensures exact { Closes self.old self.new (L.seen link.old) (L.seen link.new) (D.state disk.now) }
+        ensures had { HasHeld self.old.parts → HasHeld self.new.parts }
     {
         self.parts.part(disk, link);
     }
@@ -239,6 +254,7 @@ impl Peer {
         ensures exact { self.new ≡ record self.old { parts = with_limit limit self.old.parts } }
         ensures stands { (b : Beginning) (most : ℕ) (past : List Record) → StandsFor b most self.old.parts past
             → StandsFor b most self.new.parts past }
+        ensures had { HasHeld self.old.parts → HasHeld self.new.parts }
     {
         want_below(&mut self.parts.fetching, limit);
     }

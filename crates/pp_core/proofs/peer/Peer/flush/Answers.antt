@@ -1,22 +1,20 @@
 use Rattle.pp_core.specs.Turning.{scene}
-use Rattle.pp_core.proofs.Keeping.{flush_goes}
+use Rattle.pp_core.proofs.Flushes.{flush_course, flush_asks}
+use Rattle.pp_core.proofs.Having.{flush_held}
+use Rattle.pp_core.proofs.Reaching.{flush_reaches}
 use Rattle.pp_core.proofs.Slots.{slots_kept}
 use Rattle.pp_core.proofs.Told.{acknowledged, announced, greeted, cancelled, exchanged, turned}
 use Rattle.pp_core.proofs.peer.Peer.flush.Goals as goal
 
-pub returns-clause-sends : goal.returns-clause-sends
-returns-clause-sends g c = rw (← c.self.view_is) (
+pub returns-clause-exact : goal.returns-clause-exact
+returns-clause-exact g c = rw (← c.self.view_is) (
   c.flush.result,
-  record {
-    sent = c.flush.new.self;
-    sends = c.flush.ensures.sends;
-    flushes = c.flush.ensures.flushes;
-    goes = flush_goes c.flush.result (record { parts = c.self.inside.parts; speaker = c.self.inside.speaker; dials = c.self.inside.dials })
-        (record { parts = record c.flush.new.self { holding = c.forget_tickets.new.self }; speaker = c.flush.new.speaker; dials = c.flush.new.dials })
-        c.flush.new.self (g.L.Link.seen c.args.link.now) (g.L.Link.seen c.flush.new.link) (g.D.Disk.state c.args.disk.now) (g.D.Disk.state c.flush.new.disk)
-        c.flush.ensures.flushes (λ t. record c.flush.new.self { holding = c.forget_tickets.ensures t });
-    rest = λ t. record c.flush.new.self { holding = c.forget_tickets.ensures t };
-  },
+  flush_course c.flush.result
+      (record { parts = c.self.inside.parts; speaker = c.self.inside.speaker; dials = c.self.inside.dials })
+      (record { parts = record c.flush.new.self { holding = c.forget_tickets.new.self }; speaker = c.flush.new.speaker; dials = c.flush.new.dials })
+      c.flush.new.self
+      (g.L.Link.seen c.args.link.now) (g.L.Link.seen c.flush.new.link) (g.D.Disk.state c.args.disk.now) (g.D.Disk.state c.flush.new.disk)
+      c.flush.ensures.sends c.flush.ensures.flushes (λ t. record c.flush.new.self { holding = c.forget_tickets.ensures t }),
 )
 
 pub returns-clause-acknowledged : goal.returns-clause-acknowledged
@@ -53,3 +51,35 @@ pub returns-clause-slots : goal.returns-clause-slots
 returns-clause-slots g c = rw (← c.self.view_is) (slots_kept c.self.inside.dials c.flush.new.dials c.self.inside.speaker c.flush.new.speaker c.flush.result
     (scene c.self.inside.parts (g.L.Link.seen c.args.link.now) (g.D.Disk.state c.args.disk.now))
     (scene c.flush.new.self (g.L.Link.seen c.flush.new.link) (g.D.Disk.state c.flush.new.disk)) c.flush.ensures.sends)
+
+pub returns-clause-had : goal.returns-clause-had
+returns-clause-had g c =
+    rw (← c.self.view_is) (flush_held c.self.inside.dials c.flush.new.dials c.self.inside.speaker c.flush.new.speaker c.flush.result
+    (scene c.self.inside.parts (g.L.Link.seen c.args.link.now) (g.D.Disk.state c.args.disk.now))
+    (scene c.flush.new.self (g.L.Link.seen c.flush.new.link) (g.D.Disk.state c.flush.new.disk))
+    (record c.flush.new.self { holding = c.forget_tickets.new.self }) c.flush.ensures.sends c.flush.ensures.flushes.holding
+    (λ t. record c.flush.new.self { holding = c.forget_tickets.ensures t }))
+
+pub returns-clause-reaches : goal.returns-clause-reaches
+returns-clause-reaches g c = rw (← c.self.view_is) (flush_reaches c.flush.result
+    (record { parts = c.self.inside.parts; speaker = c.self.inside.speaker; dials = c.self.inside.dials })
+    (record { parts = record c.flush.new.self { holding = c.forget_tickets.new.self }; speaker = c.flush.new.speaker; dials = c.flush.new.dials })
+    (g.L.Link.seen c.args.link.now) (g.L.Link.seen c.flush.new.link) (g.D.Disk.state c.args.disk.now) (g.D.Disk.state c.flush.new.disk)
+    (flush_course c.flush.result
+    (record { parts = c.self.inside.parts; speaker = c.self.inside.speaker; dials = c.self.inside.dials })
+    (record { parts = record c.flush.new.self { holding = c.forget_tickets.new.self }; speaker = c.flush.new.speaker; dials = c.flush.new.dials })
+    c.flush.new.self
+    (g.L.Link.seen c.args.link.now) (g.L.Link.seen c.flush.new.link) (g.D.Disk.state c.args.disk.now) (g.D.Disk.state c.flush.new.disk)
+    c.flush.ensures.sends c.flush.ensures.flushes (λ t. record c.flush.new.self { holding = c.forget_tickets.ensures t })))
+
+pub returns-clause-asks : goal.returns-clause-asks
+returns-clause-asks g c = rw (← c.self.view_is) (flush_asks c.flush.result
+    (record { parts = c.self.inside.parts; speaker = c.self.inside.speaker; dials = c.self.inside.dials })
+    (record { parts = record c.flush.new.self { holding = c.forget_tickets.new.self }; speaker = c.flush.new.speaker; dials = c.flush.new.dials })
+    (g.L.Link.seen c.args.link.now) (g.L.Link.seen c.flush.new.link) (g.D.Disk.state c.args.disk.now) (g.D.Disk.state c.flush.new.disk)
+    (flush_course c.flush.result
+    (record { parts = c.self.inside.parts; speaker = c.self.inside.speaker; dials = c.self.inside.dials })
+    (record { parts = record c.flush.new.self { holding = c.forget_tickets.new.self }; speaker = c.flush.new.speaker; dials = c.flush.new.dials })
+    c.flush.new.self
+    (g.L.Link.seen c.args.link.now) (g.L.Link.seen c.flush.new.link) (g.D.Disk.state c.args.disk.now) (g.D.Disk.state c.flush.new.disk)
+    c.flush.ensures.sends c.flush.ensures.flushes (λ t. record c.flush.new.self { holding = c.forget_tickets.ensures t })))
