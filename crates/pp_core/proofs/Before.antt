@@ -55,7 +55,8 @@ wanted_some (Some f) = refl
 same_wanted : (old new : Option FetchState) → wanted_of new ≡ wanted_of old → is_some new ≡ is_some old
 same_wanted old new same = sym (wanted_some new) ∙ ap is_some same ∙ wanted_some old
 
-drops_kept : (seat : ℕ) (old new : Parts) → seat < 64 → is_over old.seats.moment (channel_at old.seats.table seat) ≡ false → Drops old new → Kept seat old new
+drops_kept : (seat : ℕ) (old new : Parts) → seat < 64 → is_over old.seats.moment (channel_at old.seats.table seat) ≡ false
+    → Drops old new → Kept seat old new
 drops_kept seat old new low lasts d = ⊎_elim
     (λ (u : IsUntouched seat old new). record {
       seats = record {
@@ -82,7 +83,8 @@ let_go now (Some s) p l = (
   l.0,
   l.1,
   record {
-    rest = l.2.rest ∙ ap (λ (due : Bool). record s { own = l.0.own; stopped = l.0.stopped; owes = due }) (sym (ap (λ (x : SeatState). x.owes) l.2.rest));
+    rest = l.2.rest ∙ ap (λ (due : Bool). record s { own = l.0.own; stopped = l.0.stopped; owes = due })
+        (sym (ap (λ (x : SeatState). x.owes) l.2.rest));
     own = λ i. ⊎_elim (λ same. inl same) (λ gone. inr gone.0) (l.2.own i);
     owes = λ due. ap (λ (x : SeatState). x.owes) l.2.rest ∙ due;
   },
@@ -93,7 +95,8 @@ gives_kept seat old new g = record {
   seats = record {
     swarm = ap (λ (p : Parts). p.seats.descriptor) g.rest;
     moment = ap (λ (p : Parts). p.seats.moment) g.rest;
-    channel = stays_same (channel_at old.seats.table seat) (channel_at new.seats.table seat) (ap (λ (p : Parts). channel_at p.seats.table seat) g.rest);
+    channel = stays_same (channel_at old.seats.table seat) (channel_at new.seats.table seat)
+        (ap (λ (p : Parts). channel_at p.seats.table seat) g.rest);
     state = let_go old.seats.moment (slice_get old.seats.seats seat) (slice_get new.seats.seats seat) (g.each seat);
   };
   holding = ap (λ (p : Parts). p.holding) g.rest;
@@ -106,7 +109,8 @@ gives_kept seat old new g = record {
 
 -- ---- dials
 
-drop_in : (dropped : Option Channel) (xs : List (Option Channel)) (n : ℕ) → get_or (map (after_drop dropped) xs) n None ≡ after_drop dropped (get_or xs n None)
+drop_in : (dropped : Option Channel) (xs : List (Option Channel)) (n : ℕ)
+    → get_or (map (after_drop dropped) xs) n None ≡ after_drop dropped (get_or xs n None)
 drop_in dropped [] n = refl
 drop_in dropped (x ∷ xs) zero = refl
 drop_in dropped (x ∷ xs) (suc n) = drop_in dropped xs n
@@ -125,12 +129,14 @@ free_none t k free = of (channel_at t k) (position-Some is_none t.channels k Non
     of None e = refl
     of (Some c) e = absurd cc
 
-dials_kept : (seat : ℕ) (to : Address) (moment : ℕ) (sent : Bool) (old new : SeatsState) (link later : LinkState) → Dials to moment sent old new link later
+dials_kept : (seat : ℕ) (to : Address) (moment : ℕ) (sent : Bool) (old new : SeatsState) (link later : LinkState)
+    → Dials to moment sent old new link later
     → is_some (channel_at old.table seat) ≡ true → SeatKept seat old new
 dials_kept seat to moment sent old new link later d some = of sent d.is
   where
     ne : seat ≢ d.seat
-    ne is = both_ways (is_some (channel_at old.table d.seat)) (free_none old.table d.seat d.free) (ap (λ (n : ℕ). is_some (channel_at old.table n)) (sym is) ∙ some)
+    ne is = both_ways (is_some (channel_at old.table d.seat)) (free_none old.table d.seat d.free)
+        (ap (λ (n : ℕ). is_some (channel_at old.table n)) (sym is) ∙ some)
 
     there : channel_at (with_dial to old) seat ≡ channel_at old.table seat
     there = subst (λ (o : Option ℕ). channel_at (with_channel_at o (dialled to old.moment) old.table) seat ≡ channel_at old.table seat) (sym d.free)
@@ -144,16 +150,22 @@ dials_kept seat to moment sent old new link later d some = of sent d.is
       state = state_none old.moment (slice_get old.seats seat);
     })
 
-    of : (b : Bool) → new ≡ record old { table = cond b (with_datagram (with_dial to old) d.seat true old.moment) (closed (with_dial to old) d.seat) } → SeatKept seat old new
+    of : (b : Bool) → new ≡ record old {
+      table = cond b (with_datagram (with_dial to old) d.seat true old.moment)
+          (closed (with_dial to old) d.seat);
+    } → SeatKept seat old new
     of true is = kept (with_datagram (with_dial to old) d.seat true old.moment) is
         (stays_same (channel_at old.table seat) (channel_at (with_datagram (with_dial to old) d.seat true old.moment) seat)
         (datagram_there (with_dial to old) d.seat seat true old.moment ne ∙ there))
     of false is = kept (closed (with_dial to old) d.seat) is
-        (subst (λ (o : Option Channel). StaysBut o (channel_at (closed (with_dial to old) d.seat) seat)) there (closed_there (with_dial to old) d.seat seat ne))
+        (subst (λ (o : Option Channel). StaysBut o (channel_at (closed (with_dial to old) d.seat) seat)) there
+        (closed_there (with_dial to old) d.seat seat ne))
 
-sends_grows : (to : _) (bytes : List ℕ) (moment : ℕ) (link later : LinkState) (sent : Bool) → posts.Sends to bytes moment link later sent → Grows link later
+sends_grows : (to : _) (bytes : List ℕ) (moment : ℕ) (link later : LinkState) (sent : Bool)
+    → posts.Sends to bytes moment link later sent → Grows link later
 sends_grows to bytes moment link later true s = record { added = Sent moment to bytes ∷ []; gained = s.outcome; faults = s.later }
-sends_grows to bytes moment link later false s = record { added = []; gained = gains_nothing link.traffic later.traffic s.outcome.0; faults = s.later }
+sends_grows to bytes moment link later false s =
+    record { added = []; gained = gains_nothing link.traffic later.traffic s.outcome.0; faults = s.later }
 
 -- What a step before the turns leaves of a seat and of the link.
 pub record Goes (seat : ℕ) (old new : Scene) : Type 0 where
@@ -207,17 +219,27 @@ each_goes seat (dial ∷ dials) (left ∷ lefts) old new d =
 
 queue_goes : (seat : ℕ) (queue : List Address) (s : Scene) → Goes seat s (with_queue queue s)
 queue_goes seat queue s = record {
-  lives = λ some. record { seats = seat_none seat s.parts.seats s.parts.seats refl; holding = refl; fetches = refl; table = refl; question = refl; proof = refl; supports = refl };
+  lives = λ some. record {
+    seats = seat_none seat s.parts.seats s.parts.seats refl;
+    holding = refl;
+    fetches = refl;
+    table = refl;
+    question = refl;
+    proof = refl;
+    supports = refl;
+  };
   messages = refl;
   grows = grows_none s.link s.link refl;
 }
 
 suggested_goes : (seat : ℕ) (queue : List Address) (old new : Scene) → DialsSuggested queue old new → Goes seat old new
 suggested_goes seat [] old new d = goes_none seat old new d
-suggested_goes seat (address ∷ queue) old new d = of (nat_lt (used_of old.parts.seats.table) 32) (λ mid rest. suggested_goes seat queue mid new rest) d
+suggested_goes seat (address ∷ queue) old new d = of (nat_lt (used_of old.parts.seats.table) 32)
+    (λ mid rest. suggested_goes seat queue mid new rest) d
   where
     of : (b : Bool) → ((mid : Scene) → DialsSuggested queue mid new → Goes seat mid new)
-        → MatchBool b ((sent : Option Bool) × (mid : Scene) × Tries address sent (with_queue queue old) mid × DialsSuggested queue mid new) (new ≡ old) → Goes seat old new
+        → MatchBool b ((sent : Option Bool) × (mid : Scene) × Tries address sent (with_queue queue old) mid × DialsSuggested queue mid new)
+        (new ≡ old) → Goes seat old new
     of true more h = goes_twice seat old (with_queue queue old) new (queue_goes seat queue old)
         (goes_twice seat (with_queue queue old) h.1 new (tries_goes seat address h.0 (with_queue queue old) h.1 h.2) (more h.1 h.3))
     of false more h = goes_none seat old new h
@@ -239,13 +261,16 @@ slots_kept seat old new t = kept_twice seat old t.mid new (longest_kept seat old
 -- ---- all of it
 
 pub before_turns : (seat : ℕ) (c : Channel) (dials lefts : List Dial) (old : Scene) (dropped given turned : Parts) (dialled : Scene) → seat < 64
-    → channel_at old.parts.seats.table seat ≡ Some c → is_over old.parts.seats.moment (Some c) ≡ false → Drops old.parts dropped → GivesUp dropped given
-    → DialsAll dials lefts (record old { parts = given }) dialled → TurnsSlots dialled.parts turned → Kept seat old.parts turned × Grows old.link dialled.link
+    → channel_at old.parts.seats.table seat ≡ Some c → is_over old.parts.seats.moment (Some c) ≡ false → Drops old.parts dropped
+    → GivesUp dropped given
+    → DialsAll dials lefts (record old { parts = given }) dialled → TurnsSlots dialled.parts turned
+    → Kept seat old.parts turned × Grows old.link dialled.link
 before_turns seat c dials lefts old dropped given turned dialled low there lasts drops gives dialling slots =
     let one = kept_twice seat old.parts dropped given
     (drops_kept seat old.parts dropped low (ap (is_over old.parts.seats.moment) there ∙ lasts) drops) (gives_kept seat dropped given gives) in
     let goes = dials_goes seat dials lefts (record old { parts = given }) dialled dialling in
     let some = still_some (channel_at old.parts.seats.table seat) (channel_at given.seats.table seat) one.seats.channel ∙ ap is_some there in (
-      kept_twice seat old.parts dialled.parts turned (kept_twice seat old.parts given dialled.parts one (goes.lives some)) (slots_kept seat dialled.parts turned slots),
+      kept_twice seat old.parts dialled.parts turned (kept_twice seat old.parts given dialled.parts one (goes.lives some))
+          (slots_kept seat dialled.parts turned slots),
       goes.grows,
     )

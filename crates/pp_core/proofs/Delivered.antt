@@ -37,8 +37,14 @@ way_to d far moment now = record { d = d; receiver = address_of far.address; cha
 
 sends_grows : (d : Descriptor) (far : Far) (moment : ℕ) (bytes : List ℕ) (link later : LinkState) (sent : Bool)
     → Sends (address_of far.address) bytes moment link later sent → Grows link later
-sends_grows d far moment bytes link later true s = record { added = Sent moment (address_of far.address) bytes ∷ []; gained = s.outcome; faults = s.later }
-sends_grows d far moment bytes link later false s = record { added = []; gained = gains_nothing link.traffic later.traffic s.outcome.0; faults = s.later }
+sends_grows d far moment bytes link later true s = record {
+  added = Sent moment
+      (address_of far.address) bytes ∷ [];
+  gained = s.outcome;
+  faults = s.later;
+}
+sends_grows d far moment bytes link later false s =
+    record { added = []; gained = gains_nothing link.traffic later.traffic s.outcome.0; faults = s.later }
 
 one_reaches : (d : Descriptor) (far : Far) (moment now : ℕ) (says : List Message → Type 0) (b : Batch) (old new : At) → (sent : Bool) → b.sent ≡ sent
     → DeliversOne (way_to d far moment now) b old new → says b.messages → Reached d far says old.link new.link
@@ -60,7 +66,8 @@ one_reaches d far moment now says b old new false is one holds =
 
 -- ---- one after the other
 
-each_carries : (d : Descriptor) (far : Far) (moment now : ℕ) (bs : List Batch) (old new : At) → DeliversEach (way_to d far moment now) bs old new → Grows old.link new.link
+each_carries : (d : Descriptor) (far : Far) (moment now : ℕ) (bs : List Batch) (old new : At)
+    → DeliversEach (way_to d far moment now) bs old new → Grows old.link new.link
 each_carries d far moment now bs old new h =
     let c = link_carries (way_to d far moment now) bs old new h in
     record { added = records_of (way_to d far moment now) bs; gained = c.gained; faults = c.later }
@@ -109,7 +116,8 @@ goes_reach (Some source) d far moment now says t by notes old new g some = of g.
     of false h = inr h.goes.outcome.1
 
 -- the handshake comes first
-first_message : (d : Descriptor) (source : ℕ) (notes more rest : List Note) (ms : List Message) → 0 < length notes → notes ++ more ≡ Handshake source ∷ rest
+first_message : (d : Descriptor) (source : ℕ) (notes more rest : List Note) (ms : List Message) → 0 < length notes
+    → notes ++ more ≡ Handshake source ∷ rest
     → SayAll d notes ms → BeginsWith d source ms
 first_message d source [] more rest ms some is says = absurd (omega (arith, some))
 first_message d source (n ∷ notes) more rest ms some is says =
@@ -121,7 +129,8 @@ pub opens_reach : (d : Descriptor) (far : Far) (moment now source : ℕ) (notes 
     → Goes (Some source) (way_to d far moment now) notes old new → Reached d far (BeginsWith d source) old.link new.link
 opens_reach d far moment now source notes old new g = of g.0 g.1
   where
-    begins : (bs : List Batch) (rest : List Note) → BeginsSent bs → notes_of bs ≡ Handshake source ∷ rest → DeliversEach (way_to d far moment now) bs old new
+    begins : (bs : List Batch) (rest : List Note) → BeginsSent bs → notes_of bs ≡ Handshake source ∷ rest
+        → DeliversEach (way_to d far moment now) bs old new
         → Reached d far (BeginsWith d source) old.link new.link
     begins [] rest first is h = absurd first
     begins (b ∷ bs) rest first is h =
@@ -152,7 +161,8 @@ any_mapped : (test : Message → Bool) (make : Span → Message) (i : ℕ) → (
 any_mapped test make i same [] = refl
 any_mapped test make i same (s ∷ spans) = λ t. same s t || any_mapped test make i same spans t
 
-named : (method : Method) (range : Span) (make : Span → Message) (ms : List Message) (test : Message → Bool) (i : ℕ) → ((s : Span) → test (make s) ≡ within s i)
+named : (method : Method) (range : Span) (make : Span → Message) (ms : List Message) (test : Message → Bool) (i : ℕ)
+    → ((s : Span) → test (make s) ≡ within s i)
     → NamesRange method range make ms → within range i ≡ true → list_any test ms ≡ true
 named method range make ms test i same n is =
     ap (λ (xs : List Message). list_any test xs) n.messages ∙ any_mapped test make i same n.spans ∙ names_split method range n.spans n.names i ∙ is
@@ -179,7 +189,8 @@ pub cancel_says : (d : Descriptor) (i : ℕ) (n : Note) (ms : List Message) → 
 cancel_says d i (Cancel range) ms is says = named d.method range (λ span. plain.Cancel span) ms (cancels i) i (λ s. refl) says is
 cancel_says d i _ ms is says = absurd (false≢true is)
 
-pub address_says : (d : Descriptor) (a : Address) (n : Note) (ms : List Message) → brings_note a n ≡ true → Says d n ms → list_any (brings a) ms ≡ true
+pub address_says : (d : Descriptor) (a : Address) (n : Note) (ms : List Message) → brings_note a n ≡ true → Says d n ms
+    → list_any (brings a) ms ≡ true
 address_says d a (Pex4 bytes port) ms is says = ap (λ (xs : List Message). list_any (brings a) xs) says ∙ or_left (is_same (V4 bytes port) a) false is
 address_says d a (Pex6 bytes port) ms is says = ap (λ (xs : List Message). list_any (brings a) xs) says ∙ or_left (is_same (V6 bytes port) a) false is
 address_says d a _ ms is says = absurd (false≢true is)

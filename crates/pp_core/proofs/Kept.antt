@@ -127,7 +127,8 @@ seat_twice seat a b c one two = record {
 }
 
 -- where another seat's channel and state change
-pub seat_other : (seat k : ℕ) (old new : SeatsState) (table : Seats) (after : SeatState) → seat ≢ k → new ≡ record old { table = table; seats = slice_set old.seats k after }
+pub seat_other : (seat k : ℕ) (old new : SeatsState) (table : Seats) (after : SeatState) → seat ≢ k
+    → new ≡ record old { table = table; seats = slice_set old.seats k after }
     → channel_at table seat ≡ channel_at old.table seat → SeatKept seat old new
 seat_other seat k old new table after ne is same = subst (λ (x : SeatsState). SeatKept seat old x) (sym is) (record {
   swarm = refl;
@@ -136,7 +137,8 @@ seat_other seat k old new table after ne is same = subst (λ (x : SeatsState). S
   state = state_same old.moment (slice_get old.seats seat) (slice_get (slice_set old.seats k after) seat) (get_set_other old.seats k seat after ne);
 })
 
-pub seat_table : (seat : ℕ) (old new : SeatsState) (table : Seats) → new ≡ record old { table = table } → channel_at table seat ≡ channel_at old.table seat
+pub seat_table : (seat : ℕ) (old new : SeatsState) (table : Seats) → new ≡ record old { table = table }
+    → channel_at table seat ≡ channel_at old.table seat
     → SeatKept seat old new
 seat_table seat old new table is same = subst (λ (x : SeatsState). SeatKept seat old x) (sym is) (record {
   swarm = refl;
@@ -198,7 +200,8 @@ kept_twice seat a b c one two = record {
 }
 
 -- where only the seats, the slots and the counts changed
-pub kept_rest : (seat : ℕ) (old new : Parts) (seats : SeatsState) (slots : Seating) (counts : Counts) → new ≡ record old { seats = seats; slots = slots; counts = counts }
+pub kept_rest : (seat : ℕ) (old new : Parts) (seats : SeatsState) (slots : Seating) (counts : Counts)
+    → new ≡ record old { seats = seats; slots = slots; counts = counts }
     → SeatKept seat old.seats new.seats → Kept seat old new
 kept_rest seat old new seats slots counts rest kept = record {
   seats = kept;

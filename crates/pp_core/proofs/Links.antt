@@ -50,7 +50,8 @@ tells_amid d far says a b c e before t after = record {
   gained = subst (λ (rs : List Record). GainsRecords a.traffic rs e.traffic)
       (amid after.added t.newer (Sent t.moment (address_of far.address) t.bytes) t.older before.added)
       (gains_twice a.traffic c.traffic e.traffic ((t.newer ++ Sent t.moment (address_of far.address) t.bytes ∷ t.older) ++ before.added) after.added
-      (gains_twice a.traffic b.traffic c.traffic before.added (t.newer ++ Sent t.moment (address_of far.address) t.bytes ∷ t.older) before.gained t.gained)
+      (gains_twice a.traffic b.traffic c.traffic before.added
+      (t.newer ++ Sent t.moment (address_of far.address) t.bytes ∷ t.older) before.gained t.gained)
       after.gained);
 }
 

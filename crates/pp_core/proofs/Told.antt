@@ -82,18 +82,22 @@ any_note (n ∷ notes) some = refl
 
 -- ---- chunks that are told of
 
-have_reaches : (seat : ℕ) (c : Channel) (old : Scene) (later : LinkState) (s : IsSpoken seat (end_of c) old later) (i : ℕ) → list_any (tells_note i) s.turn.left.agenda ≡ true
+have_reaches : (seat : ℕ) (c : Channel) (old : Scene) (later : LinkState) (s : IsSpoken seat (end_of c) old later) (i : ℕ)
+    → list_any (tells_note i) s.turn.left.agenda ≡ true
     → TellsChunk c i old later
 have_reaches seat c old later s i some = notes_reach seat (end_of c) old later s (HasOne (has_in i)) (tells_note i)
     (said_one s.speaks.speaks.picked.seats.descriptor (tells_note i) (has_in i) (have_says s.speaks.speaks.picked.seats.descriptor i)) some
 
-rows_reach : (seat : ℕ) (c : Channel) (old : Scene) (later : LinkState) (s : IsSpoken seat (end_of c) old later) (from : ℕ) → s.speaks.speaks.fills.known.cursor ≡ from
-    → s.speaks.speaks.fills.due.tells ≡ true → s.speaks.speaks.fills.due.committed.now ≡ old.parts.holding.store.committed → TellsFrom from c old later
+rows_reach : (seat : ℕ) (c : Channel) (old : Scene) (later : LinkState) (s : IsSpoken seat (end_of c) old later) (from : ℕ)
+    → s.speaks.speaks.fills.known.cursor ≡ from
+    → s.speaks.speaks.fills.due.tells ≡ true → s.speaks.speaks.fills.due.committed.now ≡ old.parts.holding.store.committed
+    → TellsFrom from c old later
 rows_reach seat c old later s from cursor tells committed =
     let f = s.speaks.speaks.fills in
     ⊎_elim
     (λ all. inl (λ i low is.
-    have_reaches seat c old later s i (all i (subst (λ (n : ℕ). n ≤ i) (sym cursor) low) (ap (λ (xs : List Bool). slice_index_or xs i false) committed ∙ is))))
+    have_reaches seat c old later s i (all i (subst (λ (n : ℕ). n ≤ i) (sym cursor) low)
+    (ap (λ (xs : List Bool). slice_index_or xs i false) committed ∙ is))))
     (λ next. inr (
       next.0,
       next.1,
@@ -109,7 +113,8 @@ module _ (seat : ℕ) (c : Channel) (known : SeatState) (old : Scene) (later : L
   abbrev s : IsSpoken seat (end_of c) old later
   s = f.spoken
 
-  abbrev to : SpeaksTo (record { seat = seat; far = end_of c; greets = s.greets }) s.turn.refused s.turn.speaker s.turn.left (record s.turn.begin { parts = s.speaks.back })
+  abbrev to : SpeaksTo (record { seat = seat; far = end_of c; greets = s.greets }) s.turn.refused s.turn.speaker s.turn.left
+      (record s.turn.begin { parts = s.speaks.back })
       (record s.turn.end { parts = s.speaks.said })
   to = s.speaks.speaks
 
@@ -131,8 +136,10 @@ module _ (seat : ℕ) (c : Channel) (known : SeatState) (old : Scene) (later : L
       (said_one to.picked.seats.descriptor (acks_note i) (acknowledges i) (ack_says to.picked.seats.descriptor i))
       (acked_notes i s.turn.left.agenda
       ∙ ap (λ (xs : List Acknowledgement). has (ranges_of xs) i)
-      ((exchanges_all to.fills.known to.fills.due s.turn.left.agenda to.fills.agenda).acknowledges ∙ when to.fills.known.proven to.fills.due.acknowledgements.now [] proven)
-      ∙ all_are_acknowledged to.picked.holding.store.committed (of_seat seat to.picked.holding.queue.tickets) (of_seat seat to.picked.holding.queue.repeats)
+      ((exchanges_all to.fills.known to.fills.due s.turn.left.agenda to.fills.agenda).acknowledges
+      ∙ when to.fills.known.proven to.fills.due.acknowledgements.now [] proven)
+      ∙ all_are_acknowledged to.picked.holding.store.committed (of_seat seat to.picked.holding.queue.tickets)
+      (of_seat seat to.picked.holding.queue.repeats)
       to.fills.due.acknowledgements.now to.fills.acknowledgements i
       (or_cases (has_chunk (of_seat seat to.picked.holding.queue.tickets) i) (has_chunk (of_seat seat to.picked.holding.queue.repeats) i)
       (ap (λ (h : HoldingState). has_chunk (of_seat seat h.queue.tickets) i || has_chunk (of_seat seat h.queue.repeats) i) f.kept.holding ∙ is)))
@@ -147,18 +154,22 @@ module _ (seat : ℕ) (c : Channel) (known : SeatState) (old : Scene) (later : L
 
   -- something goes where a datagram is due
   pub goes_any : channel_at old.parts.seats.table seat ≡ Some c
-      → (is_silent old.parts.seats.moment c ≡ true) ⊎ (slice_index_or old.parts.to_prove seat false ≡ true) → IsTold c (λ messages. Unit {0}) old later
+      → (is_silent old.parts.seats.moment c ≡ true) ⊎ (slice_index_or old.parts.to_prove seat false ≡ true)
+      → IsTold c (λ messages. Unit {0}) old later
   goes_any there due = notes_reach seat (end_of c) old later s (λ messages. Unit {0}) (λ n. true) (λ notes ms some said. tt)
       (any_note s.turn.left.agenda (never_silent to.fills.known to.fills.due s.turn.left.agenda to.fills.agenda (inl tells)
       (to.fills.silent ∙ ⊎_elim
       (λ silent. or_right (slice_index_or to.picked.to_prove seat false) (is_silent_at to.picked.seats.moment (channel_at to.picked.seats.table seat))
       (silent_stays to.picked.seats.moment (channel_at old.parts.seats.table seat) (channel_at to.picked.seats.table seat) f.kept.seats.channel
-      ∙ ap (λ (n : ℕ). is_silent_at n (channel_at old.parts.seats.table seat)) f.kept.seats.moment ∙ ap (is_silent_at old.parts.seats.moment) there ∙ silent))
-      (λ prove. or_left (slice_index_or to.picked.to_prove seat false) (is_silent_at to.picked.seats.moment (channel_at to.picked.seats.table seat)) (f.kept.proof ∙ prove))
+      ∙ ap (λ (n : ℕ). is_silent_at n (channel_at old.parts.seats.table seat)) f.kept.seats.moment
+      ∙ ap (is_silent_at old.parts.seats.moment) there ∙ silent))
+      (λ prove. or_left (slice_index_or to.picked.to_prove seat false) (is_silent_at to.picked.seats.moment (channel_at to.picked.seats.table seat))
+      (f.kept.proof ∙ prove))
       due)))
 
   -- what isn't awaited any more is cancelled
-  pub drops : (i asked : ℕ) → asked_at known.own i ≡ Some asked → old.parts.seats.moment < asked + 10_000_000 → is_committed old.parts.holding.store i ≡ true
+  pub drops : (i asked : ℕ) → asked_at known.own i ≡ Some asked → old.parts.seats.moment < asked + 10_000_000
+      → is_committed old.parts.holding.store i ≡ true
       → IsTold c (HasOne (cancels i)) old later
   drops i asked was lately is = notes_reach seat (end_of c) old later s (HasOne (cancels i)) (cancels_note i)
       (said_one to.picked.seats.descriptor (cancels_note i) (cancels i) (cancel_says to.picked.seats.descriptor i))
@@ -168,7 +179,8 @@ module _ (seat : ℕ) (c : Channel) (known : SeatState) (old : Scene) (later : L
       (ap is_some (still (f.state.own i)))
       (ap (λ (xs : List Bool). slice_index_or xs i false) committed ∙ is)))
     where
-      still : (asked_at to.fills.known.own i ≡ asked_at known.own i) ⊎ IsExpired old.parts.seats.moment (asked_at known.own i) → asked_at to.fills.known.own i ≡ Some asked
+      still : (asked_at to.fills.known.own i ≡ asked_at known.own i) ⊎ IsExpired old.parts.seats.moment (asked_at known.own i)
+          → asked_at to.fills.known.own i ≡ Some asked
       still (inl same) = same ∙ was
       still (inr gone) = absurd (let late = subst (λ (o : Option ℕ). IsExpired old.parts.seats.moment o) was gone in omega (arith, late, lately))
 
@@ -190,13 +202,16 @@ module _ (seat : ℕ) (c : Channel) (known : SeatState) (old : Scene) (later : L
 
   pub tells_all : (takes : Supports) → slice_get old.parts.supports seat ≡ Some takes → slice_index_or old.parts.questions seat false ≡ true
       → IsRested known.answer old.parts.seats.moment 10_000_000
-      → AllByRecursion (λ a. IsTold c (HasOne (brings a)) old later) (filter (is_taken takes.v6) (answers old.parts.pex.table c.address old.parts.seats.moment))
-  tells_all takes has asked rested = all_in (λ a. IsTold c (HasOne (brings a)) old later) (filter (is_taken takes.v6) (answers old.parts.pex.table c.address old.parts.seats.moment))
+      → AllByRecursion (λ a. IsTold c (HasOne (brings a)) old later)
+      (filter (is_taken takes.v6) (answers old.parts.pex.table c.address old.parts.seats.moment))
+  tells_all takes has asked rested = all_in (λ a. IsTold c (HasOne (brings a)) old later)
+      (filter (is_taken takes.v6) (answers old.parts.pex.table c.address old.parts.seats.moment))
       (λ a at. notes_reach seat (end_of c) old later s (HasOne (brings a)) (brings_note a)
       (said_one to.picked.seats.descriptor (brings_note a) (brings a) (address_says to.picked.seats.descriptor a))
       (addressed_notes a s.turn.left.agenda
       ∙ ap (λ (xs : List Address). list_any (λ b. is_same b a) xs)
-      ((exchanges_all to.fills.known to.fills.due s.turn.left.agenda to.fills.agenda).tells_addresses ∙ when_addresses to.fills.known.proven to.fills.due.addresses.now [] proven
+      ((exchanges_all to.fills.known to.fills.due s.turn.left.agenda to.fills.agenda).tells_addresses
+      ∙ when_addresses to.fills.known.proven to.fills.due.addresses.now [] proven
       ∙ told_addresses takes has asked rested)
       ∙ at))
 
@@ -209,7 +224,8 @@ module _ (seat : ℕ) (c : Channel) (known : SeatState) (old : Scene) (later : L
       (to.fills.asks (subst (λ (n : ℕ). IsRested to.fills.known.question n 60_000_000) (sym f.kept.seats.moment)
       (subst (λ (o : Option ℕ). IsRested o old.parts.seats.moment 60_000_000) (sym (ap (λ (x : SeatState). x.question) f.state.rest)) rested))
       ∙ and_from (is_some to.picked.fetching) to.fills.takes.requests (f.kept.fetches ∙ fetches)
-      (ap (λ (x : Supports). x.requests) (same_Some to.fills.takes takes (sym to.fills.supports ∙ ap (λ xs. slice_get xs seat) f.kept.supports ∙ has)) ∙ requests)))
+      (ap (λ (x : Supports). x.requests) (same_Some to.fills.takes takes
+      (sym to.fills.supports ∙ ap (λ xs. slice_get xs seat) f.kept.supports ∙ has)) ∙ requests)))
 
   pub unchoked : due_turn known ≡ Some Unchoke → IsTold c (HasOne unchokes) old later
   unchoked due = notes_reach seat (end_of c) old later s (HasOne unchokes) is_unchoke
@@ -221,13 +237,15 @@ module _ (seat : ℕ) (c : Channel) (known : SeatState) (old : Scene) (later : L
 -- ---- handshakes
 
 greets_spoken : (seat : ℕ) (c : Channel) (old : Scene) (later : LinkState) → channel_at old.parts.seats.table seat ≡ Some c
-    → handshake_due old.parts.seats.moment c ≡ true → IsSpoken seat (end_of c) old later → IsTold c (BeginsWith old.parts.seats.descriptor c.local) old later
+    → handshake_due old.parts.seats.moment c ≡ true → IsSpoken seat (end_of c) old later
+    → IsTold c (BeginsWith old.parts.seats.descriptor c.local) old later
 greets_spoken seat c old later there due s =
     let to = s.speaks.speaks in
     let sp = to.says.speaks in
     let is = marked_due seat old.parts s.turn.begin.parts c s.turn.kept there due in
     let rest = seats_rest seat (end_of c) old later s in
-    let opening : opening_at to.picked.seats seat ≡ Some c.local = ap (λ (x : SeatsState). opening_of x.moment (channel_at x.table seat)) rest ∙ is.1 in
+    let opening : opening_at to.picked.seats seat ≡ Some c.local = ap
+    (λ (x : SeatsState). opening_of x.moment (channel_at x.table seat)) rest ∙ is.1 in
     let swarm : to.picked.seats.descriptor ≡ old.parts.seats.descriptor = ap (λ (x : SeatsState). x.descriptor) rest ∙ s.turn.kept.seats.swarm in
     turn_reaches seat (end_of c) old later s (BeginsWith old.parts.seats.descriptor c.local)
     (subst (λ (d : Descriptor). Reached to.picked.seats.descriptor sp.far (BeginsWith d c.local) s.turn.begin.link s.turn.end.link) swarm
@@ -240,7 +258,8 @@ greets_spoken seat c old later there due s =
 
 -- the handshake alone
 alone_tells : (d : Descriptor) (c : Channel) (moment : ℕ) (bytes : List ℕ) (link later : LinkState) (g : Greeting)
-    → g ≡ record { source = c.local; address = c.address; number = (end_of c).number } → IsDatagram d g.number (Handshake g.source (own_options d) ∷ []) bytes
+    → g ≡ record { source = c.local; address = c.address; number = (end_of c).number }
+    → IsDatagram d g.number (Handshake g.source (own_options d) ∷ []) bytes
     → GainsRecords link.traffic (Sent moment (address_of g.address) bytes ∷ []) later.traffic → Tells d (end_of c) (BeginsWith d c.local) link later
 alone_tells d c moment bytes link later g is written gained = record {
   messages = Handshake c.local (own_options d) ∷ [];
@@ -253,21 +272,25 @@ alone_tells d c moment bytes link later g is written gained = record {
   gained = subst (λ (x : Greeting). GainsRecords link.traffic (Sent moment (address_of x.address) bytes ∷ []) later.traffic) is gained;
 }
 
-alone_reaches : (seat moment : ℕ) (c : Channel) (sent : Bool) (old new : Parts) (link later : LinkState) → is_due_at old.seats.moment (channel_at old.seats.table seat) ≡ true
+alone_reaches : (seat moment : ℕ) (c : Channel) (sent : Bool) (old new : Parts) (link later : LinkState)
+    → is_due_at old.seats.moment (channel_at old.seats.table seat) ≡ true
     → StaysBut (Some c) (channel_at old.seats.table seat) → IsGreeted seat moment sent old new link later
     → Reached old.seats.descriptor (end_of c) (BeginsWith old.seats.descriptor c.local) link later
 alone_reaches seat moment c true old new link later due m g =
-    let is = same_Some g.greets.greeting (record { source = c.local; address = c.address; number = (end_of c).number }) (sym g.greets.is_greeting ∙ ap greeting_of m.1) in
+    let is = same_Some g.greets.greeting (record { source = c.local; address = c.address; number = (end_of c).number })
+    (sym g.greets.is_greeting ∙ ap greeting_of m.1) in
     inl (alone_tells old.seats.descriptor c moment g.greets.bytes link later g.greets.greeting is g.greets.written g.greets.sends.outcome)
 alone_reaches seat moment c false old new link later due m (inl g) = inr g.refuses.risen
-alone_reaches seat moment c false old new link later due m (inr g) = absurd (both_ways (is_due_at old.seats.moment (channel_at old.seats.table seat)) g.idle due)
+alone_reaches seat moment c false old new link later due m (inr g) = absurd
+    (both_ways (is_due_at old.seats.moment (channel_at old.seats.table seat)) g.idle due)
 
 waits_none : (b : Bool) (far : Far) → b ≡ true → cond b None (Some far) ≡ None
 waits_none true far e = refl
 waits_none false far e = absurd cc
 
 greets_alone : (seat : ℕ) (c : Channel) (old : Scene) (later : LinkState) → channel_at old.parts.seats.table seat ≡ Some c
-    → handshake_due old.parts.seats.moment c ≡ true → is_waiting c ≡ true → SeatTurn seat old later → IsTold c (BeginsWith old.parts.seats.descriptor c.local) old later
+    → handshake_due old.parts.seats.moment c ≡ true → is_waiting c ≡ true → SeatTurn seat old later
+    → IsTold c (BeginsWith old.parts.seats.descriptor c.local) old later
 greets_alone seat c old later there due waits t =
     let m = subst (λ (o : Option Channel). StaysBut o (channel_at t.begin.parts.seats.table seat)) there t.kept.seats.channel in
     let none : far_of (channel_at t.begin.parts.seats.table seat) ≡ None = ap far_of m.1 ∙ waits_none (is_waiting c) _ waits in
@@ -279,7 +302,8 @@ greets_alone seat c old later there due waits t =
 
 -- ---- the laws of a flush
 
-module _ (dials lefts : List Dial) (speaker left : Speaker) (refused : ℕ) (old new : Scene) (s : SendsAll dials lefts speaker left refused old new) where
+module _ (dials lefts : List Dial) (speaker left : Speaker) (refused : ℕ) (old new : Scene)
+    (s : SendsAll dials lefts speaker left refused old new) where
   abbrev turn_of : (seat : ℕ) (c : Channel) → IsLasting seat c old.parts → SeatTurn seat old new.link
   turn_of seat c h = seat_turn seat c dials lefts speaker left refused old new h s
 
@@ -292,13 +316,15 @@ module _ (dials lefts : List Dial) (speaker left : Speaker) (refused : ℕ) (old
   pub acknowledged : Acknowledges old new.link
   acknowledged seat i c h is = acks seat c h.peer.known old new.link h.proven (fill seat c h) i is
 
-  first_rows : (seat : ℕ) (c : Channel) → (h : HasPeer seat c old.parts) → handshake_due old.parts.seats.moment c ≡ true → h.known.proven ≡ false → TellsFrom 0 c old new.link
+  first_rows : (seat : ℕ) (c : Channel) → (h : HasPeer seat c old.parts) → handshake_due old.parts.seats.moment c ≡ true → h.known.proven ≡ false
+      → TellsFrom 0 c old new.link
   first_rows seat c h due unproven =
       let sp = speak seat c h in
       let greets : sp.greets ≡ true = sp.speaks.due ∙ (marked_due seat old.parts sp.turn.begin.parts c sp.turn.kept h.lasting.there due).0 in
       rows_reach seat c old new.link sp 0 (cursor_first seat (end_of c) h.known old new.link h.messages sp greets unproven)
       (sp.speaks.speaks.fills.tells ∙ or_right sp.speaks.speaks.fills.known.proven sp.greets greets)
-      (sp.speaks.speaks.fills.committed ∙ ap (λ (x : HoldingState). x.store.committed) (holding_then seat (end_of c) h.known old new.link h.messages sp))
+      (sp.speaks.speaks.fills.committed ∙ ap (λ (x : HoldingState). x.store.committed)
+      (holding_then seat (end_of c) h.known old new.link h.messages sp))
 
   pub announced : Announces old new.link
   announced = record {
@@ -327,7 +353,8 @@ module _ (dials lefts : List Dial) (speaker left : Speaker) (refused : ℕ) (old
   pub exchanged : Exchanges old new.link
   exchanged = record {
     answers_all = λ seat c takes h has asked rested. tells_all seat c h.peer.known old new.link h.proven (fill seat c h) takes has asked rested;
-    asks = λ seat c takes h has requests fetches rested. asks_some seat c h.peer.known old new.link h.proven (fill seat c h) takes has requests fetches rested;
+    asks = λ seat c takes h has requests fetches rested. asks_some seat c h.peer.known old new.link h.proven
+        (fill seat c h) takes has requests fetches rested;
   }
 
   choke_goes : (seat : ℕ) (c : Channel) → (h : HasPeer seat c old.parts) → due_turn h.known ≡ Some Choke → IsTold c (HasOne chokes) old new.link

@@ -60,16 +60,19 @@ attends_kept seat k false old new a = kept_none seat old new a
 
 -- ---- what is asked for
 
-picked_some : (k room : ℕ) (known : SeatState) (order : Rank) (picks : List Span) (may : Bool) (old new : Option FetchState) → PicksFrom may order k room picks old new → is_some new ≡ is_some old
+picked_some : (k room : ℕ) (known : SeatState) (order : Rank) (picks : List Span) (may : Bool) (old new : Option FetchState)
+    → PicksFrom may order k room picks old new → is_some new ≡ is_some old
 picked_some k room known order picks true None new p = ap is_some p.1
 picked_some k room known order picks true (Some f) new p = ap is_some p.1
 picked_some k room known order picks false old new p = ap is_some p.1
 
-settled_some : (own : List Asking) (picks cancels : List Span) (old new : Option FetchState) → SettlesIn own picks cancels old new → is_some new ≡ is_some old
+settled_some : (own : List Asking) (picks cancels : List Span) (old new : Option FetchState) → SettlesIn own picks cancels old new
+    → is_some new ≡ is_some old
 settled_some own picks cancels None new s = ap is_some s
 settled_some own picks cancels (Some f) new s = ap is_some s.1
 
-fetching_kept : (seat : ℕ) (old new : Parts) → new ≡ record old { fetching = new.fetching } → is_some new.fetching ≡ is_some old.fetching → Kept seat old new
+fetching_kept : (seat : ℕ) (old new : Parts) → new ≡ record old { fetching = new.fetching }
+    → is_some new.fetching ≡ is_some old.fetching → Kept seat old new
 fetching_kept seat old new rest some = record {
   seats = seat_none seat old.seats new.seats (ap (λ (p : Parts). p.seats) rest);
   holding = ap (λ (p : Parts). p.holding) rest;
@@ -81,21 +84,25 @@ fetching_kept seat old new rest some = record {
 }
 
 pub picked_kept : (seat k : ℕ) (order : Rank) (picks : List Span) (old new : Parts) → Picks order k picks old new → Kept seat old new
-picked_kept seat k order picks old new p = fetching_kept seat old new p.rest (picked_some k p.room p.known order picks (may_ask p.known) old.fetching new.fetching p.picks_from)
+picked_kept seat k order picks old new p = fetching_kept seat old new p.rest
+    (picked_some k p.room p.known order picks (may_ask p.known) old.fetching new.fetching p.picks_from)
 
 -- ---- the turn of another seat
 
-rewinds_kept : (seat k to : ℕ) (old new : Parts) → seat ≢ k → Rewinds k to old.seats new.seats → new ≡ record old { seats = new.seats } → Kept seat old new
+rewinds_kept : (seat k to : ℕ) (old new : Parts) → seat ≢ k → Rewinds k to old.seats new.seats
+    → new ≡ record old { seats = new.seats } → Kept seat old new
 rewinds_kept seat k to old new ne r rest = kept_rest seat old new new.seats old.slots old.counts rest
     (seat_other seat k old.seats new.seats old.seats.table r.after ne r.is refl)
 
-back_kept : (seat k : ℕ) (proven greets : Bool) (news : List Span) (old new : Parts) → seat ≢ k → SetsBackTo proven greets news k old new → Kept seat old new
+back_kept : (seat k : ℕ) (proven greets : Bool) (news : List Span) (old new : Parts) → seat ≢ k
+    → SetsBackTo proven greets news k old new → Kept seat old new
 back_kept seat k true greets news old new ne s = kept_none seat old new s
 back_kept seat k false true news old new ne s = rewinds_kept seat k 0 old new ne s.0 s.1
 back_kept seat k false false [] old new ne s = kept_none seat old new s
 back_kept seat k false false (x ∷ xs) old new ne s = rewinds_kept seat k x.first old new ne s.0 s.1
 
-proof_there : (xs : List Bool) (seat k : ℕ) (b : Bool) → seat ≢ k → slice_index_or (if b then slice_set xs k false else xs) seat false ≡ slice_index_or xs seat false
+proof_there : (xs : List Bool) (seat k : ℕ) (b : Bool) → seat ≢ k
+    → slice_index_or (if b then slice_set xs k false else xs) seat false ≡ slice_index_or xs seat false
 proof_there xs seat k true ne = get_or-set_other xs k seat false false ne
 proof_there xs seat k false ne = refl
 
@@ -104,7 +111,8 @@ says_kept : (seat k : ℕ) (notes : List Note) (moment : ℕ) (delivered : Deliv
 says_kept seat k notes moment delivered old new link later ne s =
     let sp = s.speaks in
     record {
-      seats = seat_other seat k old.seats new.seats (with_sent old.seats.table k (is_some (opening_at old.seats k)) delivered.sent old.seats.moment) sp.after ne sp.is
+      seats = seat_other seat k old.seats new.seats (with_sent old.seats.table k
+          (is_some (opening_at old.seats k)) delivered.sent old.seats.moment) sp.after ne sp.is
           (sent_there old.seats.table k seat (is_some (opening_at old.seats k)) delivered.sent old.seats.moment ne);
       holding = ap (λ (p : Parts). p.holding) s.rest;
       fetches = ap (λ (p : Parts). is_some p.fetching) s.rest;
@@ -129,7 +137,8 @@ speaks_grows : (seat : ℕ) (far : Far) (greets : Bool) (refused : ℕ) (speaker
 speaks_grows seat far greets refused speaker left old new s =
     let sp = s.says.speaks in
     goes_grows (opening_at s.picked.seats seat) s.picked.seats.descriptor sp.far (moment_of old.disk.history) s.picked.seats.moment left.agenda
-    (record { seat = sp.before; link = old.link; so_far = none_delivered }) (record { seat = sp.after; link = new.link; so_far = s.delivered }) sp.goes
+    (record { seat = sp.before; link = old.link; so_far = none_delivered })
+    (record { seat = sp.after; link = new.link; so_far = s.delivered }) sp.goes
 
 -- What a seat's turn leaves of another seat, of the link and of what was gathered.
 pub record Apart (seat : ℕ) (speaker left : Speaker) (old new : Scene) : Type 0 where
@@ -137,26 +146,32 @@ pub record Apart (seat : ℕ) (speaker left : Speaker) (old new : Scene) : Type 
   pub grows : Grows old.link new.link
   pub news : left.news.ranges ≡ speaker.news.ranges
 
-apart_silent : (seat refused : ℕ) (speaker left : Speaker) (old new : Scene) → StaysSilent refused speaker left old new → Apart seat speaker left old new
+apart_silent : (seat refused : ℕ) (speaker left : Speaker) (old new : Scene) → StaysSilent refused speaker left old new
+    → Apart seat speaker left old new
 apart_silent seat refused speaker left old new s = record {
   kept = kept_none seat old.parts new.parts s.parts;
   grows = grows_none old.link new.link s.link;
   news = ap (λ (x : Speaker). x.news.ranges) s.speaker_same;
 }
 
-greeted_kept : (seat k moment : ℕ) (sent : Bool) (old new : Parts) (link later : LinkState) → seat ≢ k → IsGreeted k moment sent old new link later → Kept seat old new
+greeted_kept : (seat k moment : ℕ) (sent : Bool) (old new : Parts) (link later : LinkState) → seat ≢ k
+    → IsGreeted k moment sent old new link later → Kept seat old new
 greeted_kept seat k moment true old new link later ne g = kept_rest seat old new new.seats old.slots _ g.rest
-    (seat_table seat old.seats new.seats (with_datagram old.seats.table k true old.seats.moment) g.greets.is (datagram_there old.seats.table k seat true old.seats.moment ne))
+    (seat_table seat old.seats new.seats (with_datagram old.seats.table k true old.seats.moment) g.greets.is
+    (datagram_there old.seats.table k seat true old.seats.moment ne))
 greeted_kept seat k moment false old new link later ne (inl g) = kept_rest seat old new old.seats old.slots _ g.rest
     (seat_none seat old.seats new.seats (ap (λ (p : Parts). p.seats) g.rest))
 greeted_kept seat k moment false old new link later ne (inr g) = kept_none seat old new g.same
 
-greeted_grows : (k moment : ℕ) (sent : Bool) (old new : Parts) (link later : LinkState) → IsGreeted k moment sent old new link later → Grows link later
+greeted_grows : (k moment : ℕ) (sent : Bool) (old new : Parts) (link later : LinkState)
+    → IsGreeted k moment sent old new link later → Grows link later
 greeted_grows k moment true old new link later g = record { added = _; gained = g.greets.sends.outcome; faults = g.greets.sends.later }
-greeted_grows k moment false old new link later (inl g) = record { added = []; gained = gains_nothing link.traffic later.traffic g.refuses.traffic; faults = g.refuses.grows }
+greeted_grows k moment false old new link later
+    (inl g) = record { added = []; gained = gains_nothing link.traffic later.traffic g.refuses.traffic; faults = g.refuses.grows }
 greeted_grows k moment false old new link later (inr g) = grows_none link later g.link_same
 
-apart_if : (seat k refused : ℕ) (speaker left : Speaker) (old new : Scene) (o : Option Far) → seat ≢ k → TurnsIf o k refused speaker left old new → Apart seat speaker left old new
+apart_if : (seat k refused : ℕ) (speaker left : Speaker) (old new : Scene) (o : Option Far) → seat ≢ k → TurnsIf o k refused speaker left old new
+    → Apart seat speaker left old new
 apart_if seat k refused speaker left old new None ne t = record {
   kept = greeted_kept seat k (moment_of old.disk.history) t.greeted old.parts new.parts old.link new.link ne t.greets;
   grows = greeted_grows k (moment_of old.disk.history) t.greeted old.parts new.parts old.link new.link t.greets;
@@ -175,7 +190,8 @@ apart_if seat k refused speaker left old new (Some far) ne (inr t) =
       news = s.speaks.fills.ranges;
     }
 
-pub apart_turn : (seat k refused : ℕ) (speaker left : Speaker) (old new : Scene) → seat ≢ k → TurnsTo k refused speaker left old new → Apart seat speaker left old new
+pub apart_turn : (seat k refused : ℕ) (speaker left : Speaker) (old new : Scene) → seat ≢ k → TurnsTo k refused speaker left old new
+    → Apart seat speaker left old new
 apart_turn seat k refused speaker left old new ne t = apart_if seat k refused speaker left old new (far_of (channel_at old.parts.seats.table k)) ne t
 
 pub apart_twice : (seat : ℕ) (s1 s2 s3 : Speaker) (a b c : Scene) → Apart seat s1 s2 a b → Apart seat s2 s3 b c → Apart seat s1 s3 a c
@@ -199,7 +215,8 @@ back_rest seat false false [] old new s = seats_of old.seats new.seats old.seats
 back_rest seat false false (x ∷ xs) old new s = seats_of old.seats new.seats _ s.0.is
 
 -- the same until chunks to ask for were picked
-pub picked_rest : (seat : ℕ) (proven greets : Bool) (news picks : List Span) (order : Rank) (old back picked : Parts) → SetsBackTo proven greets news seat old back
+pub picked_rest : (seat : ℕ) (proven greets : Bool) (news picks : List Span) (order : Rank) (old back picked : Parts)
+    → SetsBackTo proven greets news seat old back
     → Picks order seat picks back picked → picked.seats ≡ record old.seats { seats = picked.seats.seats }
 picked_rest seat proven greets news picks order old back picked s p =
     let same = ap (λ (x : Parts). x.seats) p.rest in
@@ -218,7 +235,8 @@ pub record HasTurn (seat : ℕ) (speaker last : Speaker) (old new : Scene) : Typ
   pub turn : TurnsTo seat refused middle left begin end
   pub after : Apart seat left last end new
 
-apart_below : (seat n refused : ℕ) (speaker left : Speaker) (old new : Scene) → n ≤ seat → TurnsBelow n refused speaker left old new → Apart seat speaker left old new
+apart_below : (seat n refused : ℕ) (speaker left : Speaker) (old new : Scene) → n ≤ seat → TurnsBelow n refused speaker left old new
+    → Apart seat speaker left old new
 unfolding TurnsBelow
 apart_below seat zero refused speaker left old new high t = apart_silent seat refused speaker left old new t
 apart_below seat (suc n) refused speaker left old new high t =
@@ -227,7 +245,8 @@ apart_below seat (suc n) refused speaker left old new high t =
     (apart_below seat n t.0 speaker t.2 old t.3 (omega (arith, high)) t.4)
     (apart_turn seat n t.1 t.2 left t.3 new ne t.5)
 
-pub has_turn : (seat n refused : ℕ) (speaker left : Speaker) (old new : Scene) → seat < n → TurnsBelow n refused speaker left old new → HasTurn seat speaker left old new
+pub has_turn : (seat n refused : ℕ) (speaker left : Speaker) (old new : Scene) → seat < n → TurnsBelow n refused speaker left old new
+    → HasTurn seat speaker left old new
 unfolding TurnsBelow
 has_turn seat zero refused speaker left old new low t = absurd (omega (arith, low))
 has_turn seat (suc n) refused speaker left old new low t = of (cases_eq seat n) (λ lt. has_turn seat n t.0 speaker t.2 old t.3 lt t.4)
