@@ -1,14 +1,12 @@
 -- A peer that has just begun stands for no traffic.
-use Rattle.std.proofs.Common.{◌≡◌, ◌⊎◌, inl, inr, ⊎_elim, ℕ, zero, suc, ◌+◌, ◌<◌, ◌≤◌, nat_lt, Bool, true, false, ◌||◌, ◌&&◌, Option, Some, None, List, [], ◌∷◌, length, get_or, replicate, refl, sym, ◌∙◌, ap, subst, arith}
+use Rattle.std.proofs.Common.{◌≡◌, ◌⊎◌, inl, inr, ⊎_elim, ℕ, ◌+◌, ◌<◌, ◌≤◌, nat_lt, Bool, true, false, ◌||◌, ◌&&◌, Option, Some, None, List, [], length, get_or, replicate, refl, sym, ◌∙◌, ap, subst, arith}
 use Rattle.std.specs.List.{slice_get}
 use Rattle.std.proofs.Math.ListN as lists
 use Rattle.std.proofs.lemmas.List.{length-set, get_or-set_other, get_or_past}
 use Rattle.std.proofs.lemmas.Grind.{get_or-set_at}
 use Rattle.std.proofs.lemmas.Bool.{cases_Bool, cases_eq, lt-ltb, le-ltb, ltb-true, ltb-false, false≢true}
-use Rattle.pp_terms.specs.disk.Disk.{DiskState, moment_of}
 use Rattle.pp_terms.specs.format.Descriptor.{Descriptor, chunks_of}
 use Rattle.pp_terms.proofs.Facts.{none_in}
-use Rattle.pp_requests.specs.declared.asking.Asking.{Asking}
 use Rattle.std.proofs.lemmas.Option.{same_Some}
 use Rattle.rand_chacha.specs.ChaCha.{of_seed}
 use Rattle.pp_avail.specs.Offers.{Tells}
@@ -24,12 +22,11 @@ use Rattle.pp_seat.specs.Seats.{SeatState}
 use Rattle.pp_seats.specs.Standing.{SeatsState, Setting, AllFresh}
 use Rattle.pp_seats.specs.Standing as seats
 use Rattle.pp_seats.proofs.Firsts.{nothing_yet}
-use Rattle.pp_peer.specs.declared.parts.Parts.{Parts}
 use Rattle.pp_peer.specs.declared.speaking.Speaker.{Speaker}
-use Rattle.pp_peer.specs.Standing.{Beginning, setting, own_at, own_in, asked_of, Fetches, StandsFor}
+use Rattle.pp_peer.specs.Standing.{setting, own_at, own_in, asked_of, StandsFor}
 use Rattle.pp_core.specs.declared.opening.Room.{Room}
 use Rattle.pp_core.specs.Peers.{PeerState}
-use Rattle.pp_core.specs.Opening.{HasNoChannel, Wants, WantsIf, HasFetching, NotesBelow, NotesIf, noted_one, order_of, IsSized, IsRoom, Begins, HasBegun, beginning}
+use Rattle.pp_core.specs.Opening.{HasNoChannel, Wants, WantsIf, HasFetching, NotesBelow, NotesIf, noted_one, IsSized, IsRoom, Begins, HasBegun, beginning}
 
 -- ---- what is had
 

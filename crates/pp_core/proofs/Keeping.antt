@@ -1,15 +1,13 @@
 -- What was announced goes on standing.
-use Rattle.std.proofs.Common.{◌≡◌, ℕ, ◌+◌, ◌≤◌, true, false, Bool, Option, Some, None, List, [], ◌∷◌, ◌++◌, refl, sym, ◌∙◌, ap, subst, arith}
+use Rattle.std.proofs.Common.{◌≡◌, ℕ, ◌+◌, ◌≤◌, true, Bool, Option, Some, None, List, [], ◌∷◌, ◌++◌, refl, sym, ◌∙◌, ap, subst, arith}
 use Rattle.std.specs.List.{AllByRecursion}
 use Rattle.pp_terms.specs.disk.Disk.{DiskState, History, moment_of}
 use Rattle.pp_terms.specs.format.Descriptor.{Descriptor}
 use Rattle.pp_terms.specs.format.Traffic.{Address, Record, Received, Quiet, Sent, LinkState}
-use Rattle.pp_traffic.specs.Past.{read}
-use Rattle.pp_traffic.specs.Keeping.{announces, EachAnnounced, StandsSince}
+use Rattle.pp_traffic.specs.Keeping.{EachAnnounced, StandsSince}
 use Rattle.pp_outside.specs.Outside.{record_of}
 use Rattle.pp_outside.specs.declared.link.Event.{Event}
 use Rattle.pp_outside.specs.declared.link.Event.TheVariants as events
-use Rattle.pp_scan.specs.Look.{KeepsAll}
 use Rattle.pp_tree.specs.Book.{BookState, entry}
 use Rattle.pp_traffic.specs.Meter.{lets_send}
 use Rattle.pp_traffic.specs.Serving.{ServesAll}
@@ -23,11 +21,11 @@ use Rattle.pp_seats.specs.Standing as seats
 use Rattle.pp_seats.specs.Sending.{HoldsAnnounced}
 use Rattle.pp_store.specs.Store.{StoreState, is_committed}
 use Rattle.pp_holding.specs.Holding.{HoldingState, stock_of}
-use Rattle.pp_holding.specs.Stock.{Stock, IsKept, Advances}
+use Rattle.pp_holding.specs.Stock.{Stock, Advances}
 use Rattle.pp_holding.proofs.Advancing.{advances_reading}
 use Rattle.pp_peer.specs.declared.parts.Parts.{Parts}
 use Rattle.pp_peer.specs.Standing.{Beginning, setting, own_in, asked_of, IsTied, StandsFor}
-use Rattle.pp_peer.specs.Flushing.{IsOurs, Scene, Flushes}
+use Rattle.pp_peer.specs.Flushing.{IsOurs, Flushes}
 use Rattle.pp_peer.proofs.Ledgers.{announced_on}
 use Rattle.pp_peer.proofs.Greeted.{fetches_kept}
 use Rattle.pp_core.specs.Peers.{PeerState}

@@ -19,3 +19,4 @@ pub mod Asking
 pub mod Rooms
 pub mod Turned
 pub mod Flushes
+pub mod Leaving

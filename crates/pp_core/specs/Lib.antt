@@ -10,3 +10,4 @@ pub mod Slots
 pub mod Having
 pub mod Reaching
 pub mod Asking
+pub mod Leaving

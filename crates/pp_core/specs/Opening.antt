@@ -12,8 +12,6 @@ use Rattle.pp_holding.specs.Holding.{HoldingState}
 use Rattle.pp_holding.specs.Opening as holdings
 use Rattle.pp_fetching.specs.Fetching.{FetchState}
 use Rattle.pp_seats.specs.Standing.{SeatsState, AllFresh}
-use Rattle.pp_peer.specs.declared.speaking.Speaker.{Speaker}
-use Rattle.pp_peer.specs.declared.dialling.Dial.{Dial}
 use Rattle.pp_peer.specs.Dialling.{undialled}
 use Rattle.pp_peer.specs.declared.supporting.Supports.{Supports}
 use Rattle.pp_peer.specs.Standing.{Beginning}

@@ -27,6 +27,7 @@ ghost use Rattle.pp_channels.specs.Seats.{is_found};
 ghost use Rattle.pp_core.specs.Asking.{Asks};
 ghost use Rattle.pp_core.specs.Having.{HasHeld};
 ghost use Rattle.pp_core.specs.Keeping.{IsKeeping};
+ghost use Rattle.pp_core.specs.Leaving.{LeavesNone};
 ghost use Rattle.pp_core.specs.Listing.{ListsRequests};
 ghost use Rattle.pp_core.specs.Opening.{HasBegun, beginning};
 ghost use Rattle.pp_core.specs.Reaching.{Reaches};
@@ -193,7 +194,12 @@ impl Peer {
         // On a channel on which more may be asked for all that it offers was asked for.
         ensures asks { HasHeld self.old.parts → (b : Beginning) (most : ℕ) (past : List Record) → StandsFor b most self.old.parts past
             → Asks self.old self.new (L.seen link.old) (L.seen link.new) (D.state disk.old) (D.state disk.new) }
+        // No chunk is left that could be sent.
+        ensures leaves { (b : Beginning) (most : ℕ) (past : List Record) → b.since ≤ moment_of (D.state disk.old).history
+            → StandsFor b most self.old.parts past → LeavesNone self.new.parts }
     {
+        // Its contract tells that a chunk has bytes.
+        let _ = self.descriptor().chunk();
         self.parts
             .flush(&mut self.dials, &mut self.speaker, disk, link);
         self.parts.holding.forget_tickets();

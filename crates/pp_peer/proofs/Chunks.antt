@@ -1,10 +1,9 @@
 -- A chunk that goes out, or doesn't, and what a peer stands for then.
-use Rattle.std.proofs.Common.{◌≡◌, ⊎_elim, ℕ, ◌+◌, ◌≤◌, eqb, Bool, true, false, cond, ◌||◌, Option, Some, None, List, [], ◌∷◌, length, refl, sym, ◌∙◌, ap, subst, arith}
+use Rattle.std.proofs.Common.{◌≡◌, ⊎_elim, ℕ, ◌+◌, ◌≤◌, eqb, Bool, true, false, cond, ◌||◌, Option, Some, None, List, [], ◌∷◌, refl, sym, ◌∙◌, ap, subst, arith}
 use Rattle.std.specs.Prelude.{slice_index_or, is_some}
-use Rattle.std.specs.List.{slice_get, AllByRecursion}
+use Rattle.std.specs.List.{slice_get}
 use Rattle.std.proofs.Math.ListN.{set}
 use Rattle.std.proofs.lemmas.Bool.{both_ways, cases_Bool, eqb-true, eqb-false}
-use Rattle.std.proofs.lemmas.Option.{same_Some}
 use Rattle.pp_terms.specs.disk.Disk.{DiskState, History, moment_of}
 use Rattle.pp_terms.specs.format.Traffic.{Record, Sent, LinkState}
 use Rattle.pp_terms.specs.format.Descriptor.{Descriptor}
@@ -51,7 +50,7 @@ use Rattle.pp_peer.specs.declared.parts.Parts.{Parts}
 use Rattle.pp_peer.specs.Standing.{Beginning, setting, own_at, own_in, asked_of, Fetches, Ledger, StandsFor}
 use Rattle.pp_peer.specs.Flushing.{KeepsWaits, Scene, Flushes}
 use Rattle.pp_peer.specs.Taking.{after_some}
-use Rattle.pp_peer.specs.Serving.{counted, sent_of, given_up, GoesTo, ChangesOneSeat}
+use Rattle.pp_peer.specs.Serving.{counted, given_up, ChangesOneSeat}
 use Rattle.pp_peer.proofs.Flushed.{CountsSent, ledger_sent}
 
 -- ---- own requests
@@ -354,32 +353,6 @@ pub serving_of : (k : ℕ) (served : Served) (store given : StoreState) (book le
 serving_of k served store given book lent old new link later disk left same_store same_book s =
     subst (λ (x : StoreState). Serving k x (entry book) served old new link later disk left) same_store
     (subst (λ (x : BookState). Serving k given (entry x) served old new link later disk left) same_book s)
-
--- as many records came as chunks were sent
-pub served_many : (k : ℕ) (served : Served) (old new : Parts) (link later : LinkState) (disk left : DiskState) (rests : Rests served old new)
-    (s : Serving k old.holding.store (entry old.holding.book) served old.seats new.seats link later disk left)
-    → length (flushes_served k served old new link later disk left rests s).added ≡ sent_of served
-unfolding flushes_served flushes_unsent flushes_sent
-served_many k outcomes.Done old new link later disk left rests s = refl
-served_many k outcomes.Passed old new link later disk left rests s = refl
-served_many k outcomes.Sent old new link later disk left rests s = refl
-served_many k outcomes.Refused old new link later disk left rests s = refl
-served_many k (outcomes.Unread why) old new link later disk left rests s = refl
-
--- and all went to the channel's peer
-pub served_to : (k : ℕ) (served : Served) (old new : Parts) (link later : LinkState) (disk left : DiskState) (rests : Rests served old new)
-    (s : Serving k old.holding.store (entry old.holding.book) served old.seats new.seats link later disk left) (far : Far) → far_of (channel_at old.seats.table k) ≡ Some far
-    → AllByRecursion (GoesTo old.seats.descriptor far) (flushes_served k served old new link later disk left rests s).added
-unfolding flushes_served flushes_unsent flushes_sent
-served_to k outcomes.Done old new link later disk left rests s far e = tt
-served_to k outcomes.Passed old new link later disk left rests s far e = tt
-served_to k outcomes.Sent old new link later disk left rests s far e =
-    let same : s.far ≡ far = same_Some s.far far (sym s.may.is_far ∙ e) in (
-      (ap (λ (y : Far). address_of y.address) same, ap (λ (g : plain.Datagram). g.channel) s.written.read ∙ ap (λ (y : Far). Some y.number) same),
-      tt,
-    )
-served_to k outcomes.Refused old new link later disk left rests s far e = tt
-served_to k (outcomes.Unread why) old new link later disk left rests s far e = tt
 
 far_stays : (t : Seats) (k at seat : ℕ) (c : Channel) → channel_at t k ≡ Some c → far_of (channel_at (with_datagram t k false at) seat) ≡ far_of (channel_at t seat)
 far_stays t k at seat c there =

@@ -1,18 +1,17 @@
 -- The chunks of one seat go out one after the other.
-use Rattle.std.proofs.Common.{◌≡◌, ⊎_elim, inl, inr, ℕ, zero, suc, ◌+◌, ◌<◌, ◌≤◌, nat_lt, max, Bool, true, false, not, ◌&&◌, ◌||◌, Option, Some, None, List, [], ◌∷◌, ◌++◌, length, refl, sym, ◌∙◌, ap, subst, arith, append_assoc, ◌≢◌}
-use Rattle.std.specs.Prelude.{slice_index_or, ◌⊎◌}
-use Rattle.std.specs.List.{slice_get, AllByRecursion}
+use Rattle.std.proofs.Common.{◌≡◌, ⊎_elim, inl, inr, ℕ, zero, suc, ◌+◌, ◌<◌, ◌≤◌, nat_lt, max, Bool, true, false, not, ◌&&◌, ◌||◌, Option, Some, None, List, [], ◌∷◌, ◌++◌, length, refl, sym, ◌∙◌, ap, subst, arith, ◌≢◌}
+use Rattle.std.specs.Prelude.{slice_index_or}
+use Rattle.std.specs.List.{slice_get}
 use Rattle.std.proofs.Math.ListN.{set}
 use Rattle.std.proofs.lemmas.Bool.{both_ways, cases_lt}
 use Rattle.std.proofs.lemmas.Bool.Decides.{nat_tests}
 use Rattle.std.proofs.Math.Bool.{and-false, and-or_distrib_left}
 use Rattle.std.proofs.lemmas.List.{length-append}
-use Rattle.pp_terms.specs.format.Traffic.{Record, LinkState}
+use Rattle.pp_terms.specs.format.Traffic.{LinkState}
 use Rattle.pp_terms.specs.disk.Disk.{DiskState}
-use Rattle.pp_terms.specs.format.Descriptor.{Descriptor, chunks_of}
+use Rattle.pp_terms.specs.tree.Book.{LookUp}
+use Rattle.pp_terms.specs.format.Descriptor.{chunks_of}
 use Rattle.pp_counts.specs.declared.counts.Counts.{Counts}
-use Rattle.pp_channels.specs.Seats.{channel_at}
-use Rattle.pp_lives.specs.Fars.{far_of}
 use Rattle.pp_lives.specs.declared.lives.Far.{Far}
 use Rattle.pp_seats.specs.Sending.{IsSilent}
 use Rattle.pp_terms.specs.tree.Range.{Span, within, has}
@@ -31,9 +30,9 @@ use Rattle.pp_seats.proofs.Lists.{get_set_there}
 use Rattle.pp_peer.specs.declared.parts.Parts.{Parts}
 use Rattle.pp_peer.specs.Flushing.{Scene, Flushes}
 use Rattle.pp_peer.specs.Taking.{after_some}
-use Rattle.pp_peer.specs.Serving.{counted, sent_of, given_up, most_sent, OnlySeats, ServesSeat, GoesTo, ChangesOneSeat, HasFull, ServesBelow}
-use Rattle.pp_peer.proofs.Flushed.{flushes_none, none_added, flushes_twice, twice_added, all_both}
-use Rattle.pp_peer.proofs.Chunks.{Rests, flushes_served, served_many, served_to, one_served}
+use Rattle.pp_peer.specs.Serving.{counted, sent_of, given_up, most_sent, flying_in, flying_at, IsServed, OnlySeats, ServesSeat, ChangesOneSeat, ServesBelow}
+use Rattle.pp_peer.proofs.Flushed.{flushes_none, flushes_twice}
+use Rattle.pp_peer.proofs.Chunks.{Rests, flushes_served, one_served}
 
 -- ---- chunks that left a list
 
@@ -212,28 +211,54 @@ lessens k (outcomes.Unread why) b c s more =
 
 -- ---- one after the other
 
+-- so many fly on a seat that was changed, and more
+flown : (old new : SeatsState) (k more : ℕ) (before after : SeatState) → slice_get old.seats k ≡ Some before → new.seats ≡ set old.seats k after
+    → length after.window.entries ≡ length before.window.entries + more → flying_at old k + more ≤ flying_at new k
+flown old new k more before after there is fly =
+    let o = ap flying_in there in
+    let n = ap flying_in (ap (λ (l : List SeatState). slice_get l k) is ∙ get_set_there old.seats k after before there) in
+    omega (arith, o, n, fly)
+
+-- A chunk that is sent flies, and none that flew lands.
+flies : (k : ℕ) (served : Served) (store : StoreState) (book : LookUp) (old new : SeatsState) (link later : LinkState) (disk left : DiskState)
+    → Serving k store book served old new link later disk left → flying_at old k + sent_of served ≤ flying_at new k
+flies k outcomes.Done store book old new link later disk left s = let e = ap (λ (p : SeatsState). flying_at p k) s.0 in omega (arith, e)
+flies k outcomes.Passed store book old new link later disk left s =
+    let x = s.2 in
+    flown old new k 0 x.before x.after x.may.there (ap (λ (p : SeatsState). p.seats) x.is)
+    (let e = ap (λ (y : SeatState). length y.window.entries) x.exact in omega (arith, e))
+flies k outcomes.Sent store book old new link later disk left s =
+    flown old new k 1 s.before s.after s.may.there (ap (λ (p : SeatsState). p.seats) s.is)
+    (ap (λ (y : SeatState). length y.window.entries) s.exact ∙ length-append s.before.window.entries _)
+flies k outcomes.Refused store book old new link later disk left s =
+    let x = s.4 in
+    flown old new k 0 x.before x.after x.may.there (ap (λ (p : SeatsState). p.seats) x.is)
+    (let e = ap (λ (y : SeatState). length y.window.entries) x.exact in omega (arith, e))
+flies k (outcomes.Unread why) store book old new link later disk left s =
+    let x = s.4 in
+    flown old new k 0 x.before x.after x.may.there (ap (λ (p : SeatsState). p.seats) x.is)
+    (let e = ap (λ (y : SeatState). length y.window.entries) x.exact in omega (arith, e))
+
 -- So many went, and so many were given up, on the seat.
 pub record Goes (seat sent refused : ℕ) (old new : Scene) : Type 0 where
   pub flushes : Flushes refused old new
-  pub many : length flushes.added ≡ sent
+  pub many : sent ≤ flying_at new.parts.seats seat
   pub few : sent ≤ most_sent
   pub low : ℕ
   pub lost : refused ≤ low
   pub content : low ≤ chunks_of old.parts.holding.store.descriptor
   pub none : NoneBelow new.parts.seats seat low
-  pub to : (far : Far) → far_of (channel_at old.parts.seats.table seat) ≡ Some far → AllByRecursion (GoesTo old.parts.seats.descriptor far) flushes.added
   pub one : ChangesOneSeat seat old.parts.seats new.parts.seats
 
 pub goes_none : (seat : ℕ) (a : Scene) → Goes seat 0 0 a a
 goes_none seat a = record {
   flushes = flushes_none a;
-  many = ap (λ (rs : List _). length rs) (none_added a);
+  many = omega arith;
   few = omega arith;
   low = 0;
   lost = omega arith;
   content = omega arith;
   none = λ i lt. absurd (omega (arith, lt));
-  to = λ far e. subst (λ (rs : List Record). AllByRecursion (GoesTo a.parts.seats.descriptor far) rs) (sym (none_added a)) tt;
   one = record { far = λ other. refl; others = λ other ne. refl };
 }
 
@@ -253,25 +278,16 @@ goes_more seat sent refused served a b c g room whole rests s more =
     (subst (λ (n : ℕ). g.low ≤ n) (sym (whole ∙ ap (λ (h : HoldingState). chunks_of h.store.descriptor) g.flushes.holding)) g.content) g.none in
     record {
       flushes = flushes_twice refused (given_up served) a b c g.flushes f;
-      many = ap (λ (rs : List Record). length rs) (twice_added refused (given_up served) a b c g.flushes f) ∙ length-append f.added g.flushes.added
-          ∙ sum (length f.added) (length g.flushes.added) sent (sent_of served) (served_many seat served b.parts c.parts b.link c.link b.disk c.disk rests s) g.many;
+      many = (let flown = flies seat served b.parts.holding.store (entry b.parts.holding.book) b.parts.seats c.parts.seats b.link c.link b.disk c.disk s in let m = g.many in omega (arith, flown, m));
       few = (let one = at_most_one served in omega (arith, room, one));
       low = l.0;
       lost = (let old = g.lost in let new = l.1.0 in omega (arith, old, new));
       content = subst (λ (n : ℕ). l.0 ≤ n) (whole ∙ ap (λ (h : HoldingState). chunks_of h.store.descriptor) g.flushes.holding) l.1.1.0;
       none = l.1.1.1;
-      to = λ far e. subst (λ (rs : List Record). AllByRecursion (GoesTo a.parts.seats.descriptor far) rs) (sym (twice_added refused (given_up served) a b c g.flushes f))
-          (all_both (GoesTo a.parts.seats.descriptor far) f.added g.flushes.added
-          (subst (λ (d : Descriptor). AllByRecursion (GoesTo d far) f.added) g.flushes.swarm
-          (served_to seat served b.parts c.parts b.link c.link b.disk c.disk rests s far (g.one.far seat ∙ e)))
-          (g.to far e));
       one = one_twice seat a.parts.seats b.parts.seats c.parts.seats g.one
           (one_served seat served b.parts.holding.store (entry b.parts.holding.book) b.parts.seats c.parts.seats b.link c.link b.disk c.disk s);
     }
   where
-    sum : (x y m n : ℕ) → x ≡ n → y ≡ m → x + y ≡ m + n
-    sum x y m n p q = omega (arith, p, q)
-
     at_most_one : (o : Served) → sent_of o ≤ 1
     at_most_one outcomes.Done = omega arith
     at_most_one outcomes.Passed = omega arith
@@ -281,13 +297,11 @@ goes_more seat sent refused served a b c g room whole rests s more =
 
 -- Nothing may be sent any more.
 goes_done : (seat sent refused : ℕ) (a b : Scene) → Goes seat sent refused a b → HasNothing b.parts.seats seat → ServesSeat seat refused a b
-goes_done seat sent refused a b g none = record { flushes = g.flushes; ends = inl none; to = g.to; one = g.one }
+goes_done seat sent refused a b g none = record { flushes = g.flushes; ends = inl none; one = g.one }
 
 pub goes_full : (seat sent refused : ℕ) (a b : Scene) → Goes seat sent refused a b → most_sent ≤ sent → ServesSeat seat refused a b
-goes_full seat sent refused a b g full = record { flushes = g.flushes; ends = inr (g.many ∙ same); to = g.to; one = g.one }
-  where
-    same : sent ≡ most_sent
-    same = (let few = g.few in omega (arith, few, full))
+goes_full seat sent refused a b g full =
+    record { flushes = g.flushes; ends = inr (let many = g.many in omega (arith, many, full)); one = g.one }
 
 -- ---- in the words of the calls
 
@@ -339,50 +353,22 @@ nothing_stays : (seat other : ℕ) (p q : SeatsState) → ChangesOneSeat seat p 
 nothing_stays seat other p q one ne (inl silent) = inl (subst (λ (o : Option Far). IsSilent o) (sym (one.far other)) silent)
 nothing_stays seat other p q one ne (inr h) = inr (h.0, one.others other ne ∙ h.1, h.2)
 
-full_stays : (seat : ℕ) (p : SeatsState) (more added all : List Record) → all ≡ more ++ added → HasFull seat p added → HasFull seat p all
-full_stays seat p more added all is h = record {
-  far = h.far;
-  is_far = h.is_far;
-  later = more ++ h.later;
-  row = h.row;
-  before = h.before;
-  split = is ∙ ap (λ (rs : List Record). more ++ rs) h.split ∙ sym (append_assoc more h.later (h.row ++ h.before));
-  many = h.many;
-  to = h.to;
-}
+served_stays : (seat other : ℕ) (p q : SeatsState) → ChangesOneSeat seat p q → other ≢ seat → IsServed p other → IsServed q other
+served_stays seat other p q one ne (inl none) = inl (nothing_stays seat other p q one ne none)
+served_stays seat other p q one ne (inr full) = inr (subst (λ (o : Option SeatState). most_sent ≤ flying_in o) (sym (one.others other ne)) full)
 
 pub seats_more : (seat refused more : ℕ) (a b c : Scene) → ServesBelow seat refused a b → ServesSeat seat more b c → ServesBelow (seat + 1) (refused + more) a c
 seats_more seat refused more a b c s one = record {
   flushes = flushes_twice refused more a b c s.flushes one.flushes;
   ends = λ other lt. ⊎_elim
-      (λ (less : other < seat). before other less (s.ends other less))
-      (λ (le : seat ≤ other). let same : other ≡ seat = omega (arith, lt, le) in
-      subst (λ (n : ℕ). HasNothing c.parts.seats n ⊎ HasFull n a.parts.seats (flushes_twice refused more a b c s.flushes one.flushes).added) (sym same) (here (far_of (channel_at b.parts.seats.table seat)) refl one.ends))
+      (λ (less : other < seat). served_stays seat other b.parts.seats c.parts.seats one.one (λ e. absurd (omega (arith, less, e))) (s.ends other less))
+      (λ (le : seat ≤ other). subst (λ (n : ℕ). IsServed c.parts.seats n) (sym (same other lt le)) one.ends)
       (cases_lt other seat);
   far = λ other. one.one.far other ∙ s.far other;
 }
   where
-    is_all : (flushes_twice refused more a b c s.flushes one.flushes).added ≡ one.flushes.added ++ s.flushes.added
-    is_all = twice_added refused more a b c s.flushes one.flushes
-
-    before : (other : ℕ) → other < seat → HasNothing b.parts.seats other ⊎ HasFull other a.parts.seats s.flushes.added → HasNothing c.parts.seats other ⊎ HasFull other a.parts.seats (flushes_twice refused more a b c s.flushes one.flushes).added
-    before other less (inl none) = inl (nothing_stays seat other b.parts.seats c.parts.seats one.one (λ e. absurd (omega (arith, less, e))) none)
-    before other less (inr full) = inr (full_stays other a.parts.seats one.flushes.added s.flushes.added _ is_all full)
-
-    here : (o : Option Far) → far_of (channel_at b.parts.seats.table seat) ≡ o → HasNothing c.parts.seats seat ⊎ (length one.flushes.added ≡ most_sent)
-        → HasNothing c.parts.seats seat ⊎ HasFull seat a.parts.seats (flushes_twice refused more a b c s.flushes one.flushes).added
-    here o e (inl none) = inl none
-    here None e (inr many) = inl (inl (subst (λ (x : Option Far). IsSilent x) (sym (one.one.far seat ∙ e)) tt))
-    here (Some far) e (inr many) = inr (record {
-      far = far;
-      is_far = sym (s.far seat) ∙ e;
-      later = [];
-      row = one.flushes.added;
-      before = s.flushes.added;
-      split = is_all;
-      many = many;
-      to = subst (λ (d : Descriptor). AllByRecursion (GoesTo d far) one.flushes.added) s.flushes.swarm (one.to far e);
-    })
+    same : (other : ℕ) → other < seat + 1 → seat ≤ other → other ≡ seat
+    same other lt le = omega (arith, lt, le)
 
 pub seats_all : (seats all refused : ℕ) (a b : Scene) → seats ≡ all → ServesBelow seats refused a b → ServesBelow all refused a b
 seats_all seats all refused a b e s = subst (λ (n : ℕ). ServesBelow n refused a b) e s

@@ -21,13 +21,12 @@ use Rattle.pp_lives.specs.declared.lives.Far.{Far}
 use Rattle.pp_holding.specs.Holding.{HoldingState}
 use Rattle.pp_fetching.specs.Fetching.{FetchState}
 use Rattle.pp_fetching.specs.Owners.{awaits, AreOwned}
-use Rattle.pp_draft.specs.declared.note.Note.{Note}
 use Rattle.pp_seat.specs.Seats.{SeatState}
 use Rattle.pp_desk.specs.declared.steps.Delivered.{Delivered}
 use Rattle.pp_desk.specs.Delivers.{Way, At, none_delivered}
 use Rattle.pp_seats.specs.Standing.{SeatsState, Setting}
 use Rattle.pp_seats.specs.Standing as seats
-use Rattle.pp_seats.specs.Sending.{HoldsAnnounced, MaySay, requested, FitAll, AsksFirst, with_told, way_of, with_sent, opening_at, Speaks}
+use Rattle.pp_seats.specs.Sending.{HoldsAnnounced, MaySay, requested, FitAll, with_told, way_of, with_sent, opening_at, Speaks}
 use Rattle.pp_seats.proofs.Lists.{get_set_there, get_set_other}
 use Rattle.pp_seats.proofs.Outgoing.{far_is}
 use Rattle.pp_seats.proofs.Handshakes.{marked_sent}

@@ -1,16 +1,11 @@
 -- What becomes of the chunks that a peer is asked for.
-use Rattle.std.specs.Prelude.{◌≡◌, ◌≢◌, ◌⊎◌, ℕ, ◌<◌, Option, Some, None, List, ◌++◌, length, slice_get}
-use Rattle.std.specs.List.{AllByRecursion}
-use Rattle.pp_terms.specs.format.Traffic.{Record, Sent}
-use Rattle.pp_terms.specs.format.Descriptor.{Descriptor}
-use Rattle.pp_traffic.specs.Past.{read}
+use Rattle.std.specs.Prelude.{◌≡◌, ◌≢◌, ◌⊎◌, ℕ, ◌<◌, ◌≤◌, Option, Some, None, length, slice_get}
 use Rattle.pp_counts.specs.declared.note.Note.{Note}
 use Rattle.pp_counts.specs.declared.note.Note.TheVariants as notes
-use Rattle.pp_outside.specs.Outside.{address_of}
 use Rattle.pp_channels.specs.Seats.{channel_at}
 use Rattle.pp_lives.specs.Fars.{far_of}
-use Rattle.pp_lives.specs.declared.lives.Far.{Far}
 use Rattle.pp_draft.specs.declared.chunk.Unread.TheVariants as unread
+use Rattle.pp_seat.specs.Seats.{SeatState}
 use Rattle.pp_seats.specs.declared.serving.Served.{Served}
 use Rattle.pp_seats.specs.declared.serving.Served.TheVariants as outcomes
 use Rattle.pp_seats.specs.Standing.{SeatsState}
@@ -51,11 +46,17 @@ OnlySeats old new = new ≡ record old { seats = new.seats; counts = new.counts 
 abbrev pub most_sent : ℕ
 most_sent = 512
 
--- The record went to the other peer of a channel, under its number.
-abbrev pub GoesTo : Descriptor → Far → Record → Type 0
-GoesTo d far (Sent moment receiver bytes) = (receiver ≡ address_of far.address)
-    × ((read d (Sent moment receiver bytes)).channel ≡ Some far.number)
-GoesTo d far _ = ⊥
+-- how many chunks fly to a seat's peer
+abbrev pub flying_in : Option SeatState → ℕ
+flying_in None = 0
+flying_in (Some s) = length s.window.entries
+
+abbrev pub flying_at : SeatsState → ℕ → ℕ
+flying_at p seat = flying_in (slice_get p.seats seat)
+
+-- Nothing may be sent on a seat's channel, or as many chunks fly there as any window lets fly.
+abbrev pub IsServed : SeatsState → ℕ → Type 0
+IsServed p seat = HasNothing p seat ⊎ (most_sent ≤ flying_at p seat)
 
 -- No seat changed but one, and no channel's peer.
 pub record ChangesOneSeat (seat : ℕ) (old new : SeatsState) : Type 0 where
@@ -63,27 +64,14 @@ pub record ChangesOneSeat (seat : ℕ) (old new : SeatsState) : Type 0 where
   pub others : (other : ℕ) → other ≢ seat → slice_get new.seats other ≡ slice_get old.seats other
 
 -- The chunks that may go on a seat's channel went, but for those that were given up: afterwards nothing may be sent there, or as
--- many went as do at a time. All went there.
+-- many fly as go at a time.
 pub record ServesSeat (seat refused : ℕ) (old new : Scene) : Type 0 where
   pub flushes : Flushes refused old new
-  pub ends : HasNothing new.parts.seats seat ⊎ (length flushes.added ≡ most_sent)
-  pub to : (far : Far) → far_of (channel_at old.parts.seats.table seat) ≡ Some far
-      → AllByRecursion (GoesTo old.parts.seats.descriptor far) flushes.added
+  pub ends : IsServed new.parts.seats seat
   pub one : ChangesOneSeat seat old.parts.seats new.parts.seats
 
--- Among what was sent, as many went on a seat's channel in a row as do at a time.
-pub record HasFull (seat : ℕ) (p : SeatsState) (added : List Record) : Type 0 where
-  pub far : Far
-  pub is_far : far_of (channel_at p.table seat) ≡ Some far
-  pub later : List Record
-  pub row : List Record
-  pub before : List Record
-  pub split : added ≡ later ++ (row ++ before)
-  pub many : length row ≡ most_sent
-  pub to : AllByRecursion (GoesTo p.descriptor far) row
-
--- Each seat below a number has nothing more to be sent, or was sent as much as goes in one turn.
+-- So it is on the channel of each seat below a number.
 pub record ServesBelow (seats refused : ℕ) (old new : Scene) : Type 0 where
   pub flushes : Flushes refused old new
-  pub ends : (seat : ℕ) → seat < seats → HasNothing new.parts.seats seat ⊎ HasFull seat old.parts.seats flushes.added
+  pub ends : (seat : ℕ) → seat < seats → IsServed new.parts.seats seat
   pub far : (seat : ℕ) → far_of (channel_at new.parts.seats.table seat) ≡ far_of (channel_at old.parts.seats.table seat)

@@ -1,5 +1,4 @@
-use Rattle.std.proofs.Common.{◌≡◌, List, Bool, length, sym, ◌∙◌, ap, subst}
-use Rattle.pp_core.specs.Opening.{NotesIf}
+use Rattle.std.proofs.Common.{List, Bool, length, sym, ◌∙◌, ap}
 use Rattle.pp_core.proofs.Beginning.{sized_on}
 use Rattle.pp_core.proofs.opening.begin.Goals as goal
 

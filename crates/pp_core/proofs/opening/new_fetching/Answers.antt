@@ -1,4 +1,4 @@
-use Rattle.std.proofs.Common.{◌≡◌, ◌∙◌, get_or, ℕ, Option, Some, None, true, false, not, refl, sym, ap, subst}
+use Rattle.std.proofs.Common.{◌∙◌, get_or, ℕ, Option, Some, false, not, sym, ap, subst}
 use Rattle.std.specs.Prelude.{is_some}
 use Rattle.std.proofs.lemmas.Bool.{false≢true}
 use Rattle.pp_avail.specs.declared.ranker.Rank.{Rank}

@@ -1,6 +1,11 @@
+use Rattle.std.proofs.Common.{◌≡◌, ◌+◌, ◌++◌, sym, ◌∙◌, ap, arith}
+use Rattle.pp_terms.specs.format.Descriptor.{Descriptor}
+use Rattle.pp_peer.specs.Standing.{setting}
+use Rattle.pp_core.specs.Peers.{PeerState}
 use Rattle.pp_core.specs.Turning.{scene}
 use Rattle.pp_core.proofs.Flushes.{flush_course, flush_asks}
 use Rattle.pp_core.proofs.Having.{flush_held}
+use Rattle.pp_core.proofs.Leaving.{leaves_none}
 use Rattle.pp_core.proofs.Reaching.{flush_reaches}
 use Rattle.pp_core.proofs.Slots.{slots_kept}
 use Rattle.pp_core.proofs.Told.{acknowledged, announced, greeted, cancelled, exchanged, turned}
@@ -83,3 +88,12 @@ returns-clause-asks g c = rw (← c.self.view_is) (flush_asks c.flush.result
     c.flush.new.self
     (g.L.Link.seen c.args.link.now) (g.L.Link.seen c.flush.new.link) (g.D.Disk.state c.args.disk.now) (g.D.Disk.state c.flush.new.disk)
     c.flush.ensures.sends c.flush.ensures.flushes (λ t. record c.flush.new.self { holding = c.forget_tickets.ensures t })))
+
+pub returns-clause-leaves : goal.returns-clause-leaves
+returns-clause-leaves g c = rw (← c.self.view_is) (λ b most past since stands.
+    let now = c.flush.ensures.flushes.stands b most past since stands in
+    let size : c.chunk.result ≡ b.d.chunk = c.chunk.ensures.chunk ∙ ap (λ (d : Descriptor). d.chunk)
+    (c.descriptor.ensures ∙ ap (λ (p : PeerState). p.parts.holding.store.descriptor) (sym c.self.view_is) ∙ stands.ledger.swarm) in
+    leaves_none (setting b now.known_of) (most + c.flush.result) (record c.flush.new.self { holding = c.forget_tickets.new.self })
+    (c.flush.ensures.flushes.added ++ past) now.seats (let range = c.chunk.ensures.range.0 in omega (arith, size, range))
+    c.flush.ensures.sends.serves.ends)
