@@ -47,7 +47,7 @@ use Rattle.pp_core.specs.Peers.{PeerState}
 use Rattle.pp_core.specs.Opening.{WantsIf, HasBegun}
 use Rattle.pp_core.specs.Turning.{without_tickets}
 use Rattle.pp_core.specs.Having.{HasJust, HasHeld}
-use Rattle.pp_core.proofs.Rounds.{IsKept, turns_kept}
+use Rattle.pp_core.proofs.Rounds.{IsStepwise, turns_kept}
 
 -- ---- the sets
 
@@ -340,7 +340,7 @@ speaks_had seat far greets refused speaker left old new s =
     ∙ ap (λ (p : Parts). had_of p.fetching) s.says.rest
     ∙ picks_had _ speaker.order seat s.are_picked.room s.picks old.parts.fetching s.picked.fetching s.are_picked.picks_from
 
-pub had_kept : IsKept SameHad
+pub had_kept : IsStepwise SameHad
 had_kept = record {
   none = λ p. refl;
   twice = λ a b c one two. two ∙ one;

@@ -8,6 +8,7 @@ use Rattle.std.proofs.lemmas.List.{length-set, length-map, set-set, get_or-set_s
 use Rattle.std.proofs.lemmas.List.Folds.{list_any_at}
 use Rattle.std.proofs.lemmas.List.Quantifiers.{position-Some}
 use Rattle.std.proofs.lemmas.List.Sums.{prefix_len_passes}
+use Rattle.std.proofs.lemmas.Option.{same_Some}
 use Rattle.pp_terms.proofs.Addressed.{same_self}
 use Rattle.pp_terms.specs.disk.Disk.{DiskState}
 use Rattle.pp_terms.specs.format.Traffic.{LinkState}
@@ -16,6 +17,8 @@ use Rattle.pp_outside.specs.declared.link.Address.{Address}
 use Rattle.pp_outside.specs.Outside.{address_of, is_same}
 use Rattle.pp_channels.specs.declared.channel.Channel.{Channel}
 use Rattle.pp_channels.specs.Seats.{Seats, at_seat, channel_at, used_of, changed, closed, dialled, free_seat, has_address, with_channel_at, with_handshake, after_drop}
+use Rattle.pp_lives.specs.Fars.{far_of}
+use Rattle.pp_lives.specs.Reading.{is_waiting}
 use Rattle.pp_lives.specs.Sending.{with_datagram}
 use Rattle.pp_seat.specs.declared.service.Turn.{Turn}
 use Rattle.pp_seats.specs.Standing.{SeatsState}
@@ -35,7 +38,7 @@ use Rattle.pp_peer.specs.Speaking.{SetsBack, SetsBackTo, SpeaksTo, Attends}
 use Rattle.pp_core.specs.Peers.{PeerState}
 use Rattle.pp_core.specs.Turning.{scene, Sends}
 use Rattle.pp_core.specs.Reaching.{IsResting, IsReached, addresses_of, Reaches}
-use Rattle.pp_core.proofs.Rounds.{IsKept, turns_kept}
+use Rattle.pp_core.proofs.Rounds.{IsStepwise, turns_kept}
 
 -- ---- channels that stay
 
@@ -412,7 +415,7 @@ attends_remain : (seat : ℕ) (turn : Option Turn) (old new : Parts) → Attends
 attends_remain seat turn old new a =
     remain_seats old new (ap (λ (p : Parts). p.seats.table) a.keeps.rest) (ap (λ (p : Parts). p.seats.moment) a.keeps.rest)
 
-pub remain_kept : IsKept Remain
+pub remain_kept : IsStepwise Remain
 remain_kept = record {
   none = remain_none;
   twice = remain_twice;
@@ -423,6 +426,18 @@ remain_kept = record {
 }
 
 -- ---- the whole
+
+-- a channel whose other peer is known has its address
+far_address : (far : Far) (b : Bool) (c : Channel) (x : Far) → x.address ≡ c.address → cond b None (Some x) ≡ Some far
+    → has_address far.address (Some c) ≡ true
+far_address far true c x same e = let y : None ≡ Some far = e in absurd cc
+far_address far false c x same e =
+    ap (λ (a : Address). is_same a far.address) (sym same ∙ ap (λ (f : Far). f.address) (same_Some x far e))
+    ∙ same_self (address_of far.address)
+
+known_address : (far : Far) (o : Option Channel) → far_of o ≡ Some far → has_address far.address o ≡ true
+known_address far None e = absurd cc
+known_address far (Some c) e = far_address far (is_waiting c) c _ refl e
 
 pub flush_reaches : (refused : ℕ) (old new : PeerState) (link later : LinkState) (disk left : DiskState) → Sends refused old new link later disk left
     → Reaches old new link later disk left
@@ -438,4 +453,6 @@ flush_reaches refused old new link later disk left course =
       course = course;
       addresses = all.addresses;
       reached = all_reached_still s.dials_all.0.parts s.said.parts new.dials then all.reached;
+      known = λ n far is. has_at far.address new.parts.seats.table.channels n (known_address far (channel_at new.parts.seats.table n)
+          (ap (λ (p : Parts). far_of (channel_at p.seats.table n)) course.rest ∙ s.serves.far n ∙ is));
     }

@@ -13,7 +13,7 @@ use Rattle.pp_peer.specs.Greeting.{IsGreeted}
 use Rattle.pp_peer.specs.Speaking.{SetsBack, SpeaksTo, Attends, SpeaksOn, TurnsIf, TurnsTo, TurnsBelow}
 
 -- A relation that each step of a seat's turn keeps.
-pub record IsKept (R : Parts → Parts → Type 0) : Type 0 where
+pub record IsStepwise (R : Parts → Parts → Type 0) : Type 0 where
   pub none : (p : Parts) → R p p
   pub twice : (a b c : Parts) → R a b → R b c → R a c
   pub greets : (seat moment : ℕ) (sent : Bool) (old new : Parts) (link later : LinkState) → IsGreeted seat moment sent old new link later → R old new
@@ -22,7 +22,7 @@ pub record IsKept (R : Parts → Parts → Type 0) : Type 0 where
       → SpeaksTo (record { seat = seat; far = far; greets = greets }) refused speaker left old new → R old.parts new.parts
   pub attends : (seat : ℕ) (turn : Option Turn) (old new : Parts) → Attends seat turn old new → R old new
 
-module _ (R : Parts → Parts → Type 0) (k : IsKept R) where
+module _ (R : Parts → Parts → Type 0) (k : IsStepwise R) where
   kept_same : (old new : Parts) → new ≡ old → R old new
   kept_same old new same = subst (λ (p : Parts). R old p) (sym same) (k.none old)
 

@@ -1,10 +1,12 @@
 -- Which of the addresses that a peer was told to dial it reaches.
-use Rattle.std.specs.Prelude.{◌≡◌, ◌⊎◌, ℕ, ◌-◌, ◌<◌, true, None, List, map}
+use Rattle.std.specs.Prelude.{◌≡◌, ◌⊎◌, ℕ, ◌-◌, ◌<◌, true, Some, None, List, map}
 use Rattle.std.specs.List.{AllByRecursion}
 use Rattle.pp_terms.specs.disk.Disk.{DiskState}
 use Rattle.pp_terms.specs.format.Traffic.{LinkState}
 use Rattle.pp_outside.specs.declared.link.Address.{Address}
-use Rattle.pp_channels.specs.Seats.{free_seat}
+use Rattle.pp_channels.specs.Seats.{channel_at, free_seat}
+use Rattle.pp_lives.specs.Fars.{far_of}
+use Rattle.pp_lives.specs.declared.lives.Far.{Far}
 use Rattle.pp_peer.specs.declared.dialling.Dial.{Dial}
 use Rattle.pp_peer.specs.declared.dialling.DialState.{DialState}
 use Rattle.pp_peer.specs.declared.dialling.DialState.TheVariants.{New, Seated, Dropped}
@@ -26,10 +28,12 @@ IsReached p dial = (has_channel p dial.address ≡ true) ⊎ (IsResting p.seats.
 abbrev pub addresses_of : List Dial → List Address
 addresses_of dials = map (λ dial. dial.address) dials
 
--- The peer goes on dialling the same addresses, and in the course of the flush each of them is reached once all is said. Of the chunks
--- that go then the course tells that each channel whose other peer is known goes on.
+-- The peer goes on dialling the same addresses, and in the course of the flush each of them is reached once all is said. While chunks go
+-- then, a channel whose other peer is known keeps its address.
 pub record Reaches (old new : PeerState) (link later : LinkState) (disk left : DiskState) : Type 0 where
   pub refused : ℕ
   pub course : Sends refused old new link later disk left
   pub addresses : addresses_of new.dials ≡ addresses_of old.dials
   pub reached : AllByRecursion (IsReached course.sends.said.parts) new.dials
+  pub known : (seat : ℕ) (far : Far) → far_of (channel_at course.sends.said.parts.seats.table seat) ≡ Some far
+      → has_channel new.parts far.address ≡ true

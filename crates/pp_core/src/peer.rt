@@ -190,9 +190,11 @@ impl Peer {
         ensures slots { KeepsSlots self.old.parts self.new.parts }
         ensures had { HasHeld self.old.parts → HasHeld self.new.parts }
         // Each address that it was told to dial has a channel, or rests, or no seat is free.
-        ensures reaches { Reaches self.old self.new (L.seen link.old) (L.seen link.new) (D.state disk.old) (D.state disk.new) }
+        ensures reaches { Reaches self.old self.new
+            (L.seen link.old) (L.seen link.new) (D.state disk.old) (D.state disk.new) }
         // On a channel on which more may be asked for all that it offers was asked for.
-        ensures asks { HasHeld self.old.parts → (b : Beginning) (most : ℕ) (past : List Record) → StandsFor b most self.old.parts past
+        ensures asks { HasHeld self.old.parts
+            → (b : Beginning) (most : ℕ) (past : List Record) → StandsFor b most self.old.parts past
             → Asks self.old self.new (L.seen link.old) (L.seen link.new) (D.state disk.old) (D.state disk.new) }
         // No chunk is left that could be sent.
         ensures leaves { (b : Beginning) (most : ℕ) (past : List Record) → b.since ≤ moment_of (D.state disk.old).history
