@@ -255,7 +255,7 @@ longest_kept seat old new (inl t) = kept_rest seat old new new.seats _ old.count
     (seat_turned seat t.seat old.seats new.seats t.turns)
 longest_kept seat old new (inr t) = kept_none seat old new t.same
 
-slots_kept : (seat : ℕ) (old new : Parts) → TurnsSlots old new → Kept seat old new
+pub slots_kept : (seat : ℕ) (old new : Parts) → TurnsSlots old new → Kept seat old new
 slots_kept seat old new t = kept_twice seat old t.mid new (longest_kept seat old t.mid t.turned) (grants_kept seat t.mid new t.grants)
 
 -- ---- all of it

@@ -95,7 +95,7 @@ dropped_awaits n old new d lt i e = ⊎_elim
 
 -- ---- what is had when they begin
 
-in_set : (xs : List Bool) (i : ℕ) → slice_index_or xs i false ≡ true → i < length xs
+pub in_set : (xs : List Bool) (i : ℕ) → slice_index_or xs i false ≡ true → i < length xs
 in_set [] i e = absurd (false≢true e)
 in_set (x ∷ xs) zero e = omega arith
 in_set (x ∷ xs) (suc i) e = (let lt = in_set xs i e in omega (arith, lt))

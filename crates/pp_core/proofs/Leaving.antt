@@ -64,7 +64,7 @@ full chunk m some is most many room =
 
 -- ---- a seat whose channel's other peer is known
 
-lives_at : (d : Descriptor) (c : Channel) (o : Option Life) (past : List Record) → StandsAt d (Some c) o past → is_waiting c ≡ false
+pub lives_at : (d : Descriptor) (c : Channel) (o : Option Life) (past : List Record) → StandsAt d (Some c) o past → is_waiting c ≡ false
     → (life : Life) × (o ≡ Some life)
 lives_at d c None past stands known = let x : true ≡ false = sym stands.waits ∙ known in absurd cc
 lives_at d c (Some life) past stands known = (life, refl)

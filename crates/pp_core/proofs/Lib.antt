@@ -20,3 +20,6 @@ pub mod Rooms
 pub mod Turned
 pub mod Flushes
 pub mod Leaving
+pub mod Choked
+pub mod Serving
+pub mod Served

@@ -44,7 +44,7 @@ grants_each seat (k ∷ list) old new g = kept_twice seat old g.0 new (grants_on
 pub grants_kept : (seat : ℕ) (old new : Parts) → GrantsAll old new → Kept seat old new
 grants_kept seat old new g = grants_each seat g.0 old new g.1
 
-attends_kept : (seat k : ℕ) (b : Bool) (old new : Parts) → AttendsTo b k old new → Kept seat old new
+pub attends_kept : (seat k : ℕ) (b : Bool) (old new : Parts) → AttendsTo b k old new → Kept seat old new
 attends_kept seat k true old new a =
     let k = grants_kept seat (record old { slots = without_slot k old.seats.moment old.slots }) new a in
     record {
