@@ -61,7 +61,7 @@ kept_owes now s left k owes free unchoked =
     k.owes (owes (sym (ap (λ (x : SeatState). x.slot) k.rest) ∙ free) (sym (ap (λ (x : SeatState). x.choked) k.rest) ∙ unchoked))
 
 -- a state of a seat that was kept comes from one before
-kept_from : (now : ℕ) (o p : Option SeatState) (new : SeatState) → p ≡ Some new → StateAt now o p
+pub kept_from : (now : ℕ) (o p : Option SeatState) (new : SeatState) → p ≡ Some new → StateAt now o p
     → (old : SeatState) × (o ≡ Some old) × StateKept now old new
 kept_from now None p new e s = let x : None ≡ Some new = sym s ∙ e in absurd cc
 kept_from now (Some old) p new e s = (old, refl, subst (λ (x : SeatState). StateKept now old x) (same_Some s.0 new (sym s.1 ∙ e)) s.2)
@@ -83,14 +83,16 @@ moved : (back : Bool) (end : ℕ) (old new : SeatState) → Moves back end old n
 moved true end old new m has = same old new m has
 moved false end old new m has = alike old new (ap (λ (x : SeatState). x.slot) m) (ap (λ (x : SeatState). x.choked) m) has
 
-unchoked : (old new : SeatState) → (old.choked ≡ true → new ≡ record old { slot = true; choked = false; owes = false }) × (old.choked ≡ false → new ≡ old)
+unchoked : (old new : SeatState)
+    → (old.choked ≡ true → new ≡ record old { slot = true; choked = false; owes = false }) × (old.choked ≡ false → new ≡ old)
     → HasChoke old → HasChoke new
 unchoked old new h has free = ⊎_elim
     (λ yes. absurd (false≢true (sym free ∙ ap (λ (x : SeatState). x.slot) (h.0 yes))))
     (λ no. same old new (h.1 no) has free)
     (cases_Bool old.choked)
 
-note_choke : (now : ℕ) (back : Bool) (note : Note) (old new : SeatState) → IsAfter now back note old new → Either (is_choke note) old → HasChoke new
+note_choke : (now : ℕ) (back : Bool) (note : Note) (old new : SeatState) → IsAfter now back note old new → Either (is_choke note) old
+    → HasChoke new
 note_choke now back Choke old new after either = λ free. ap (λ (x : SeatState). x.choked) after
 note_choke now back Unchoke old new after either = unchoked old new after (was old either)
 note_choke now back (Have range) old new after either = moved back _ old new after (was old either)
@@ -224,7 +226,8 @@ module _ (k : ℕ) (far : Far) (greets : Bool) (refused : ℕ) (speaker left : S
 -- behind the turn of a seat on whose channel this peer's handshake was sent
 turn_choke : (k refused : ℕ) (speaker left : Speaker) (a b : Scene) → TurnsTo k refused speaker left a b
     → (far : Far) → far_of (channel_at b.parts.seats.table k) ≡ Some far → far.begun ≡ true
-    → ((was : Far) → far_of (channel_at a.parts.seats.table k) ≡ Some was → (old : SeatState) → slice_get a.parts.seats.seats k ≡ Some old → OwesChoke old)
+    → ((was : Far) → far_of (channel_at a.parts.seats.table k) ≡ Some was → (old : SeatState) → slice_get a.parts.seats.seats k ≡ Some old
+    → OwesChoke old)
     → (new : SeatState) → slice_get b.parts.seats.seats k ≡ Some new → HasChoke new ⊎ HasRisen a.link.faults b.link.faults
 turn_choke k refused speaker left a b t far is_far begun owes new there = of (far_of (channel_at a.parts.seats.table k)) refl t
   where

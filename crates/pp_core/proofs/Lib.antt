@@ -23,3 +23,5 @@ pub mod Leaving
 pub mod Choked
 pub mod Serving
 pub mod Served
+pub mod Plain
+pub mod Writing

@@ -53,7 +53,7 @@ use Rattle.pp_core.proofs.Serving.{IsServedAt, ServesAlone}
 -- ---- small things
 
 -- the count has risen, or it hasn't
-risen_or : (a b : ℕ) → HasRisen a b ⊎ (HasRisen a b → ⊥)
+pub risen_or : (a b : ℕ) → HasRisen a b ⊎ (HasRisen a b → ⊥)
 risen_or a b = ⊎_elim
     (λ lt. inl (λ below. lt))
     (λ (le : b ≤ a). ⊎_elim
@@ -66,7 +66,7 @@ most_more : (few more : ℕ) (P : ℕ → Type 0) → few ≤ more → AtMost fe
 most_more few more P le h = (h.0, (let low = h.1 in omega (arith, low, le)), h.2)
 
 -- a seat of the list
-in_list : (xs : List (Option Channel)) (n : ℕ) (c : Channel) → at_seat xs n ≡ Some c → n < length xs
+pub in_list : (xs : List (Option Channel)) (n : ℕ) (c : Channel) → at_seat xs n ≡ Some c → n < length xs
 in_list [] n c e = absurd cc
 in_list (x ∷ xs) zero c e = omega arith
 in_list (x ∷ xs) (suc n) c e = (let lt = in_list xs n c e in omega (arith, lt))
@@ -76,7 +76,8 @@ known_far true far e = absurd (false≢true (sym e))
 known_far false far e = refl
 
 -- this peer's handshake was sent on a plain channel
-plain_begun : (d : Descriptor) (life : Life) (past : List Record) → IsPlainNow d life past → some_since (answers d life) life.opening past ≡ true
+pub plain_begun : (d : Descriptor) (life : Life) (past : List Record) → IsPlainNow d life past
+    → some_since (answers d life) life.opening past ≡ true
 plain_begun d life past plain = of life.is_dialled plain.begins
   where
     of : (dialled : Bool) → MatchBool dialled (IsPlainDial d life past past) (IsPlainAnswer d life past)
@@ -170,7 +171,8 @@ module _ (b : Beginning) (most : ℕ) (p : Parts) (past : List Record) (served :
 
   none_listed : s.slot ≡ true → HasNone s
   none_listed slot i below = ⊎_elim
-      (λ asked. absurd (leaves_none (setting b served.stands.known_of) most p past served.stands.seats served.some served.ends hs.seat i low (record {
+      (λ asked. absurd (leaves_none (setting b served.stands.known_of) most p past served.stands.seats served.some served.ends hs.seat i low
+      (record {
         far = far;
         is_far = is_far;
         begun = begun;
@@ -216,7 +218,8 @@ pub flush_serves : (refused : ℕ) (old new : PeerState) (link later : LinkState
     → ((i : ℕ) → StoodThroughout b.d h i → b.is_found i ≡ true)
     → LeavesFew (most + refused) b.d (lets_send b.d.chunk) h (course.flushes.added ++ past) ⊎ HasRisen link.faults later.faults
 flush_serves refused old new link later disk left course alone size some b most past h since stands found =
-    ⊎_elim (λ risen. inr risen) (λ none. inl (λ life may. few_left b (most + refused) course.sent (course.flushes.added ++ past) (served none) h found life may))
+    ⊎_elim (λ risen. inr risen)
+    (λ none. inl (λ life may. few_left b (most + refused) course.sent (course.flushes.added ++ past) (served none) h found life may))
     (risen_or link.faults later.faults)
   where
     s : SendsAll old.dials new.dials old.speaker new.speaker refused (scene old.parts link disk) (scene course.sent later left)
@@ -237,8 +240,9 @@ flush_serves refused old new link later disk left course alone size some b most 
     swarm : old.parts.holding.store.descriptor ≡ b.d
     swarm = stands.ledger.swarm
 
-    chokes : (HasRisen link.faults later.faults → ⊥) → (n : ℕ) → n < 64 → (far : Far) → far_of (channel_at course.sent.seats.table n) ≡ Some far
-        → far.begun ≡ true → (x : SeatState) → slice_get course.sent.seats.seats n ≡ Some x → HasChoke x
+    chokes : (HasRisen link.faults later.faults → ⊥) → (n : ℕ) → n < 64 → (far : Far)
+        → far_of (channel_at course.sent.seats.table n) ≡ Some far → far.begun ≡ true → (x : SeatState)
+        → slice_get course.sent.seats.seats n ≡ Some x → HasChoke x
     chokes none n low far is_far begun x there =
         let was = served_choke (slice_get s.said.parts.seats.seats n) (slice_get course.sent.seats.seats n) x (alone n) there in
         was.2 (⊎_elim (λ has. has)
