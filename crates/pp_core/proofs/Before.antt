@@ -109,17 +109,17 @@ gives_kept seat old new g = record {
 
 -- ---- dials
 
-drop_in : (dropped : Option Channel) (xs : List (Option Channel)) (n : ℕ)
+pub drop_in : (dropped : Option Channel) (xs : List (Option Channel)) (n : ℕ)
     → get_or (map (after_drop dropped) xs) n None ≡ after_drop dropped (get_or xs n None)
 drop_in dropped [] n = refl
 drop_in dropped (x ∷ xs) zero = refl
 drop_in dropped (x ∷ xs) (suc n) = drop_in dropped xs n
 
-closed_there : (t : Seats) (k n : ℕ) → n ≢ k → StaysBut (channel_at t n) (channel_at (closed t k) n)
+pub closed_there : (t : Seats) (k n : ℕ) → n ≢ k → StaysBut (channel_at t n) (channel_at (closed t k) n)
 closed_there t k n ne = after_stays (channel_at t k) (channel_at t n) (channel_at (closed t k) n)
     (drop_in (channel_at t k) (slice_set t.channels k None) n ∙ ap (after_drop (channel_at t k)) (get_or-set_other t.channels k n None None ne))
 
-made_there : (t : Seats) (k n : ℕ) (make : ℕ → Channel) → n ≢ k → channel_at (with_channel_at (Some k) make t) n ≡ channel_at t n
+pub made_there : (t : Seats) (k n : ℕ) (make : ℕ → Channel) → n ≢ k → channel_at (with_channel_at (Some k) make t) n ≡ channel_at t n
 made_there t k n make ne = get_or-set_other t.channels k n _ None ne
 
 free_none : (t : Seats) (k : ℕ) → free_seat t ≡ Some k → is_some (channel_at t k) ≡ false

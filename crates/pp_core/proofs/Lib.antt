@@ -25,3 +25,6 @@ pub mod Serving
 pub mod Served
 pub mod Plain
 pub mod Writing
+pub mod Fars
+pub mod PlainBefore
+pub mod Telling

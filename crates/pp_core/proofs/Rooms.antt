@@ -219,7 +219,7 @@ greets_faults k moment false old new link later (inr i) = (let same = ap (λ (l 
 
 -- ---- a channel whose other peer isn't known
 
-at_changed : (xs : List (Option Channel)) (k : ℕ) (f : Channel → Channel)
+pub at_changed : (xs : List (Option Channel)) (k : ℕ) (f : Channel → Channel)
     → at_seat (set xs k (option_map f (at_seat xs k))) k ≡ option_map f (at_seat xs k)
 at_changed [] k f = refl
 at_changed (x ∷ xs) zero f = refl

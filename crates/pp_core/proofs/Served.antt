@@ -71,7 +71,7 @@ in_list [] n c e = absurd cc
 in_list (x ∷ xs) zero c e = omega arith
 in_list (x ∷ xs) (suc n) c e = (let lt = in_list xs n c e in omega (arith, lt))
 
-known_far : (waits : Bool) (far : Far) → waits ≡ false → cond waits None (Some far) ≡ Some far
+pub known_far : (waits : Bool) (far : Far) → waits ≡ false → cond waits None (Some far) ≡ Some far
 known_far true far e = absurd (false≢true (sym e))
 known_far false far e = refl
 

@@ -14,7 +14,7 @@ use Rattle.pp_traffic.specs.Life.{Life, greets, answers, begins_as, comes_on, cl
 use Rattle.pp_traffic.specs.Past.{now, now_at, read, comes_from, goes_to, is_event, is_number, some_since, some_until}
 use Rattle.pp_traffic.specs.Plain.{concerns, first_since, heard_at, is_in_time, is_timely, IsPlainDial, IsPlainAnswer, IsPlainNow}
 use Rattle.pp_traffic.proofs.Awaited.{plain_began}
-use Rattle.pp_traffic.proofs.Plains.{at_either, first_either, plain_answered, answered_plain, answered_before}
+use Rattle.pp_traffic.proofs.Plains.{none_from_end, at_either, first_either, plain_answered, answered_plain, answered_before}
 use Rattle.pp_traffic.proofs.Standing.{found_since}
 use Rattle.pp_promises.specs.Answered.{is_of, writes_on, wrote_lately, KeepsUp}
 use Rattle.pp_outside.specs.Outside.{address_of}
@@ -146,13 +146,14 @@ answer_writes d life r e =
 
 -- ---- a plain channel before records were sent
 
-plain_sent : (d : Descriptor) (life : Life) (r : Record) (past : List Record) → ((a : Address) → comes_from a r ≡ false)
-    → IsPlainNow d life (r ∷ past) → IsPlainNow d life past ⊎ (answers d life r ≡ true)
+pub plain_sent : (d : Descriptor) (life : Life) (r : Record) (past : List Record) → ((a : Address) → comes_from a r ≡ false)
+    → IsPlainNow d life (r ∷ past)
+    → IsPlainNow d life past ⊎ ((answers d life r ≡ true) × (some_since (goes_to life.address) life.opening past ≡ false))
 plain_sent d life r past silent is = ⊎_elim
     (λ dialled.
     let begins = subst (λ (b : Bool). MatchBool b (IsPlainDial d life (r ∷ past) (r ∷ past)) (IsPlainAnswer d life (r ∷ past))) dialled is.begins in
     ⊎_elim
-    (λ here. inr here.1)
+    (λ here. inr (here.1, none_from_end (goes_to life.address) life.opening past (let e = here.0 in omega (arith, e))))
     (λ before. inl (record {
       local_some = is.local_some;
       remote_some = is.remote_some;
@@ -169,7 +170,7 @@ plain_sent d life r past silent is = ⊎_elim
     (at_either (answers d life) life.opening r past begins.opened))
     (λ answered. ⊎_elim
     (λ before. inl (answered_plain d life past before))
-    (λ reply. inr reply.is_answer)
+    (λ reply. inr (reply.is_answer, reply.none_sent))
     (answered_before d life r past (plain_answered d life (r ∷ past) answered is)))
     (cases_Bool life.is_dialled)
   where
@@ -186,7 +187,7 @@ plain_since d other life moment (r ∷ rs) past all is = ⊎_elim
     (λ before. ⊎_elim (λ plain. inl plain)
     (λ some. inr (or_right (writes_on d life r) (list_any (writes_on d life) rs) some))
     (plain_since d other life moment rs past all.1 before))
-    (λ answer. inr (or_left (writes_on d life r) (list_any (writes_on d life) rs) (answer_writes d life r answer)))
+    (λ answer. inr (or_left (writes_on d life r) (list_any (writes_on d life) rs) (answer_writes d life r answer.0)))
     (plain_sent d life r (rs ++ past) (λ a. ap (λ (x : Record). comes_from a x) all.0.is) is)
 
 -- ---- a channel on which nothing came yet
@@ -223,13 +224,13 @@ early_wrote d life past plain never =
 
 -- ---- a datagram that was told
 
-any_amid : (test : Record → Bool) (newer : List Record) (r : Record) (older : List Record) → test r ≡ true
+pub any_amid : (test : Record → Bool) (newer : List Record) (r : Record) (older : List Record) → test r ≡ true
     → list_any test (newer ++ r ∷ older) ≡ true
 any_amid test [] r older e = or_left (test r) (list_any test older) e
 any_amid test (x ∷ newer) r older e = or_right (test x) (list_any test (newer ++ r ∷ older)) (any_amid test newer r older e)
 
 -- what the link gained is what was added
-gained_alike : (before added others : List Record) (link later : Option (List Record)) → link ≡ Some before → GainsRecords link added later
+pub gained_alike : (before added others : List Record) (link later : Option (List Record)) → link ≡ Some before → GainsRecords link added later
     → GainsRecords link others later → added ≡ others
 gained_alike before added others link later is one two =
     let first = subst (λ (o : Option (List Record)). GainsRecords o added later) is one in
@@ -262,14 +263,14 @@ KeepsWrote d p past = (n : ℕ) (c : Channel) (life : Life) → channel_at p.sea
 
 -- ---- a flush
 
-known_number : (waits : Bool) (o : Option ℕ) (number : ℕ) → waits ≡ false → o ≡ Some number → cond waits 0 (unwrap_or o 0) ≡ number
+pub known_number : (waits : Bool) (o : Option ℕ) (number : ℕ) → waits ≡ false → o ≡ Some number → cond waits 0 (unwrap_or o 0) ≡ number
 known_number true o number e is = absurd (false≢true (sym e))
 known_number false o number e is = ap (λ (x : Option ℕ). unwrap_or x 0) is
 
-answered_waits : (dialled greeted : Bool) → (dialled && greeted) ≡ false → not greeted ≡ false → dialled ≡ false
+answered_waits : (dialled still : Bool) → (dialled && still) ≡ false → not still ≡ false → dialled ≡ false
 answered_waits true true e f = e
 answered_waits true false e f = f
-answered_waits false greeted e f = refl
+answered_waits false still e f = refl
 
 some_weaker : (test more : Record → Bool) (place : ℕ) (past : List Record) → ((r : Record) → test r ≡ true → more r ≡ true)
     → some_since test place past ≡ true → some_since more place past ≡ true
