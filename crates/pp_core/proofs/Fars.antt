@@ -88,7 +88,8 @@ datagram_far : (t : Seats) (k : ℕ) (opens : Bool) (now : ℕ) (far : Far) → 
     → CameFrom (channel_at t k) far
 datagram_far t k true now far e =
     let mid = changed_far (changed t k (λ c. record c { wrote = now })) k (λ c. record c { opening = with_handshake c.opening }) opened_far far e in
-    came_twice (channel_at t k) mid.old far (changed_far t k (λ c. record c { wrote = now }) (wrote_far now) mid.old mid.is_old) mid.address mid.proven
+    came_twice (channel_at t k) mid.old far (changed_far t k (λ c. record c { wrote = now }) (wrote_far now) mid.old mid.is_old)
+    mid.address mid.proven
 datagram_far t k false now far e = changed_far t k (λ c. record c { wrote = now }) (wrote_far now) far e
 
 sent_far : (t : Seats) (k : ℕ) (opens : Bool) (sent now : ℕ) (far : Far) → far_of (channel_at (with_sent t k opens sent now) k) ≡ Some far
@@ -179,20 +180,22 @@ set_free [] k = refl
 set_free (x ∷ xs) zero = refl
 set_free (x ∷ xs) (suc k) = set_free xs k
 
-module _ (n : ℕ) (to : Address) (moment : ℕ) (sent : Bool) (old new : SeatsState) (link later : LinkState) (d : Dials to moment sent old new link later)
-    (far : Far) where
+module _ (n : ℕ) (to : Address) (moment : ℕ) (sent : Bool) (old new : SeatsState) (link later : LinkState)
+    (d : Dials to moment sent old new link later) (far : Far) where
   made : with_dial to old ≡ with_channel_at (Some d.seat) (dialled to old.moment) old.table
   made = ap (λ (o : Option ℕ). with_channel_at o (dialled to old.moment) old.table) d.free
 
   here_sent : far_of (channel_at (with_datagram (with_dial to old) d.seat true old.moment) d.seat) ≡ Some far → ⊥
   here_sent e =
       let came = datagram_far (with_dial to old) d.seat true old.moment far e in
-      let x : None ≡ Some came.old = sym (ap (λ (t : Seats). far_of (channel_at t d.seat)) made ∙ set_far old.table.channels d.seat _ refl) ∙ came.is_old in
+      let x : None ≡ Some came.old = sym (ap (λ (t : Seats). far_of (channel_at t d.seat)) made
+      ∙ set_far old.table.channels d.seat _ refl) ∙ came.is_old in
       cc
 
   here_closed : far_of (channel_at (closed (with_dial to old) d.seat) d.seat) ≡ Some far → ⊥
   here_closed e =
-      let x : None ≡ Some far = sym (ap far_of (drop_in (channel_at (with_dial to old) d.seat) (slice_set (with_dial to old).channels d.seat None) d.seat
+      let x : None ≡ Some far = sym (ap far_of
+      (drop_in (channel_at (with_dial to old) d.seat) (slice_set (with_dial to old).channels d.seat None) d.seat
       ∙ ap (after_drop (channel_at (with_dial to old) d.seat)) (set_free (with_dial to old).channels d.seat))) ∙ e in
       cc
 
@@ -214,7 +217,8 @@ module _ (n : ℕ) (to : Address) (moment : ℕ) (sent : Bool) (old new : SeatsS
           (λ (is : n ≡ d.seat). absurd (here_closed
           (subst (λ (m : ℕ). far_of (channel_at (closed (with_dial to old) d.seat) m) ≡ Some far) is e)))
           (λ (ne : n ≢ d.seat). ap far_of (sym (there ne))
-          ∙ sym (far_stays (channel_at (with_dial to old) n) (channel_at (closed (with_dial to old) d.seat) n) (closed_there (with_dial to old) d.seat n ne)) ∙ e)
+          ∙ sym (far_stays (channel_at (with_dial to old) n) (channel_at (closed (with_dial to old) d.seat) n)
+          (closed_there (with_dial to old) d.seat n ne)) ∙ e)
           (cases_eq n d.seat)
 
 tries_far : (n : ℕ) (to : Address) (sent : Option Bool) (old new : Scene) → Tries to sent old new → Knew n old.parts new.parts

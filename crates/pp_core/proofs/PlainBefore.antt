@@ -31,12 +31,14 @@ use Rattle.pp_core.proofs.Writing.{plain_sent}
 
 -- ---- which channels were plain before
 
-none_before : (test : Record → Bool) (place : ℕ) (rs past : List Record) → some_since test place (rs ++ past) ≡ false → some_since test place past ≡ false
+none_before : (test : Record → Bool) (place : ℕ) (rs past : List Record) → some_since test place (rs ++ past) ≡ false
+    → some_since test place past ≡ false
 none_before test place [] past e = e
 none_before test place (r ∷ rs) past e =
     none_before test place rs past (or_parts (leb place (length (rs ++ past)) && test r) (some_since test place (rs ++ past)) e).1
 
-fresh_before : (test : Record → Bool) (place : ℕ) (rs past : List Record) → some_until test place (rs ++ past) ≡ false → some_until test place past ≡ false
+fresh_before : (test : Record → Bool) (place : ℕ) (rs past : List Record) → some_until test place (rs ++ past) ≡ false
+    → some_until test place past ≡ false
 fresh_before test place [] past e = e
 fresh_before test place (r ∷ rs) past e =
     fresh_before test place rs past (or_parts (ltb (length (rs ++ past)) place && test r) (some_until test place (rs ++ past)) e).1

@@ -244,7 +244,7 @@ flush_serves refused old new link later disk left course alone size some b most 
         → far_of (channel_at course.sent.seats.table n) ≡ Some far → far.begun ≡ true → (x : SeatState)
         → slice_get course.sent.seats.seats n ≡ Some x → HasChoke x
     chokes none n low far is_far begun x there =
-        let was = served_choke (slice_get s.said.parts.seats.seats n) (slice_get course.sent.seats.seats n) x (alone n) there in
+        let was = served_choke (slice_get s.said.parts.seats.seats n) (slice_get course.sent.seats.seats n) x (alone.states n) there in
         was.2 (⊎_elim (λ has. has)
         (λ risen. absurd (none (risen_more link.faults s.said.link.faults later.faults s.serves.flushes.later
         (risen_less link.faults s.dialled.link.faults s.said.link.faults dialling.flushes.later risen))))

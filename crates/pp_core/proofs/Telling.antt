@@ -220,7 +220,8 @@ module _ (refused : ℕ) (old new : PeerState) (link later : LinkState) (disk le
 
   committed : (i : ℕ) → IsKnownOf b.d h (added ++ past) i → is_committed old.parts.holding.store i ≡ true
   committed i (inl announced) = stands.holds.announced i (announced_earlier b.d i past
-      (subst (λ (xs : List Record). is_announced b.d i xs ≡ true) (earlier_all old.parts.seats.descriptor moment added past course.flushes.ours) announced))
+      (subst (λ (xs : List Record). is_announced b.d i xs ≡ true)
+      (earlier_all old.parts.seats.descriptor moment added past course.flushes.ours) announced))
   committed i (inr stood) = stands.holds.found i (found i stood)
 
   many_told : (rows : List Span) → length rows ≡ 64 → AreRows s.cursor old.parts.holding.store.committed 64 rows
