@@ -167,11 +167,12 @@ have_tells d c life i added before link later is gained address number t =
 
 -- ---- what was told before
 
--- On each proven channel each chunk was told of that is committed, is below the cursor and didn't come since the last flush.
+-- On each plain channel that is proven each chunk was told of that is committed, is below the cursor and didn't come since the last flush.
 abbrev pub ToldBelow : Descriptor → Parts → List Record → Type 0
-ToldBelow d p past = (n i : ℕ) (c : Channel) (life : Life) (s : SeatState) → channel_at p.seats.table n ≡ Some c → Stands d c life past
-    → slice_get p.seats.seats n ≡ Some s → s.proven ≡ true → is_committed p.holding.store i ≡ true → i < s.cursor
-    → has_chunk p.holding.queue.tickets i ≡ false → is_told_of i (story d life past) ≡ true
+ToldBelow d p past = (n i : ℕ) (c : Channel) (life : Life) (s : SeatState) → channel_at p.seats.table n ≡ Some c → IsPlainNow d life past
+    → life.address ≡ address_of c.address → life.local ≡ c.local → slice_get p.seats.seats n ≡ Some s → s.proven ≡ true
+    → is_committed p.holding.store i ≡ true → i < s.cursor → has_chunk p.holding.queue.tickets i ≡ false
+    → is_told_of i (story d life past) ≡ true
 
 module _ (refused : ℕ) (old new : PeerState) (link later : LinkState) (disk left : DiskState) (course : Sends refused old new link later disk left)
     (b : Beginning) (past before : List Record) (h : History) (stands : StandsFor b 0 old.parts past)
@@ -251,7 +252,8 @@ module _ (refused : ℕ) (old new : PeerState) (link later : LinkState) (disk le
   known_told i is = ⊎_elim
       (λ low. inl (in_story i (⊎_elim
       (λ new_one. inl (chunk_told i (tells.news hs.seat i hs.channel proven_first new_one low)))
-      (λ old_one. inr (below hs.seat i hs.channel life s hs.there there proven_first.peer.messages proven_first.proven (committed i is) low old_one))
+      (λ old_one. inr (below hs.seat i hs.channel life s hs.there plain there.address there.local proven_first.peer.messages proven_first.proven
+      (committed i is) low old_one))
       (cases_Bool (has_chunk old.parts.holding.queue.tickets i)))))
       (λ high. ⊎_elim
       (λ all. inl (in_story i (inl (chunk_told i (all i high (committed i is))))))
