@@ -175,7 +175,7 @@ set_far [] k c waits = refl
 set_far (x ∷ xs) zero c waits = waits_far (is_waiting c) _ waits
 set_far (x ∷ xs) (suc k) c waits = set_far xs k c waits
 
-set_free : (xs : List (Option Channel)) (k : ℕ) → at_seat (set xs k None) k ≡ None
+pub set_free : (xs : List (Option Channel)) (k : ℕ) → at_seat (set xs k None) k ≡ None
 set_free [] k = refl
 set_free (x ∷ xs) zero = refl
 set_free (x ∷ xs) (suc k) = set_free xs k

@@ -28,3 +28,4 @@ pub mod Writing
 pub mod Fars
 pub mod PlainBefore
 pub mod Telling
+pub mod Wrote

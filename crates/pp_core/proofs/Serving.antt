@@ -119,14 +119,17 @@ pub serving_alone : (seat : ℕ) (store : StoreState) (book : LookUp) (served : 
 serving_alone seat store book outcomes.Done old new link later disk left s = alone_none old new s.0
 serving_alone seat store book outcomes.Passed old new link later disk left s =
     let p = s.2 in
-    set_alone old old.table new seat p.before p.after p.may.there p.is (listed p.before p.after _ p.exact) (λ n. written_none (channel_at old.table n))
+    set_alone old old.table new seat p.before p.after p.may.there p.is (listed p.before p.after _ p.exact)
+    (λ n. written_none (channel_at old.table n))
 serving_alone seat store book outcomes.Sent old new link later disk left s =
     set_alone old (with_datagram old.table seat false old.moment) new seat s.before s.after s.may.there s.is
     (s.exact ∙ ap (λ (x : SeatState). record s.before { list = x.list; window = x.window }) (sym s.exact))
     (datagram_written old.table seat old.moment)
 serving_alone seat store book outcomes.Refused old new link later disk left s =
     let g = s.4 in
-    set_alone old old.table new seat g.before g.after g.may.there g.is (listed g.before g.after _ g.exact) (λ n. written_none (channel_at old.table n))
+    set_alone old old.table new seat g.before g.after g.may.there g.is (listed g.before g.after _ g.exact)
+    (λ n. written_none (channel_at old.table n))
 serving_alone seat store book (outcomes.Unread why) old new link later disk left s =
     let g = s.4 in
-    set_alone old old.table new seat g.before g.after g.may.there g.is (listed g.before g.after _ g.exact) (λ n. written_none (channel_at old.table n))
+    set_alone old old.table new seat g.before g.after g.may.there g.is (listed g.before g.after _ g.exact)
+    (λ n. written_none (channel_at old.table n))
