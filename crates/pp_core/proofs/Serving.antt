@@ -31,7 +31,7 @@ abbrev pub IsWrittenAt : Option Channel → Option Channel → Type 0
 IsWrittenAt None new = new ≡ None
 IsWrittenAt (Some c) new = (wrote : ℕ) × (new ≡ Some (record c { wrote = wrote }))
 
--- So is each seat with its channel, whose swarm and moment stay.
+-- Each seat is left so, with its channel; the swarm and the moment stay.
 pub record ServesAlone (old new : SeatsState) : Type 0 where
   pub swarm : new.descriptor ≡ old.descriptor
   pub moment : new.moment ≡ old.moment

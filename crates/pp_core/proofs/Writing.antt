@@ -212,7 +212,7 @@ answered_shows : (d : Descriptor) (life : Life) (past : List Record) → life.is
 answered_shows d life past answered none =
     subst (λ (b : Bool). some_since (λ r. cond b (shakes_on d life r) (comes_on d life r)) life.opening past ≡ false) answered none
 
--- its handshake went less than ten seconds ago
+-- a channel on which nothing came is younger than ten seconds, and this peer's handshake went there
 early_wrote : (d : Descriptor) (life : Life) (past : List Record) → IsPlainNow d life past → heard_at d life past ≡ None
     → wrote_lately d life (now past) past ≡ true
 early_wrote d life past plain never =
