@@ -29,3 +29,11 @@ pub mod Fars
 pub mod PlainBefore
 pub mod Telling
 pub mod Wrote
+pub mod Deciding
+pub mod Rooting
+pub mod Judging
+pub mod Arriving
+pub mod Claiming
+pub mod Proven
+pub mod Promised
+pub mod Steadily

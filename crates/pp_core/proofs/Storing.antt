@@ -123,11 +123,11 @@ module _ (Q : HoldingState → Type 0)
   other_keeps seat m old new takes q =
       same_keeps old new (ap (λ (p : Parts). p.holding) takes.rest ∙ (heeded_beside seat m old takes.mid takes.heeds).holding) q
 
-  does_keep : (seat : ℕ) (m : Message) (old new : Parts) → Does seat m old new → Q old.holding → Q new.holding
+  pub does_keep : (seat : ℕ) (m : Message) (old new : Parts) → Does seat m old new → Q old.holding → Q new.holding
   does_keep seat m old new does q = data_or_other (Q new.holding) seat m old new does
       (λ chunk sent_at bytes takes. data_keeps seat chunk sent_at bytes old new takes q) (λ takes. other_keeps seat m old new takes q)
 
-  in_turn_keeps : (seat : ℕ) (ms : List Message) (old new : Parts) → InTurn seat ms old new → Q old.holding → Q new.holding
+  pub in_turn_keeps : (seat : ℕ) (ms : List Message) (old new : Parts) → InTurn seat ms old new → Q old.holding → Q new.holding
   in_turn_keeps seat [] old new in_turn q = subst (λ (p : Parts). Q p.holding) (sym in_turn) q
   in_turn_keeps seat (m ∷ ms) old new in_turn q =
       in_turn_keeps seat ms in_turn.0 new in_turn.2 (does_keep seat m old in_turn.0 in_turn.1 q)
@@ -144,10 +144,10 @@ module _ (seat chunk : ℕ) (old mid : Parts) (ends : EndsWait seat chunk old mi
   there : slice_get mid.seats.seats seat ≡ Some ends.answered.after
   there = seat_after seat _ old.seats mid.seats ends.answered
 
-  proven_same : is_proven_in (slice_get mid.seats.seats seat) ≡ is_proven_in (slice_get old.seats.seats seat)
+  pub proven_same : is_proven_in (slice_get mid.seats.seats seat) ≡ is_proven_in (slice_get old.seats.seats seat)
   proven_same = ap is_proven_in there ∙ ap (λ (s : SeatState). s.proven) ends.answered.changes.rest ∙ sym (ap is_proven_in ends.answered.there)
 
-  claims_same : claims_in (slice_get mid.seats.seats seat) ≡ claims_in (slice_get old.seats.seats seat)
+  pub claims_same : claims_in (slice_get mid.seats.seats seat) ≡ claims_in (slice_get old.seats.seats seat)
   claims_same = ap claims_in there ∙ ap (λ (s : SeatState). s.claims) ends.answered.changes.rest ∙ sym (ap claims_in ends.answered.there)
 
 -- where the chunk isn't held, it is stored
