@@ -35,8 +35,8 @@ list_at seat p = list_in (slice_get p.seats.seats seat)
 
 -- ---- what takes a chunk off a list
 
--- A CANCEL of a part of the content takes the chunk off a list: the part has the chunk; or the list has no room for what would be left,
--- and the chunk is in a range that meets the part.
+-- A CANCEL of a part of the content takes a chunk off a list where the part has the chunk; or where the list has no room for what
+-- would be left, if the chunk's range meets the part.
 abbrev pub TakesOff : Option Span → List Span → (i : ℕ) → Type 0
 TakesOff None list i = ⊥
 TakesOff (Some range) list i =

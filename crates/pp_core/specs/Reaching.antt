@@ -15,7 +15,7 @@ use Rattle.pp_peer.specs.Dialling.{has_channel}
 use Rattle.pp_core.specs.Peers.{PeerState}
 use Rattle.pp_core.specs.Turning.{Sends}
 
--- It was noticed less than 30 seconds ago that the address's channel was dropped, or that its handshake was refused.
+-- Of the address it was noticed less than 30 seconds ago that its channel was dropped, or that its handshake was refused.
 abbrev pub IsResting : (now : ℕ) → DialState → Type 0
 IsResting now New = ⊥
 IsResting now Seated = ⊥
