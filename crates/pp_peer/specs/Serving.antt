@@ -70,7 +70,7 @@ pub record ServesSeat (seat refused : ℕ) (old new : Scene) : Type 0 where
   pub ends : IsServed new.parts.seats seat
   pub one : ChangesOneSeat seat old.parts.seats new.parts.seats
 
--- The channel of each seat below a number was served in this way.
+-- So it is on the channel of each seat below a number.
 pub record ServesBelow (seats refused : ℕ) (old new : Scene) : Type 0 where
   pub flushes : Flushes refused old new
   pub ends : (seat : ℕ) → seat < seats → IsServed new.parts.seats seat
