@@ -45,3 +45,7 @@ pub mod TallyCounts
 pub mod ReportTexts
 pub mod ReportRanges
 pub mod ReportSays
+pub mod Actings
+pub mod Rows
+pub mod Gauges
+pub mod Gains

@@ -10,7 +10,7 @@ use Rattle.pp_traffic.specs.Story.{story}
 use Rattle.pp_traffic.specs.Asking.{choked, asked, asks_in, most_asks, is_heard}
 use Rattle.pp_traffic.specs.Keeping.{StoodThroughout}
 use Rattle.pp_traffic.specs.Plain.{IsPlainNow}
-use Rattle.pp_traffic.specs.Serving.{window_of}
+use Rattle.pp_traffic.specs.Meter.{lets_send}
 use Rattle.pp_traffic.specs.Turns.{AtMost}
 use Rattle.pp_promises.specs.LastTurn.{earlier}
 use Rattle.pp_promises.specs.Served.{is_announced, is_owed, IsOwed, MayBeServed, LeavesFew}
@@ -51,12 +51,12 @@ few_owed r d h stood is past life =
     (left_past debts.Owed stood d past life) in
     (λ e. exact.0 (leb-true _ r e), λ few. le-leb _ r (exact.1 few))
 
-served_by : (d : Descriptor) (past : List Record) (life : Life) → IsPlainNow d life past → may_be_served d past life ≡ true → MayBeServed d (window_of d) life past
+served_by : (d : Descriptor) (past : List Record) (life : Life) → IsPlainNow d life past → may_be_served d past life ≡ true → MayBeServed d (lets_send d.chunk) life past
 served_by d past life plain e =
     let unchoked = not (choked (story d life past)) in
     let heard = is_heard d life past in
     let few = leb (asks_in (story d life past)) most_asks in
-    let room = window_of d (story d life past) in
+    let room = lets_send d.chunk (story d life past) in
     let a = and_parts (unchoked && heard && few) room e in
     let b = and_parts (unchoked && heard) few a.0 in
     let c = and_parts unchoked heard b.0 in
@@ -68,17 +68,17 @@ served_by d past life plain e =
       has_room = a.1;
     }
 
-by_served : (d : Descriptor) (past : List Record) (life : Life) → MayBeServed d (window_of d) life past → may_be_served d past life ≡ true
+by_served : (d : Descriptor) (past : List Record) (life : Life) → MayBeServed d (lets_send d.chunk) life past → may_be_served d past life ≡ true
 by_served d past life may =
     let unchoked = not (choked (story d life past)) in
     let heard = is_heard d life past in
     let few = leb (asks_in (story d life past)) most_asks in
-    and_from (unchoked && heard && few) (window_of d (story d life past))
+    and_from (unchoked && heard && few) (lets_send d.chunk (story d life past))
     (and_from (unchoked && heard) few (and_from unchoked heard (not_from_false (choked (story d life past)) may.unchoked) may.heard)
     (le-leb (asks_in (story d life past)) most_asks may.few)) may.has_room
 
 pub serves_decided : (r : ℕ) (d : Descriptor) (h : History) (stood : List Bool) → Stood d h stood → (past : List Record)
-    → (each_plain (λ life. not (may_be_served d past life) || leaves_few r debts.Owed stood d past life) d past ≡ true) ↔ LeavesFew r d (window_of d) h past
+    → (each_plain (λ life. not (may_be_served d past life) || leaves_few r debts.Owed stood d past life) d past ≡ true) ↔ LeavesFew r d (lets_send d.chunk) h past
 serves_decided r d h stood is past =
     let test : Life → Bool = λ life. not (may_be_served d past life) || leaves_few r debts.Owed stood d past life in
     let search = search_finds_all test d past in (

@@ -18,18 +18,15 @@ heard_line : (chunks : ℕ) (question : Question) (now : ℕ) (m : Message) (sto
     → standing_of chunks question (Heard now m ∷ story) ≡ heard_by chunks question m (standing_of chunks question story)
 heard_line chunks (q.Asked i) now m story = refl
 heard_line chunks (q.Told node) now m story = refl
-heard_line chunks (q.Landed i) now m story = refl
 
 said_line : (chunks : ℕ) (question : Question) (now : ℕ) (m : Message) (story : List Line)
     → standing_of chunks question (Said now m ∷ story) ≡ said_by question m (standing_of chunks question story)
 said_line chunks (q.Asked i) now m story = refl
 said_line chunks (q.Told node) now m story = refl
-said_line chunks (q.Landed i) now m story = refl
 
 pub taken_line : (chunks : ℕ) (question : Question) (now : ℕ) (story : List Line) → standing_of chunks question (Taken now ∷ story) ≡ standing_of chunks question story
 taken_line chunks (q.Asked i) now story = refl
 taken_line chunks (q.Told node) now story = refl
-taken_line chunks (q.Landed i) now story = refl
 
 heard_lines : (chunks : ℕ) (question : Question) (now : ℕ) (ms : List Message) (story : List Line)
     → standing_of chunks question (hear now ms story) ≡ hear_all chunks question ms (standing_of chunks question story)
@@ -57,7 +54,6 @@ told_lines d question life is_opening at (Sent moment receiver bytes) story =
 pub no_lines : (chunks : ℕ) (question : Question) → standing_of chunks question [] ≡ none
 no_lines chunks (q.Asked i) = refl
 no_lines chunks (q.Told node) = refl
-no_lines chunks (q.Landed i) = refl
 
 pub at_first : (d : Descriptor) (question : Question) (life : Life) (from : ℕ) → none ≡ standing_of (chunks_of d) question (story_since from d life [])
 at_first d question life from = sym (no_lines (chunks_of d) question)

@@ -5,7 +5,7 @@ use Rattle.pp_terms.specs.format.Descriptor.{Descriptor}
 use Rattle.pp_traffic.specs.Life.{Life}
 use Rattle.pp_traffic.specs.Story.{heard_in, story}
 use Rattle.pp_traffic.specs.Asking.{choked, asks, asks_in, most_asks, is_heard}
-use Rattle.pp_traffic.specs.Serving.{window_of}
+use Rattle.pp_traffic.specs.Meter.{lets_send}
 
 abbrev pub asks_by : Descriptor → Life → Bool → Record → ℕ
 asks_by d life is_opening (Received at sender bytes) = count_by asks (heard_in d life is_opening (Received at sender bytes))
@@ -18,4 +18,4 @@ asks_at d life place r = if nat_le life.opening place then asks_by d life (life.
 -- the peer isn't choked, has written, and has asked few times, and the window has room
 abbrev pub may_be_served : Descriptor → List Record → Life → Bool
 may_be_served d past life = not (choked (story d life past)) && is_heard d life past
-    && nat_le (asks_in (story d life past)) most_asks && window_of d (story d life past)
+    && nat_le (asks_in (story d life past)) most_asks && lets_send d.chunk (story d life past)

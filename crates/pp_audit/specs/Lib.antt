@@ -3,7 +3,9 @@ pub mod Parts
 pub mod Tests
 pub mod Standing
 pub mod Paths
+pub mod Acts
 pub mod Flying
+pub mod Gauges
 pub mod Search
 pub mod PlainTests
 pub mod Sorts

@@ -10,7 +10,8 @@ use Rattle.pp_traffic.specs.Life.{Life}
 use Rattle.pp_traffic.specs.Story.{story}
 use Rattle.pp_traffic.specs.Asking.{choked, asked, is_heard}
 use Rattle.pp_traffic.specs.Hashes.{is_told, completes, brings}
-use Rattle.pp_traffic.specs.Serving.{Window, window_of, AnswersPeer}
+use Rattle.pp_traffic.specs.Meter.{lets_send}
+use Rattle.pp_traffic.specs.Serving.{Window, AnswersPeer}
 use Rattle.pp_promises.specs.Datagrams.{PlansPeer}
 use Rattle.pp_audit.specs.declared.searching.Reply.{Reply}
 use Rattle.pp_audit.specs.Parts.{all, first_shake}
@@ -31,7 +32,7 @@ answers_planned true d window past i front life = answers_on d window past i fro
 -- The chunk of a reply answers the peer on the channel, behind the reply's messages in front of it.
 abbrev pub replies_on : Descriptor → List Record → Reply → Life → Bool
 replies_on d past reply life =
-    answers_planned reply.is_planned d (window_of d) past reply.chunk (take reply.count (all d reply.bytes.now)) life
+    answers_planned reply.is_planned d (lets_send d.chunk) past reply.chunk (take reply.count (all d reply.bytes.now)) life
 
 -- the test of some number below one
 abbrev pub some_below : (ℕ → Bool) → ℕ → Bool

@@ -2,35 +2,21 @@
 use Rattle.std.specs.Prelude.{ℕ, ◌==◌, nat_le, Bool, false, ◌||◌, if◌then◌else◌, List, [], ◌∷◌, length}
 use Rattle.pp_terms.specs.format.Traffic.{Record, Received, Quiet, Sent}
 use Rattle.pp_terms.specs.format.Descriptor.{Descriptor, chunks_of}
-use Rattle.pp_terms.specs.format.Messages.{Message, Ack}
+use Rattle.pp_terms.specs.format.Messages.{Message}
 use Rattle.pp_traffic.specs.Past.{now}
 use Rattle.pp_traffic.specs.Life.{Life}
-use Rattle.pp_traffic.specs.Story.{Line, Heard, Said, Taken, heard_in, said_in, told, story}
+use Rattle.pp_traffic.specs.Story.{Line, heard_in, said_in, told, story}
 use Rattle.pp_traffic.specs.Asking.{choked_by, choked, asked_by, asked_after, asked}
-use Rattle.pp_terms.specs.tree.Range.{within}
 use Rattle.pp_traffic.specs.Hashes.{told_by, is_told}
 use Rattle.pp_tree.specs.Node.{node_of}
 use Rattle.pp_audit.specs.declared.standing.Question.{Question}
 use Rattle.pp_audit.specs.declared.standing.Question.TheVariants as q
 use Rattle.pp_audit.specs.declared.standing.Standing.{Standing}
 
--- an ACK names the chunk
-abbrev pub lands : ℕ → Message → Bool
-lands i (Ack span delay) = within span i
-lands i _ = false
-
--- one came
-abbrev pub has_landed : ℕ → List Line → Bool
-has_landed i [] = false
-has_landed i (Heard now m ∷ before) = lands i m || has_landed i before
-has_landed i (Said now m ∷ before) = has_landed i before
-has_landed i (Taken now ∷ before) = has_landed i before
-
 -- the answer, of a story of a content of so many chunks
 abbrev pub found_in : ℕ → Question → List Line → Bool
 found_in chunks (q.Asked i) story = asked i story
 found_in chunks (q.Told node) story = is_told chunks story (node_of node)
-found_in chunks (q.Landed i) story = has_landed i story
 
 abbrev pub standing_of : ℕ → Question → List Line → Standing
 standing_of chunks question story = record { choked = choked story; found = found_in chunks question story }
@@ -39,12 +25,10 @@ standing_of chunks question story = record { choked = choked story; found = foun
 abbrev pub found_by : ℕ → Question → Bool → Message → Bool → Bool
 found_by chunks (q.Asked i) is_choked m found = asked_by i is_choked m found
 found_by chunks (q.Told node) is_choked m found = told_by chunks (node_of node) m || found
-found_by chunks (q.Landed i) is_choked m found = lands i m || found
 
 abbrev pub found_after : Question → Message → Bool → Bool
 found_after (q.Asked i) m found = asked_after i m found
 found_after (q.Told node) m found = found
-found_after (q.Landed i) m found = found
 
 abbrev pub heard_by : ℕ → Question → Message → Standing → Standing
 heard_by chunks question m s = record { choked = s.choked; found = found_by chunks question s.choked m s.found }

@@ -10,9 +10,9 @@ ghost use Rattle.pp_audit.specs.Asks as terms;
 
 use crate::asking::{is_choked, is_heard};
 use crate::entry::{Entry, Life, bytes_of};
-use crate::flying::fewer_than_two;
 use crate::reading::message_at;
 use crate::standing::heard_from;
+use crate::windows::lets_send;
 use pp_options::Options;
 use pp_tree::Descriptor;
 use pp_wire::{Message, Span};
@@ -93,5 +93,5 @@ pub(crate) fn may_be_served<'m>(
     !is_choked(descriptor, life, entries)
         && is_heard(descriptor, life, entries)
         && asks_few(descriptor, life, entries)
-        && fewer_than_two(descriptor, life, entries)
+        && lets_send(descriptor, life, entries)
 }

@@ -1,48 +1,89 @@
-//! Chunks on their way, and whether there is room for one more.
+//! What flies of a row of acts, by the acknowledgements in the row. It is read anew for each question, since nothing is kept.
 
-ghost use Rattle.std.specs.Prelude.{◌≡◌, ◌<◌, ◌≤◌, ◌+◌, ◌-◌, ◌^◌, not, min, length};
-ghost use Rattle.pp_traffic.specs.Serving.{window_of};
-ghost use Rattle.pp_traffic.specs.Past as traffic;
-ghost use Rattle.pp_traffic.specs.Story.{story};
-ghost use Rattle.pp_wire.specs.Views.{message_of};
-ghost use Rattle.pp_audit.specs.Entries.{past, life_of, record_of};
-ghost use Rattle.pp_audit.specs.Parts.{rest};
-ghost use Rattle.pp_audit.specs.Standing.{story_since, has_landed};
-ghost use Rattle.pp_audit.specs.Flying.{counts, count_all, count_in};
+ghost use Rattle.std.specs.Prelude.{◌≡◌, ◌<◌, ◌≤◌, ◌+◌, ◌-◌, ◌^◌, ◌∷◌, if◌then◌else◌, length, drop, List};
+ghost use Rattle.std.specs.Option.{option_map_or};
+ghost use Rattle.pp_traffic.specs.Meter as meters;
+ghost use Rattle.pp_traffic.specs.declared.entries.Entry as flown;
+ghost use Rattle.pp_audit.specs.Entries.{life_of};
+ghost use Rattle.pp_audit.specs.Acts.{ahead};
+ghost use Rattle.pp_audit.specs.Flying as terms;
 
-use crate::entry::{Entry, Life, bytes_of};
-use crate::reading::message_at;
-use crate::standing::{Question, said_from, standing_since};
-use pp_options::Options;
+use crate::acts::{Act, Spot, act_at};
+use crate::entry::{Entry, Life};
 use pp_tree::Descriptor;
-use pp_wire::{Message, Span};
 
-// Whether no ACK for the chunk came from a place on.
-fn is_flying<'m>(
+/// A row of acts: where it begins, and how many they are.
+#[derive(Clone, Copy)]
+pub(crate) struct Row {
+    pub(crate) from: Spot,
+    pub(crate) count: u128,
+}
+
+/// How many chunks of a row fly, how many of them lie in a range, and when the oldest of those was sent.
+#[derive(Clone, Copy)]
+pub(crate) struct Flown {
+    pub(crate) total: u128,
+    pub(crate) hits: u128,
+    pub(crate) sent_at: Option<u64>,
+}
+
+const NONE: Flown = Flown {
+    total: 0,
+    hits: 0,
+    sent_at: None,
+};
+
+// Whether an act acknowledges the chunk.
+fn lands(chunk: u64, act: Act) -> bool
+    ensures { result ≡ terms.lands chunk act }
+{
+    match act {
+        Act::Acks { first, last, .. } => first <= chunk && chunk <= last,
+        _ => false,
+    }
+}
+
+// Whether one of a row does.
+fn is_acked<'m>(
     descriptor: &Descriptor,
     life: Life,
     entries: &'m [Entry<'m>],
-    from: usize,
+    row: Row,
     chunk: u64,
 ) -> bool
-    ensures { result ≡ not (has_landed chunk (story_since from descriptor.now (life_of life) (past entries.now))) }
+    ensures { result ≡ terms.is_acked chunk (terms.acts_in descriptor.now (life_of life) entries.now row) }
 {
-    !standing_since(descriptor, Question::Landed(chunk), life, from, entries).found
+    let mut at = row.from;
+    let mut left = row.count;
+    'acts: while left > 0 {
+        match act_at(descriptor, life, entries, at) {
+            Some((act, next)) => {
+                if lands(chunk, act) {
+                    return true;
+                }
+                at = next;
+                left -= 1;
+            }
+            None => return false,
+        }
+    }
+    false
 }
 
-// How many chunks a message sends that are on their way.
-fn counts<'e, 'm>(
+// How many chunks an act sends that are acknowledged behind it.
+fn passes<'m>(
     descriptor: &Descriptor,
     life: Life,
-    entries: &'e [Entry<'e>],
-    from: usize,
-    message: &'m Message<'m>,
-) -> usize
-    ensures { result ≡ counts (story_since from descriptor.now (life_of life) (past entries.now)) (message_of message.now) }
+    entries: &'m [Entry<'m>],
+    act: Act,
+    later: Row,
+) -> u128
+    ensures value { result ≡ terms.passes act (terms.acts_in descriptor.now (life_of life) entries.now later) }
+    ensures few { result ≤ 1 }
 {
-    match *message {
-        Message::Data { chunk, .. } => {
-            if is_flying(descriptor, life, entries, from, chunk) {
+    match act {
+        Act::Sends { chunk, .. } => {
+            if is_acked(descriptor, life, entries, later, chunk) {
                 1
             } else {
                 0
@@ -52,57 +93,175 @@ fn counts<'e, 'm>(
     }
 }
 
-// How many of those from a place of a datagram on.
-fn count_all<'m>(
-    descriptor: &Descriptor,
-    life: Life,
-    entries: &'m [Entry<'m>],
-    from: usize,
-    bytes: &[u8],
-    start: usize,
-) -> usize
-    requires { start ≤ length bytes.now }
-    ensures { result ≡ count_all (story_since from descriptor.now (life_of life) (past entries.now)) (rest descriptor.now bytes.now start) }
+// How many all of a row do.
+fn passed<'m>(descriptor: &Descriptor, life: Life, entries: &'m [Entry<'m>], row: Row) -> u128
+    ensures { result ≡ terms.passed (terms.acts_in descriptor.now (life_of life) entries.now row) }
 {
     let mut count = 0;
-    let mut at = start;
-    'messages: while let Some((message, next)) = message_at(descriptor, bytes, at) {
-        count += counts(descriptor, life, entries, from, &message);
-        at = next;
+    let mut at = row.from;
+    let mut left = row.count;
+    'acts: while left > 0 {
+        match act_at(descriptor, life, entries, at) {
+            Some((act, next)) => {
+                at = next;
+                left -= 1;
+                count += passes(
+                    descriptor,
+                    life,
+                    entries,
+                    act,
+                    Row {
+                        from: at,
+                        count: left,
+                    },
+                );
+            }
+            None => return count,
+        }
     }
     count
 }
 
-// How many of an entry, by what came from a place on.
-fn count_in<'m>(
+// The chunk that an act sends and the moment, where it flies, by the row behind it.
+fn flies<'m>(
     descriptor: &Descriptor,
     life: Life,
     entries: &'m [Entry<'m>],
-    from: usize,
-    entry: &'m Entry<'m>,
-) -> usize
-    ensures { result ≡ count_in descriptor.now (life_of life) (story_since from descriptor.now (life_of life) (past entries.now)) (record_of entry.now) }
+    act: Act,
+    later: Row,
+) -> Option<(u64, u64)>
+    ensures { (es : List flown.Entry) → terms.with_act act (terms.acts_in descriptor.now (life_of life) entries.now later) es
+        ≡ option_map_or (λ x. terms.flying_of x.0 x.1 (terms.acts_in descriptor.now (life_of life) entries.now later) ∷ es) result es }
 {
-    match *entry {
-        Entry::Sent { .. } => {
-            let start = said_from(descriptor, life, entry);
-            count_all(descriptor, life, entries, from, bytes_of(entry), start)
+    match act {
+        Act::Sends { chunk, now } => {
+            if is_acked(descriptor, life, entries, later, chunk)
+                || passed(descriptor, life, entries, later) >= 3
+            {
+                None
+            } else {
+                Some((chunk, now))
+            }
         }
-        Entry::Received { .. } | Entry::Quiet { .. } => 0,
+        _ => None,
     }
 }
 
-/// Whether fewer than two chunks are on their way on the channel: sent, and not acknowledged since (RFC 7574, sections
-/// 3.3 and 8.16).
-pub fn fewer_than_two<'m>(descriptor: &Descriptor, life: Life, entries: &'m [Entry<'m>]) -> bool
-    ensures { result ≡ window_of descriptor.now (story descriptor.now (life_of life) (past entries.now)) }
+// When the oldest was sent, once one more is read.
+fn oldest(sent_at: Option<u64>, now: u64) -> Option<u64>
+    ensures { result ≡ terms.oldest_of sent_at now }
 {
-    let mut count = 0usize;
-    let mut place = entries.len();
-    'places: while place > life.opening {
-        let from = place;
-        place -= 1;
-        count = count.saturating_add(count_in(descriptor, life, entries, from, &entries[place]));
+    match sent_at {
+        Some(sent_at) => Some(sent_at),
+        None => Some(now),
     }
-    count < 2
+}
+
+// What is counted, with a chunk that flies.
+fn counted(flight: Flown, first: u64, last: u64, chunk: u64, now: u64) -> Flown
+    requires room { flight.total < 2 ^ 128 - 1 }
+    requires few { flight.hits ≤ flight.total }
+    ensures { result ≡ terms.counted first last chunk now flight }
+{
+    let total = flight.total + 1;
+    if first <= chunk && chunk <= last {
+        Flown {
+            total,
+            hits: flight.hits + 1,
+            sent_at: oldest(flight.sent_at, now),
+        }
+    } else {
+        Flown { total, ..flight }
+    }
+}
+
+// And with one that flies or none.
+fn counted_so(flight: Flown, first: u64, last: u64, sending: Option<(u64, u64)>) -> Flown
+    requires room { flight.total < 2 ^ 128 - 1 }
+    requires few { flight.hits ≤ flight.total }
+    ensures { result ≡ option_map_or (λ x. terms.counted first last x.0 x.1 flight) sending flight }
+{
+    match sending {
+        Some((chunk, now)) => counted(flight, first, last, chunk, now),
+        None => flight,
+    }
+}
+
+/// What flies of a row, with those of the chunks from first to last counted too.
+pub(crate) fn flight<'m>(
+    descriptor: &Descriptor,
+    life: Life,
+    entries: &'m [Entry<'m>],
+    row: Row,
+    first: u64,
+    last: u64,
+) -> Flown
+    ensures total { result.total ≡ length (terms.flight_in descriptor.now (life_of life) entries.now row) }
+    ensures hits { result.hits ≡ meters.hits first last (terms.flight_in descriptor.now (life_of life) entries.now row) }
+    ensures sent { result.sent_at ≡ meters.oldest first last (terms.flight_in descriptor.now (life_of life) entries.now row) }
+    ensures few { result.hits ≤ result.total }
+{
+    let mut flight = NONE;
+    let mut at = row.from;
+    let mut left = row.count;
+    'acts: while left > 0 {
+        match act_at(descriptor, life, entries, at) {
+            Some((act, next)) => {
+                at = next;
+                left -= 1;
+                let later = Row {
+                    from: at,
+                    count: left,
+                };
+                let sending = flies(descriptor, life, entries, act, later);
+                flight = counted_so(flight, first, last, sending);
+            }
+            None => return flight,
+        }
+    }
+    flight
+}
+
+/// Whether something of a row flies.
+pub(crate) fn is_flying<'m>(
+    descriptor: &Descriptor,
+    life: Life,
+    entries: &'m [Entry<'m>],
+    row: Row,
+) -> bool
+    ensures { result ≡ terms.is_flying (terms.flight_in descriptor.now (life_of life) entries.now row) }
+{
+    flight(descriptor, life, entries, row, 0, 0).total > 0
+}
+
+/// The row from its first chunk that flies on, or none of it.
+pub(crate) fn trimmed<'m>(
+    descriptor: &Descriptor,
+    life: Life,
+    entries: &'m [Entry<'m>],
+    row: Row,
+) -> Row
+    ensures same { terms.flight_in descriptor.now (life_of life) entries.now result
+        ≡ terms.flight_in descriptor.now (life_of life) entries.now row }
+    ensures behind { drop result.count (ahead descriptor.now (life_of life) entries.now result.from)
+        ≡ drop row.count (ahead descriptor.now (life_of life) entries.now row.from) }
+    ensures few { result.count ≤ row.count }
+{
+    let mut row = row;
+    'acts: while row.count > 0 {
+        match act_at(descriptor, life, entries, row.from) {
+            Some((act, next)) => {
+                let later = Row {
+                    from: next,
+                    count: row.count - 1,
+                };
+                if flies(descriptor, life, entries, act, later).is_some() {
+                    return row;
+                }
+                row = later;
+            }
+            None => return row,
+        }
+    }
+    row
 }

@@ -3,6 +3,7 @@
 #![tactic(auto)]
 
 mod acking;
+mod acts;
 mod announced;
 mod answered;
 mod asked;
@@ -22,6 +23,7 @@ mod duties;
 mod ends;
 mod entry;
 mod flying;
+mod gauge;
 mod hashes;
 mod laws;
 mod lives;
@@ -53,6 +55,7 @@ mod telling;
 mod timing;
 mod turns;
 mod unread;
+mod windows;
 
 pub use announced::{acknowledges_all, tells_all};
 pub use answered::{chokes_none, keeps_up_but, lets_in_but};
@@ -62,7 +65,6 @@ pub use batches::{Batch, Pending, commits_in_time};
 pub use datagrams::{are_whole, closes_last, requests_none};
 pub use dialling::dials_but;
 pub use entry::{Entry, Life};
-pub use flying::fewer_than_two;
 pub use laws::kept_turns;
 pub use lives::is_life;
 pub use missing::{is_complete, is_first_missing};
@@ -75,6 +77,7 @@ pub use served::serves_but;
 pub use serving::serves;
 pub use stored::stores_all;
 pub use tallies::{LinkCounts, is_tallied, took_turns};
+pub use windows::lets_send;
 
 #[cfg(test)]
 mod life_tests;
@@ -84,3 +87,5 @@ mod report_tests;
 mod store_tests;
 #[cfg(test)]
 mod tests;
+#[cfg(test)]
+mod window_tests;

@@ -2,7 +2,7 @@
 
 ghost use Rattle.std.specs.Prelude.{◌≡◌, ◌↔◌, IsTrue, [], take};
 ghost use Rattle.pp_terms.specs.format.Messages as messages;
-ghost use Rattle.pp_traffic.specs.Serving.{window_of};
+ghost use Rattle.pp_traffic.specs.Meter.{lets_send};
 ghost use Rattle.pp_promises.specs.Datagrams as terms;
 ghost use Rattle.pp_outside.specs.Outside.{address_of};
 ghost use Rattle.pp_wire.specs.Views.{message_of};
@@ -27,7 +27,7 @@ fn plans_chunk<'m>(
     count: usize,
     chunk: u64,
 ) -> bool
-    ensures { IsTrue result ↔ terms.PlansPeer descriptor.now (window_of descriptor.now) (past entries.now) (address_of to)
+    ensures { IsTrue result ↔ terms.PlansPeer descriptor.now (lets_send descriptor.now.chunk) (past entries.now) (address_of to)
         (messages.datagram descriptor.now.method descriptor.now.chunk bytes.now).channel chunk (take count (all descriptor.now bytes.now)) }
 {
     let _chunks = descriptor.chunks();
@@ -50,7 +50,7 @@ fn plans_message<'e, 'm>(
     count: usize,
     message: &'m Message<'m>,
 ) -> bool
-    ensures { IsTrue result ↔ PlansMessage descriptor.now (window_of descriptor.now) (past entries.now) (address_of to)
+    ensures { IsTrue result ↔ PlansMessage descriptor.now (lets_send descriptor.now.chunk) (past entries.now) (address_of to)
         (messages.datagram descriptor.now.method descriptor.now.chunk bytes.now).channel (take count (all descriptor.now bytes.now)) (message_of message.now) }
 {
     match *message {
@@ -66,7 +66,7 @@ fn plans_from<'m>(
     to: Address,
     bytes: &[u8],
 ) -> bool
-    ensures { IsTrue result ↔ terms.PlansFrom descriptor.now (window_of descriptor.now) (past entries.now) (address_of to)
+    ensures { IsTrue result ↔ terms.PlansFrom descriptor.now (lets_send descriptor.now.chunk) (past entries.now) (address_of to)
         (messages.datagram descriptor.now.method descriptor.now.chunk bytes.now).channel [] (all descriptor.now bytes.now) }
 {
     let mut at = first_place(bytes);
@@ -83,7 +83,7 @@ fn plans_from<'m>(
 
 // Whether an entry does, by those before it.
 fn plans_entry<'m>(descriptor: &Descriptor, entries: &'m [Entry<'m>], newest: &'m Entry<'m>) -> bool
-    ensures { IsTrue result ↔ terms.Plans descriptor.now (window_of descriptor.now) (past entries.now) (record_of newest.now) }
+    ensures { IsTrue result ↔ terms.Plans descriptor.now (lets_send descriptor.now.chunk) (past entries.now) (record_of newest.now) }
 {
     match *newest {
         Entry::Sent { to, bytes, .. } => plans_from(descriptor, entries, to, bytes),
@@ -94,7 +94,7 @@ fn plans_entry<'m>(descriptor: &Descriptor, entries: &'m [Entry<'m>], newest: &'
 /// Whether each chunk that was sent answers its peer on some channel behind exactly the hashes of its plan there, in its order:
 /// those of its path that the peer hadn't told that it knows, by what was read on that channel.
 pub fn plans_all<'m>(descriptor: &Descriptor, entries: &'m [Entry<'m>]) -> bool
-    ensures { IsTrue result ↔ terms.PlansAll descriptor.now (window_of descriptor.now) (past entries.now) }
+    ensures { IsTrue result ↔ terms.PlansAll descriptor.now (lets_send descriptor.now.chunk) (past entries.now) }
 {
     let mut place = entries.len();
     'places: while place > 0 {

@@ -1,7 +1,8 @@
 //! The search for a channel on which a chunk answers the peer.
 
 ghost use Rattle.std.specs.Prelude.{◌≡◌, ◌↔◌, ◌||◌, IsTrue, Some, take, length, true, false};
-ghost use Rattle.pp_traffic.specs.Serving.{AnswersPeer, window_of};
+ghost use Rattle.pp_traffic.specs.Meter.{lets_send};
+ghost use Rattle.pp_traffic.specs.Serving.{AnswersPeer};
 ghost use Rattle.pp_promises.specs.Datagrams.{PlansPeer};
 ghost use Rattle.pp_outside.specs.Outside.{address_of};
 ghost use Rattle.pp_audit.specs.Entries.{past, life_of, record_of};
@@ -10,11 +11,11 @@ ghost use Rattle.pp_audit.specs.Search as terms;
 
 use crate::asking::{is_asked, is_choked, is_heard};
 use crate::entry::{Entry, Life, bytes_of, goes_to};
-use crate::flying::fewer_than_two;
 use crate::hashes::is_planned;
 use crate::lives::is_life;
 use crate::path::completes;
 use crate::reading::first_shake;
+use crate::windows::lets_send;
 use pp_outside::Address;
 use pp_tree::Descriptor;
 
@@ -37,7 +38,7 @@ fn answers_on<'m>(
     count: usize,
     chunk: u32,
 ) -> bool
-    ensures { result ≡ terms.answers_on descriptor.now (window_of descriptor.now) (past entries.now) chunk
+    ensures { result ≡ terms.answers_on descriptor.now (lets_send descriptor.now.chunk) (past entries.now) chunk
         (take count (all descriptor.now bytes.now)) (life_of life) }
 {
     is_life(descriptor, life, entries)
@@ -45,7 +46,7 @@ fn answers_on<'m>(
         && !is_choked(descriptor, life, entries)
         && is_heard(descriptor, life, entries)
         && completes(descriptor, life, entries, bytes, count, chunk)
-        && fewer_than_two(descriptor, life, entries)
+        && lets_send(descriptor, life, entries)
 }
 
 // And, where that is asked, behind the hashes of its plan.
@@ -183,7 +184,7 @@ pub fn answers_peer<'m>(
     count: usize,
     chunk: u32,
 ) -> bool
-    ensures { IsTrue result ↔ AnswersPeer descriptor.now (window_of descriptor.now) (past entries.now) (address_of to) (Some remote) chunk
+    ensures { IsTrue result ↔ AnswersPeer descriptor.now (lets_send descriptor.now.chunk) (past entries.now) (address_of to) (Some remote) chunk
         (take count (all descriptor.now bytes.now)) }
 {
     let reply = Reply {
@@ -205,7 +206,7 @@ pub(crate) fn plans_peer<'m>(
     count: usize,
     chunk: u32,
 ) -> bool
-    ensures { IsTrue result ↔ PlansPeer descriptor.now (window_of descriptor.now) (past entries.now) (address_of to) (Some remote) chunk
+    ensures { IsTrue result ↔ PlansPeer descriptor.now (lets_send descriptor.now.chunk) (past entries.now) (address_of to) (Some remote) chunk
         (take count (all descriptor.now bytes.now)) }
 {
     let reply = Reply {

@@ -3,7 +3,7 @@
 ghost use Rattle.std.specs.Prelude.{◌≡◌, ◌↔◌, ℕ, true, false, IsTrue, slice_index_or};
 ghost use Rattle.pp_terms.specs.disk.Disk.{History};
 ghost use Rattle.pp_traffic.specs.Keeping.{StoodThroughout};
-ghost use Rattle.pp_traffic.specs.Serving.{window_of};
+ghost use Rattle.pp_traffic.specs.Meter.{lets_send};
 ghost use Rattle.pp_promises.specs.Served.{ServesBut};
 ghost use Rattle.pp_audit.specs.Entries.{past};
 
@@ -22,7 +22,7 @@ pub fn serves_but<'m>(
     entries: &'m [Entry<'m>],
 ) -> bool
     ensures { (h : History) → ((i : ℕ) → (slice_index_or stood.now i false ≡ true) ↔ StoodThroughout descriptor.now h i)
-        → IsTrue result ↔ ServesBut refusals descriptor.now (window_of descriptor.now) h (past entries.now) }
+        → IsTrue result ↔ ServesBut refusals descriptor.now (lets_send descriptor.now.chunk) h (past entries.now) }
 {
     fails_few(
         Clause::Each(Duty::Serves(refusals, stood)),

@@ -3,7 +3,7 @@
 ghost use Rattle.std.specs.Prelude.{◌≡◌, ◌↔◌, ◌≤◌, ◌<◌, ◌^◌, IsTrue, [], take, length};
 ghost use Rattle.pp_terms.specs.tree.Book.{IsRooted};
 ghost use Rattle.pp_terms.specs.format.Messages as messages;
-ghost use Rattle.pp_traffic.specs.Serving.{window_of};
+ghost use Rattle.pp_traffic.specs.Meter.{lets_send};
 ghost use Rattle.pp_traffic.specs.Serving as terms;
 ghost use Rattle.pp_tree.specs.Book.{entry};
 ghost use Rattle.pp_outside.specs.Outside.{address_of};
@@ -29,7 +29,7 @@ fn reaches<'m>(
     count: usize,
     chunk: u32,
 ) -> bool
-    ensures { IsTrue result ↔ terms.AnswersPeer descriptor.now (window_of descriptor.now) (past entries.now) (address_of to)
+    ensures { IsTrue result ↔ terms.AnswersPeer descriptor.now (lets_send descriptor.now.chunk) (past entries.now) (address_of to)
         (messages.datagram descriptor.now.method descriptor.now.chunk bytes.now).channel chunk (take count (all descriptor.now bytes.now)) }
 {
     match channel_of(bytes) {
@@ -60,7 +60,7 @@ fn serves_chunk<'m>(
 ) -> bool
     requires rooted { IsRooted descriptor.now (entry book.now) }
     requires within { next ≤ length bytes.now }
-    ensures { IsTrue result ↔ terms.ServesChunk descriptor.now (entry book.now) (window_of descriptor.now) (past entries.now) (address_of to)
+    ensures { IsTrue result ↔ terms.ServesChunk descriptor.now (entry book.now) (lets_send descriptor.now.chunk) (past entries.now) (address_of to)
         (messages.datagram descriptor.now.method descriptor.now.chunk bytes.now).channel (take count (all descriptor.now bytes.now)) chunk content.now
         (rest descriptor.now bytes.now next) }
 {
@@ -85,7 +85,7 @@ fn serves_from<'m>(
     bytes: &[u8],
 ) -> bool
     requires { IsRooted descriptor.now (entry book.now) }
-    ensures { IsTrue result ↔ terms.ServesFrom descriptor.now (entry book.now) (window_of descriptor.now) (past entries.now) (address_of to)
+    ensures { IsTrue result ↔ terms.ServesFrom descriptor.now (entry book.now) (lets_send descriptor.now.chunk) (past entries.now) (address_of to)
         (messages.datagram descriptor.now.method descriptor.now.chunk bytes.now).channel [] (all descriptor.now bytes.now) }
 {
     let mut at = first_place(bytes);
@@ -116,7 +116,7 @@ fn serves_entry<'m>(
     newest: &'m Entry<'m>,
 ) -> bool
     requires { IsRooted descriptor.now (entry book.now) }
-    ensures { IsTrue result ↔ terms.Serves descriptor.now (entry book.now) (window_of descriptor.now) (past entries.now) (record_of newest.now) }
+    ensures { IsTrue result ↔ terms.Serves descriptor.now (entry book.now) (lets_send descriptor.now.chunk) (past entries.now) (record_of newest.now) }
 {
     match *newest {
         Entry::Sent { to, bytes, .. } => serves_from(descriptor, book, entries, to, bytes),
@@ -125,11 +125,10 @@ fn serves_entry<'m>(
 }
 
 /// Whether each chunk that was sent has its hash path in the book, answers an outstanding request of an unchoked peer,
-/// brings the hashes that the peer lacks, and is at most the second on its way (RFC 7574, sections 3.5 to 3.9, 5.3 and
-/// 8.16).
+/// brings the hashes that the peer lacks, and fits the window (RFC 7574, sections 3.5 to 3.9, 5.3 and 8.16).
 pub fn serves<'m>(descriptor: &Descriptor, book: &Book, entries: &'m [Entry<'m>]) -> bool
     requires { IsRooted descriptor.now (entry book.now) }
-    ensures { IsTrue result ↔ terms.ServesAll descriptor.now (entry book.now) (window_of descriptor.now) (past entries.now) }
+    ensures { IsTrue result ↔ terms.ServesAll descriptor.now (entry book.now) (lets_send descriptor.now.chunk) (past entries.now) }
 {
     let mut place = entries.len();
     'places: while place > 0 {

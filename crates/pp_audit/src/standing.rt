@@ -21,13 +21,11 @@ use pp_options::Options;
 use pp_tree::{Descriptor, Node};
 use pp_wire::{Message, Span};
 
-/// Whether a request of a chunk is outstanding, whether the peer has told that it knows a node, whether it has
-/// acknowledged a chunk.
+/// Whether a request of a chunk is outstanding, whether the peer has told that it knows a node.
 #[derive(Clone, Copy)]
 pub(crate) enum Question {
     Asked(u64),
     Told(Node),
-    Landed(u64),
 }
 
 /// Whether a choke stands, and the answer to a question.
@@ -83,16 +81,6 @@ fn told_by<'m>(chunks: u32, node: Node, message: &'m Message<'m>) -> bool
     }
 }
 
-// Whether it acknowledges the chunk.
-fn lands<'m>(chunk: u64, message: &'m Message<'m>) -> bool
-    ensures { result ≡ terms.lands chunk (message_of message.now) }
-{
-    match *message {
-        Message::Ack { span, .. } => within(span, chunk),
-        _ => false,
-    }
-}
-
 /// Whether a choke stands behind a message of who chokes.
 pub(crate) fn choked_by<'m>(message: &'m Message<'m>, choked: bool) -> bool
     ensures { result ≡ asking.choked_by (message_of message.now) choked }
@@ -118,7 +106,6 @@ fn found_by<'m>(
     match question {
         Question::Asked(chunk) => asked_by(chunk, choked, message, found),
         Question::Told(node) => told_by(chunks, node, message) || found,
-        Question::Landed(chunk) => lands(chunk, message) || found,
     }
 }
 
@@ -128,7 +115,6 @@ fn found_after<'m>(question: Question, message: &'m Message<'m>, found: bool) ->
     match question {
         Question::Asked(chunk) => asked_after(chunk, message, found),
         Question::Told(_) => found,
-        Question::Landed(_) => found,
     }
 }
 

@@ -9,12 +9,12 @@ use pp_tree::{Book, Descriptor, Digest, Method, Node, leaf, parent, root_of};
 use std::alloc::{AllocError, Global};
 use std::test::Fail;
 
-const PEER: Address = Address::V4([10, 0, 0, 2], 7000);
+pub(super) const PEER: Address = Address::V4([10, 0, 0, 2], 7000);
 
 const OTHER: Address = Address::V4([10, 0, 0, 3], 7000);
 
 // This peer's number for the channel, and the other one's.
-const LOCAL: u32 = 0x0102_0304;
+pub(super) const LOCAL: u32 = 0x0102_0304;
 
 pub(super) const REMOTE: u32 = 0x0a0b_0c0d;
 
@@ -70,7 +70,7 @@ fn choke(channel: u32) -> [u8; 5] {
 }
 
 /// A DATA of two bytes behind INTEGRITY messages of these spans.
-fn delivery(
+pub(super) fn delivery(
     alloc: Global,
     channel: u32,
     spans: &[(u32, u32)],
@@ -87,11 +87,11 @@ fn delivery(
     Ok(bytes)
 }
 
-fn came<'m>(from: Address, bytes: &'m [u8]) -> Entry<'m> {
+pub(super) fn came<'m>(from: Address, bytes: &'m [u8]) -> Entry<'m> {
     Entry::Received { at: 0, from, bytes }
 }
 
-fn went<'m>(to: Address, bytes: &'m [u8]) -> Entry<'m> {
+pub(super) fn went<'m>(to: Address, bytes: &'m [u8]) -> Entry<'m> {
     Entry::Sent {
         moment: 0,
         to,
@@ -481,12 +481,12 @@ fn came_at<'m>(at: u64, from: Address, bytes: &'m [u8]) -> Entry<'m> {
     Entry::Received { at, from, bytes }
 }
 
-fn quiet<'m>(at: u64) -> Entry<'m> {
+pub(super) fn quiet<'m>(at: u64) -> Entry<'m> {
     Entry::Quiet { at }
 }
 
-// The channel that the peer opened, by the place of its opening.
-fn answered(opening: usize) -> Life {
+/// The channel that the peer opened, by the place of its opening.
+pub(super) fn answered(opening: usize) -> Life {
     Life {
         address: PEER,
         local: LOCAL,

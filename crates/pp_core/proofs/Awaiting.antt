@@ -190,7 +190,7 @@ both_asked xs ys a b c one two = record {
     apart : (i : ℕ) → are_cancelling (xs ++ ys) i ≡ false → (are_cancelling xs i ≡ false) × (are_cancelling ys i ≡ false)
     apart i free = or_parts (are_cancelling xs i) (are_cancelling ys i) (sym (list_any-append _ xs ys) ∙ free)
 
-refused_later : (w : Way) (bs : List Batch) (old new : At) → DeliversEach w bs old new → old.so_far.refused ≤ new.so_far.refused
+pub refused_later : (w : Way) (bs : List Batch) (old new : At) → DeliversEach w bs old new → old.so_far.refused ≤ new.so_far.refused
 refused_later w [] old new h = (let same = ap (λ (x : At). x.so_far.refused) h in omega (arith, same))
 refused_later w (b ∷ bs) old new h = (let rest = refused_later w bs h.0 new h.2 in let one = step b.sent h.1.count in omega (arith, rest, one))
   where

@@ -122,7 +122,7 @@ closed_there t k n ne = after_stays (channel_at t k) (channel_at t n) (channel_a
 pub made_there : (t : Seats) (k n : ℕ) (make : ℕ → Channel) → n ≢ k → channel_at (with_channel_at (Some k) make t) n ≡ channel_at t n
 made_there t k n make ne = get_or-set_other t.channels k n _ None ne
 
-free_none : (t : Seats) (k : ℕ) → free_seat t ≡ Some k → is_some (channel_at t k) ≡ false
+pub free_none : (t : Seats) (k : ℕ) → free_seat t ≡ Some k → is_some (channel_at t k) ≡ false
 free_none t k free = of (channel_at t k) (position-Some is_none t.channels k None free).1
   where
     of : (o : Option Channel) → is_none o ≡ true → is_some o ≡ false

@@ -156,7 +156,7 @@ said_one d t test by (n ∷ notes) ms some says =
     (λ (there : list_any t notes ≡ true). or_right (list_any test says.0) (list_any test says.1) (said_one d t test by notes says.1 there says.3))
     (or_cases (t n) (list_any t notes) some)
 
-any_mapped : (test : Message → Bool) (make : Span → Message) (i : ℕ) → ((s : Span) → test (make s) ≡ within s i) → (spans : List Span)
+pub any_mapped : (test : Message → Bool) (make : Span → Message) (i : ℕ) → ((s : Span) → test (make s) ≡ within s i) → (spans : List Span)
     → list_any test (map make spans) ≡ has spans i
 any_mapped test make i same [] = refl
 any_mapped test make i same (s ∷ spans) = λ t. same s t || any_mapped test make i same spans t

@@ -252,13 +252,13 @@ suggested_far n (address ∷ queue) old new d = of (nat_lt (used_of old.parts.se
     of true more h = knew_twice n old.parts h.1.parts new.parts (tries_far n address h.0 (with_queue queue old) h.1 h.2) (more h.1 h.3)
     of false more h = knew_same n old.parts new.parts (ap (λ (x : Scene). x.parts) h)
 
-dials_far : (n : ℕ) (dials lefts : List Dial) (old new : Scene) → DialsAll dials lefts old new → Knew n old.parts new.parts
+pub dials_far : (n : ℕ) (dials lefts : List Dial) (old new : Scene) → DialsAll dials lefts old new → Knew n old.parts new.parts
 dials_far n dials lefts old new d =
     knew_twice n old.parts d.0.parts new.parts (each_far n dials lefts old d.0 d.1) (suggested_far n d.0.parts.pex.queue d.0 new d.2)
 
 -- ---- before the turns
 
-dropped_far : (n : ℕ) (old dropped given : Parts) → n < 64 → Drops old dropped → GivesUp dropped given → Knew n old given
+pub dropped_far : (n : ℕ) (old dropped given : Parts) → n < 64 → Drops old dropped → GivesUp dropped given → Knew n old given
 dropped_far n old dropped given low d g far e =
     let then : far_of (channel_at dropped.seats.table n) ≡ Some far = ap (λ (p : Parts). far_of (channel_at p.seats.table n)) (sym g.rest) ∙ e in
     ⊎_elim

@@ -37,7 +37,7 @@ none_before test place [] past e = e
 none_before test place (r ∷ rs) past e =
     none_before test place rs past (or_parts (leb place (length (rs ++ past)) && test r) (some_since test place (rs ++ past)) e).1
 
-fresh_before : (test : Record → Bool) (place : ℕ) (rs past : List Record) → some_until test place (rs ++ past) ≡ false
+pub fresh_before : (test : Record → Bool) (place : ℕ) (rs past : List Record) → some_until test place (rs ++ past) ≡ false
     → some_until test place past ≡ false
 fresh_before test place [] past e = e
 fresh_before test place (r ∷ rs) past e =
@@ -55,7 +55,7 @@ heard_before d other moment life (r ∷ rs) past all e = ⊎_elim
     (or_cases (leb life.opening (length (rs ++ past)) && comes_on d life r) (is_heard d life (rs ++ past)) e)
 
 -- before records were sent it was plain, or nothing had gone to its address since its opening
-plain_gone : (d other : Descriptor) (moment : ℕ) (life : Life) (rs past : List Record) → AllByRecursion (IsOurs other moment) rs
+pub plain_gone : (d other : Descriptor) (moment : ℕ) (life : Life) (rs past : List Record) → AllByRecursion (IsOurs other moment) rs
     → IsPlainNow d life (rs ++ past) → IsPlainNow d life past ⊎ (some_since (goes_to life.address) life.opening past ≡ false)
 plain_gone d other moment life [] past all is = inl is
 plain_gone d other moment life (r ∷ rs) past all is = ⊎_elim
@@ -78,7 +78,7 @@ proven_now d c life past s known heard = ⊎_elim
     (cases_Bool life.is_dialled)
 
 -- what went to an address went since the channel's opening
-goes_since : (d : Descriptor) (l life : Life) (past : List Record) → l.address ≡ life.address → some_since (answers d l) l.opening past ≡ true
+pub goes_since : (d : Descriptor) (l life : Life) (past : List Record) → l.address ≡ life.address → some_since (answers d l) l.opening past ≡ true
     → some_until (concerns life.address) life.opening past ≡ false → some_since (goes_to life.address) life.opening past ≡ true
 goes_since d l life past same answered fresh =
     let s = found_since (answers d l) l.opening past answered in

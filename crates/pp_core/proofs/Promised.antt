@@ -2,7 +2,6 @@
 use Rattle.std.proofs.Common.{◌≡◌, ◌⊎◌, inl, inr, ⊎_elim, ℕ, ◌^◌, ◌<◌, ◌≤◌, Bool, true, Option, Some, List, [], ◌∷◌, ◌++◌, length, take, refl, sym, ◌∙◌, ap, subst}
 use Rattle.std.specs.Prelude.{slice_get, IfSome}
 use Rattle.std.proofs.lemmas.Option.{same_Some}
-use Rattle.pp_terms.specs.disk.Image.{holds}
 use Rattle.pp_terms.specs.format.Traffic.{Record, Received}
 use Rattle.pp_terms.specs.format.Descriptor.{Descriptor, chunks_of, IsDescriptor}
 use Rattle.pp_terms.specs.format.Messages.{Message, Data, Messages}
@@ -14,7 +13,7 @@ use Rattle.pp_traffic.specs.Past.{now}
 use Rattle.pp_traffic.specs.Life.{Life}
 use Rattle.pp_traffic.specs.Story.{Line, hear}
 use Rattle.pp_promises.specs.ReadStory.{proven_story}
-use Rattle.pp_promises.specs.Stored.{met_before, StoresProved}
+use Rattle.pp_promises.specs.Stored.{met_before}
 use Rattle.pp_promises.proofs.Growth.{contradictions_stay}
 use Rattle.pp_outside.specs.Arrivals.{IsEvent}
 use Rattle.pp_outside.specs.Outside.{address_of, record_of}
@@ -23,7 +22,7 @@ use Rattle.pp_outside.specs.declared.link.Event.{Event}
 use Rattle.pp_outside.specs.declared.link.Event.TheVariants as events
 use Rattle.pp_paths.specs.Judge.{KeepsEntries}
 use Rattle.pp_paths.proofs.ProvenChunks.{counted}
-use Rattle.pp_store.specs.Store.{StoreState, is_held, HoldsAll}
+use Rattle.pp_store.specs.Store.{StoreState, is_held}
 use Rattle.pp_lives.specs.Arriving.{Arrives}
 use Rattle.pp_lives.specs.Standing.{HasSeat}
 use Rattle.pp_lives.specs.declared.arriving.Arrival.{Arrival}
@@ -43,7 +42,7 @@ use Rattle.pp_peer.specs.Messages.{is_proven_in, claims_in, InTurn, before_close
 use Rattle.pp_peer.specs.Events.{HearsArrival, TakesDatagram, after_datagram}
 use Rattle.pp_peer.proofs.Arrived.{datagram_is}
 use Rattle.pp_core.specs.Paths.{Path, path_read, path_heard, path_of}
-use Rattle.pp_core.specs.Storing.{IsJudgedFit, HoldsFitting, StoresWhatFits}
+use Rattle.pp_core.specs.Storing.{IsJudgedFit, HoldsFitting, StoresWhatFits, StoresIn}
 use Rattle.pp_core.proofs.Paths.{Ends, on_path, seat_after}
 use Rattle.pp_core.proofs.Arriving.{on_its_seat}
 use Rattle.pp_core.proofs.Claiming.{HasRoom, ClaimsAt}
@@ -54,14 +53,14 @@ use Rattle.pp_core.proofs.Proven.{front_heard, EachSteady, ComesAt, HasBegun, co
 -- ---- the path of the datagram
 
 -- There is a path, on the seat: of the messages behind the channel's number, from the seats as they were made ready for them.
-record IsPathOn (seat : ℕ) (bytes : List ℕ) (o : Option Path) (ready : Parts) : Type 0 where
-  path : Path
-  is : o ≡ Some path
-  seat_is : path.seat ≡ seat
-  messages : path.messages ≡ before_close (read_at ready.seats.descriptor bytes 4)
-  seats : path.first.seats ≡ ready.seats
+pub record IsPathOn (seat : ℕ) (bytes : List ℕ) (o : Option Path) (ready : Parts) : Type 0 where
+  pub path : Path
+  pub is : o ≡ Some path
+  pub seat_is : path.seat ≡ seat
+  pub messages : path.messages ≡ before_close (read_at ready.seats.descriptor bytes 4)
+  pub seats : path.first.seats ≡ ready.seats
 
-heard_path : (result : Arrival) (sender : Address) (bytes : List ℕ) (slot : Bool) (old new : Parts)
+pub heard_path : (result : Arrival) (sender : Address) (bytes : List ℕ) (slot : Bool) (old new : Parts)
     (hears : HearsArrival result sender bytes slot old new)
     (seat : ℕ) → result ≡ arrivals.Heard seat → IsPathOn seat bytes (path_heard result sender bytes slot old new hears) old
 heard_path (arrivals.Heard k) sender bytes slot old new hears seat e = record {
@@ -73,7 +72,7 @@ heard_path (arrivals.Heard k) sender bytes slot old new hears seat e = record {
 }
 heard_path result sender bytes slot old new hears seat e = absurd cc
 
-replied_path : (result : Arrival) (sender : Address) (bytes : List ℕ) (slot : Bool) (old new : Parts)
+pub replied_path : (result : Arrival) (sender : Address) (bytes : List ℕ) (slot : Bool) (old new : Parts)
     (hears : HearsArrival result sender bytes slot old new)
     (seat : ℕ) → result ≡ arrivals.Replied seat → IsPathOn seat bytes (path_heard result sender bytes slot old new hears) old
 replied_path (arrivals.Replied k) sender bytes slot old new hears seat e = record {
@@ -103,7 +102,7 @@ module _ (b : Beginning) (most : ℕ) (known_of : ℕ → ℕ → Bool) (old rea
     (stands : seats.StandsFor (setting b known_of) most old past)
     (life : Life) where
   -- on a channel that is known
-  shown_claims : (h : HasSeat old.table stands.lives life) → ChangesSeat h.seat IsShown (record ready { seats = old.seats }) ready
+  pub shown_claims : (h : HasSeat old.table stands.lives life) → ChangesSeat h.seat IsShown (record ready { seats = old.seats }) ready
       → (p : Parts) → p.seats ≡ ready → ClaimsAt h.seat (chunks_of b.d) (proven_story b.d life past) p
   shown_claims h c p same =
       let followed = stands.follow h.seat h.channel life c.before h.there h.known h.lives_there c.there in
@@ -114,7 +113,7 @@ module _ (b : Beginning) (most : ℕ) (known_of : ℕ → ℕ → Bool) (old rea
       }
 
   -- where the reply came
-  begun_claims : (seat : ℕ) (d : Descriptor) (slot : Bool) → ChangesSeat seat (BeginsShown d slot) (record ready { seats = old.seats }) ready
+  pub begun_claims : (seat : ℕ) (d : Descriptor) (slot : Bool) → ChangesSeat seat (BeginsShown d slot) (record ready { seats = old.seats }) ready
       → traffic.claims_in (chunks_of b.d) (proven_story b.d life past) ≡ []
       → (p : Parts) → p.seats ≡ ready → ClaimsAt seat (chunks_of b.d) (proven_story b.d life past) p
   begun_claims seat d slot c none p same =
@@ -190,24 +189,21 @@ chunk_judged d seat store i sent_at bytes story first last c is proof book from_
 
 -- ---- the whole
 
--- An event was taken: along its path all stays of the content, the book keeps its entries, and what is held is in what the disk reads.
-pub record TakesSteadily (d : Descriptor) (event : Event) (bytes : List ℕ) (old new : Parts) (stores : StoresWhatFits event bytes old new)
-    (reads : List ℕ) : Type 0 where
+-- An event was taken: along its path all stays of the content, and the book keeps its entries.
+pub record TakesSteadily (d : Descriptor) (event : Event) (bytes : List ℕ) (old new : Parts) (stores : StoresWhatFits event bytes old new) : Type 0 where
   pub valid : IsDescriptor d
   pub steady : IfSome (path_of event bytes old stores.absorbs.mid stores.absorbs.takes)
       (λ path. EachSteady d path.seat path.messages path.first path.last path.in_turn)
   pub entries : KeepsEntries (entry old.holding.book) (entry new.holding.book)
-  pub swarm : new.holding.store.descriptor ≡ d
-  pub holds_all : HoldsAll new.holding.store reads
 
-if_some : (P : Path → Type 0) (o : Option Path) (path : Path) → o ≡ Some path → IfSome o P → P path
+pub if_some : (P : Path → Type 0) (o : Option Path) (path : Path) → o ≡ Some path → IfSome o P → P path
 if_some P o path is h = subst (λ (x : Option Path). IfSome x P) is h
 
-module _ (b : Beginning) (most : ℕ) (past : List Record) (bytes : List ℕ) (old new : Parts) (reads : List ℕ)
+module _ (b : Beginning) (most : ℕ) (past : List Record) (bytes : List ℕ) (old new : Parts)
     (stands : StandsFor b most old past) where
   datagram_proved : (sender : Address) (len stamp : ℕ) (stores : StoresWhatFits (events.Datagram sender len stamp) bytes old new)
-      → TakesSteadily b.d (events.Datagram sender len stamp) bytes old new stores reads
-      → StoresProved b.d (entry new.holding.book) reads past (Received stamp (address_of sender) bytes)
+      → TakesSteadily b.d (events.Datagram sender len stamp) bytes old new stores
+      → StoresIn b.d (entry new.holding.book) new.holding.store past (Received stamp (address_of sender) bytes)
   datagram_proved sender len stamp stores takes life i text brings proof = ⊎_elim
       (λ heard. on_path_of heard.has.seat heard.long
       (heard_path t.arrival sender bytes t.slot t.mid mid t.hears heard.has.seat heard.is)
@@ -240,13 +236,9 @@ module _ (b : Beginning) (most : ℕ) (past : List Record) (bytes : List ℕ) (o
       kept : (o : HoldingState) → new.holding.book ≡ o.book → KeepsEntries (entry o.book) (entry new.holding.book)
       kept o same = subst (λ (x : BookState). KeepsEntries (entry x) (entry new.holding.book)) same (λ k j x here. here)
 
-      -- what is held is read
-      held : is_held new.holding.store i ≡ true → holds b.d reads i ≡ true
-      held is = subst (λ (e : Descriptor). holds e reads i ≡ true) takes.swarm (takes.holds_all i is).held
-
       on_path_of : (seat : ℕ) → 4 ≤ length bytes → IsPathOn seat bytes (path_heard t.arrival sender bytes t.slot t.mid mid t.hears) t.mid
           → ((p : Parts) → p.seats ≡ t.mid.seats → ClaimsAt seat (chunks_of b.d) (proven_story b.d life past) p)
-          → (holds b.d reads i ≡ true) ⊎ Contradicts (entry new.holding.book) (met_before b.d life came past brings.front i text)
+          → (is_held new.holding.store i ≡ true) ⊎ Contradicts (entry new.holding.book) (met_before b.d life came past brings.front i text)
       on_path_of seat long on claims =
           let path = on.path in
           let ends = if_some (λ path. Ends path old mid) (path_of (events.Datagram sender len stamp) bytes old mid t) path on.is
@@ -265,16 +257,15 @@ module _ (b : Beginning) (most : ℕ) (past : List Record) (bytes : List ℕ) (o
           (path_of (events.Datagram sender len stamp) bytes old mid t) path on.is takes.steady)
           (subst (λ (k : ℕ). ClaimsAt k (chunks_of b.d) (proven_story b.d life past) path.first) (sym on.seat_is) (claims path.first on.seats))
           (inl ends.begins) in
-          ⊎_elim (λ is. inl (held is)) (λ against. inr against)
-          (chunk_judged b.d path.seat new.holding.store i brings.sent_at text story old.holding path.last comes takes.valid proof
+          chunk_judged b.d path.seat new.holding.store i brings.sent_at text story old.holding path.last comes takes.valid proof
           (entry new.holding.book)
-          takes.entries (kept path.last.holding (stores.absorbs.book ∙ ap (λ (h : HoldingState). h.book) ends.holding)))
+          takes.entries (kept path.last.holding (stores.absorbs.book ∙ ap (λ (h : HoldingState). h.book) ends.holding))
 
   -- what an event brings is stored as is promised
   pub event_proved : (event : Event) → IsEvent event bytes → (stores : StoresWhatFits event bytes old new)
-      → TakesSteadily b.d event bytes old new stores reads → StoresProved b.d (entry new.holding.book) reads past (record_of event bytes)
+      → TakesSteadily b.d event bytes old new stores → StoresIn b.d (entry new.holding.book) new.holding.store past (record_of event bytes)
   event_proved (events.Datagram sender len stamp) fits stores takes =
-      subst (λ (r : Record). StoresProved b.d (entry new.holding.book) reads past r)
+      subst (λ (r : Record). StoresIn b.d (entry new.holding.book) new.holding.store past r)
       (sym (datagram_is (events.Datagram sender len stamp) bytes sender len stamp refl fits))
       (datagram_proved sender len stamp stores takes)
   event_proved (events.Quiet stamp) fits stores takes = λ life i text brings proof. absurd (let never = brings.comes in cc)

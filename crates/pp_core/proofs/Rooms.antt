@@ -64,7 +64,7 @@ abbrev pub may_in : List SeatState → ℕ → Bool
 may_in list seat = may_at (slice_get list seat)
 
 -- What is read of a seat stays, where the one that changes reads the same.
-at_set : {X : Type 0} (g : Option SeatState → X) (xs : List SeatState) (k : ℕ) (before after : SeatState) → slice_get xs k ≡ Some before
+pub at_set : {X : Type 0} (g : Option SeatState → X) (xs : List SeatState) (k : ℕ) (before after : SeatState) → slice_get xs k ≡ Some before
     → g (Some after) ≡ g (Some before) → (n : ℕ) → g (slice_get (set xs k after) n) ≡ g (slice_get xs n)
 at_set g xs k before after there same n = ⊎_elim
     (λ (here : n ≡ k). ap (λ (m : ℕ). g (slice_get (set xs k after) m)) here ∙ ap g (get_set_there xs k after before there) ∙ same

@@ -38,6 +38,7 @@ use Rattle.pp_seat.proofs.Framing.{since_none, owed_is_kept, owed_is_given}
 use Rattle.pp_seats.specs.Sending.{IsSilent}
 use Rattle.pp_seats.specs.Standing.{SeatsState, at_seat as setting_at, IsFollowed}
 use Rattle.pp_peer.specs.declared.parts.Parts.{Parts}
+use Rattle.pp_peer.specs.Delivering.{IsServedAt}
 use Rattle.pp_peer.specs.Flushing.{Scene}
 use Rattle.pp_peer.specs.Sending.{SendsAll}
 use Rattle.pp_peer.specs.Serving.{most_sent, flying_in, IsServed}
@@ -48,7 +49,6 @@ use Rattle.pp_core.specs.Turning.{scene, Sends}
 use Rattle.pp_core.proofs.Choked.{HasChoke, all_owe, slots_owe, said_choke}
 use Rattle.pp_core.proofs.Flushes.{in_set}
 use Rattle.pp_core.proofs.Leaving.{leaves_none}
-use Rattle.pp_core.proofs.Serving.{IsServedAt, ServesAlone}
 
 -- ---- small things
 
@@ -209,15 +209,13 @@ served_choke (Some was) p s served there =
           ∙ has (sym (ap (λ (x : SeatState). x.slot) served.2) ∙ ap (λ (x : SeatState). x.slot) is ∙ free),
     )
 
--- Where the chunks that went left of the seats what isn't theirs, what is owed on the channels that may be served is what was given up,
--- unless the link refused a datagram.
+-- What is owed on the channels that may be served is what was given up, unless the link refused a datagram.
 pub flush_serves : (refused : ℕ) (old new : PeerState) (link later : LinkState) (disk left : DiskState)
-    → (course : Sends refused old new link later disk left) → ServesAlone course.sends.said.parts.seats course.sent.seats
-    → length old.parts.holding.store.committed ≡ chunks_of old.parts.holding.store.descriptor → 0 < old.parts.holding.store.descriptor.chunk
+    → (course : Sends refused old new link later disk left) → length old.parts.holding.store.committed ≡ chunks_of old.parts.holding.store.descriptor → 0 < old.parts.holding.store.descriptor.chunk
     → (b : Beginning) (most : ℕ) (past : List Record) (h : History) → b.since ≤ moment_of disk.history → StandsFor b most old.parts past
     → ((i : ℕ) → StoodThroughout b.d h i → b.is_found i ≡ true)
     → LeavesFew (most + refused) b.d (lets_send b.d.chunk) h (course.flushes.added ++ past) ⊎ HasRisen link.faults later.faults
-flush_serves refused old new link later disk left course alone size some b most past h since stands found =
+flush_serves refused old new link later disk left course size some b most past h since stands found =
     ⊎_elim (λ risen. inr risen)
     (λ none. inl (λ life may. few_left b (most + refused) course.sent (course.flushes.added ++ past) (served none) h found life may))
     (risen_or link.faults later.faults)
@@ -244,7 +242,7 @@ flush_serves refused old new link later disk left course alone size some b most 
         → far_of (channel_at course.sent.seats.table n) ≡ Some far → far.begun ≡ true → (x : SeatState)
         → slice_get course.sent.seats.seats n ≡ Some x → HasChoke x
     chokes none n low far is_far begun x there =
-        let was = served_choke (slice_get s.said.parts.seats.seats n) (slice_get course.sent.seats.seats n) x (alone.states n) there in
+        let was = served_choke (slice_get s.said.parts.seats.seats n) (slice_get course.sent.seats.seats n) x (s.serves.alone.states n) there in
         was.2 (⊎_elim (λ has. has)
         (λ risen. absurd (none (risen_more link.faults s.said.link.faults later.faults s.serves.flushes.later
         (risen_less link.faults s.dialled.link.faults s.said.link.faults dialling.flushes.later risen))))

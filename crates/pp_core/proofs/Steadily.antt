@@ -1,17 +1,15 @@
--- Along a path all stays of the content, where each message keeps of how many chunks a seat is, and each put of what content the store is.
+-- Along a path all stays of the content: each message keeps of how many chunks a seat is, and each put of what content the store is.
 use Rattle.std.proofs.Common.{◌≡◌, ◌⊎◌, inl, inr, ⊎_elim, ℕ, ◌<◌, Bool, false, Option, List, refl, sym, ◌∙◌, ap, subst, Some, None}
 use Rattle.std.specs.Prelude.{slice_get, IfSome}
 use Rattle.std.proofs.lemmas.Bool.{cases_Bool}
 use Rattle.std.proofs.lemmas.Option.{same_Some}
 use Rattle.pp_terms.specs.format.Descriptor.{Descriptor, chunks_of, IsDescriptor}
 use Rattle.pp_terms.specs.format.Traffic.{Record}
-use Rattle.pp_promises.specs.Stored.{StoresProved}
 use Rattle.pp_outside.specs.Arrivals.{IsEvent}
 use Rattle.pp_outside.specs.Outside.{record_of}
 use Rattle.pp_paths.specs.Judge.{KeepsEntries}
-use Rattle.pp_store.specs.Store.{HoldsAll}
 use Rattle.pp_peer.specs.Standing.{Beginning, StandsFor}
-use Rattle.pp_core.specs.Storing.{StoresWhatFits}
+use Rattle.pp_core.specs.Storing.{StoresWhatFits, StoresIn}
 use Rattle.pp_terms.specs.format.Messages.{Message, Data, Ack, Have, Integrity, Request, Cancel, Choke, Unchoke}
 use Rattle.pp_terms.specs.tree.Book.{IsRooted}
 use Rattle.pp_terms.specs.tree.Claims.{Claim}
@@ -65,20 +63,15 @@ integrity_told range digest noted old new h = ⊎_elim
     (λ unproven. ap (λ (s : SeatState). s.told) (h.unproven unproven).1)
     (cases_Bool old.proven)
 
-module _ (d : Descriptor)
-    (have_told : (range : Span) (noted : Option Note) (old new : SeatState) → HearsHave range noted old new → new.told.chunks ≡ old.told.chunks)
-    (ack_told : (range : Span) (delay moment : ℕ) (noted : Option Note) (old new : SeatState) → HearsAck range delay moment noted old new
-    → new.told.chunks ≡ old.told.chunks)
-    (puts : (ticket : Ticket) (bytes : List ℕ) (claims : List Claim) (old new : Parts) → Puts ticket bytes claims old new
-    → (new.holding.store.descriptor ≡ old.holding.store.descriptor) × IsRooted old.holding.store.descriptor (entry old.holding.book)) where
+module _ (d : Descriptor) where
   told : (moment : ℕ) (m : Message) (noted : Option Note) (old new : SeatState) → Hears moment m noted old new
       → new.told.chunks ≡ old.told.chunks
   told moment (Data chunk sent_at bytes) noted old new h = absurd h
   told moment (Ack span delay) noted old new h =
       part_told span (λ range. HearsAck range delay moment noted old new) noted old new h
-      (λ range here. inr (ack_told range delay moment noted old new here))
+      (λ range here. inr here.room)
   told moment (Have span) noted old new h =
-      part_told span (λ range. HearsHave range noted old new) noted old new h (λ range here. inr (have_told range noted old new here))
+      part_told span (λ range. HearsHave range noted old new) noted old new h (λ range here. inr here.room)
   told moment (Integrity span digest) noted old new h =
       part_told span (λ range. HearsIntegrity range digest noted old new) noted old new h
       (λ range here. inl (integrity_told range digest noted old new here))
@@ -121,7 +114,7 @@ module _ (d : Descriptor)
     room = data_or_other (HasRoom seat (chunks_of d) new) seat m old new does
         (λ chunk sent_at bytes takes. data_room seat chunk sent_at bytes old new takes here.room)
         (λ takes. other_room seat m old new takes here.room);
-    swarm = does_keep (λ h. h.store.descriptor ≡ d) (λ ticket bytes claims before after p was. (puts ticket bytes claims before after p).0 ∙ was)
+    swarm = does_keep (λ h. h.store.descriptor ≡ d) (λ ticket bytes claims before after p was. p.swarm ∙ was)
         seat m old new does here.swarm;
   }
 
@@ -132,7 +125,7 @@ module _ (d : Descriptor)
       let judged = does.judged (subst (λ (e : Descriptor). chunk < chunks_of e) (sym swarm) within)
       (proven_same seat chunk old does.mid does.ends ∙ proven) in
       subst (λ (h : HoldingState). IsRooted d (entry h.book)) same
-      (subst (λ (e : Descriptor). IsRooted e (entry does.mid.holding.book)) swarm (puts _ _ _ does.mid new judged).1)
+      (subst (λ (e : Descriptor). IsRooted e (entry does.mid.holding.book)) swarm judged.rooted)
   message_rooted seat m old new does of = tt
 
   -- ---- the path of an event
@@ -172,22 +165,14 @@ module _ (d : Descriptor)
 
 -- ---- the whole
 
--- what an event brings is stored as is promised, where each message and each put keeps what it should
-pub promised : (b : Beginning) (most : ℕ) (past : List Record) (event : Event) (bytes : List ℕ) (old new : Parts) (reads : List ℕ)
-    → ((range : Span) (noted : Option Note) (before after : SeatState) → HearsHave range noted before after → after.told.chunks ≡ before.told.chunks)
-    → ((range : Span) (delay moment : ℕ) (noted : Option Note) (before after : SeatState) → HearsAck range delay moment noted before after
-    → after.told.chunks ≡ before.told.chunks)
-    → ((ticket : Ticket) (text : List ℕ) (claims : List Claim) (before after : Parts) → Puts ticket text claims before after
-    → (after.holding.store.descriptor ≡ before.holding.store.descriptor) × IsRooted before.holding.store.descriptor (entry before.holding.book))
+-- what an event brings is stored as is promised
+pub promised : (b : Beginning) (most : ℕ) (past : List Record) (event : Event) (bytes : List ℕ) (old new : Parts)
     → IsDescriptor b.d → AllHold (chunks_of b.d) old.seats.seats → IsEvent event bytes → StandsFor b most old past
-    → KeepsEntries (entry old.holding.book) (entry new.holding.book) → new.holding.store.descriptor ≡ old.holding.store.descriptor
-    → HoldsAll new.holding.store reads → StoresWhatFits event bytes old new
-    → StoresProved b.d (entry new.holding.book) reads past (record_of event bytes)
-promised b most past event bytes old new reads have_told ack_told puts valid all fits stands entries same holds_all stores =
-    event_proved b most past bytes old new reads stands event fits stores (record {
+    → KeepsEntries (entry old.holding.book) (entry new.holding.book) → StoresWhatFits event bytes old new
+    → StoresIn b.d (entry new.holding.book) new.holding.store past (record_of event bytes)
+promised b most past event bytes old new valid all fits stands entries stores =
+    event_proved b most past bytes old new stands event fits stores (record {
       valid = valid;
-      steady = event_steady b.d have_told ack_told puts event bytes old stores.absorbs.mid stores.absorbs.takes all stands.ledger.swarm;
+      steady = event_steady b.d event bytes old stores.absorbs.mid stores.absorbs.takes all stands.ledger.swarm;
       entries = entries;
-      swarm = same ∙ stands.ledger.swarm;
-      holds_all = holds_all;
     })

@@ -1,8 +1,8 @@
 -- What is told on a plain channel in a flush, in the words of the promises.
-use Rattle.std.proofs.Common.{◌≡◌, ◌⊎◌, inl, inr, ⊎_elim, ℕ, ◌+◌, ◌-◌, ◌<◌, ◌≤◌, leb, eqb, Bool, true, false, cond, not, Some, List, [], ◌∷◌, ◌++◌, length, refl, sym, ◌∙◌, ap, subst, arith}
+use Rattle.std.proofs.Common.{◌≡◌, ◌⊎◌, inl, inr, ⊎_elim, ℕ, ◌+◌, ◌-◌, ◌<◌, ◌≤◌, leb, Bool, true, false, cond, not, Some, List, [], ◌∷◌, ◌++◌, length, refl, sym, ◌∙◌, ap, subst, arith}
 use Rattle.std.specs.Prelude.{slice_get, slice_index_or}
 use Rattle.std.specs.List.{AllByRecursion, list_any}
-use Rattle.std.proofs.lemmas.Bool.{cases_Bool, cases_lt, both_ways, false≢true, cond-true, or_left, or_right, or_cases, and_from, le-leb, eq-eqb}
+use Rattle.std.proofs.lemmas.Bool.{cases_Bool, cases_lt, both_ways, false≢true, or_right, and_from, le-leb, eq-eqb}
 use Rattle.pp_terms.specs.Count.{HasRisen}
 use Rattle.pp_terms.specs.disk.Disk.{DiskState, History, moment_of}
 use Rattle.pp_terms.specs.format.Descriptor.{Descriptor, chunks_of}
@@ -13,9 +13,9 @@ use Rattle.pp_ranges.specs.Edits.{number_count}
 use Rattle.pp_traffic.specs.Asking.{is_heard}
 use Rattle.pp_traffic.specs.Keeping.{announces, StoodThroughout}
 use Rattle.pp_traffic.specs.Life.{Life}
-use Rattle.pp_traffic.specs.Past.{now, read, is_number}
+use Rattle.pp_traffic.specs.Past.{read, is_number}
 use Rattle.pp_traffic.specs.Plain.{IsPlainNow}
-use Rattle.pp_traffic.specs.Story.{Line, Said, say, said_in, told, story}
+use Rattle.pp_traffic.specs.Story.{said_in, told, story}
 use Rattle.pp_traffic.proofs.Awaited.{plain_began}
 use Rattle.pp_promises.specs.Announced.{tells_of, was_told_of, fewest_new, new_count, is_told_of, IsKnownOf, TellsOfHeld}
 use Rattle.pp_promises.specs.LastTurn.{sent_since, earlier}
@@ -29,7 +29,9 @@ use Rattle.pp_lives.specs.Reading.{is_waiting}
 use Rattle.pp_lives.specs.Standing.{Stands, HasSeat}
 use Rattle.pp_lives.proofs.Sent.{same_self}
 use Rattle.pp_news.specs.News.{has_chunk}
+use Rattle.pp_seat.specs.Follows.{Frame, Lost, Follows}
 use Rattle.pp_seat.specs.Frames.{tale_of}
+use Rattle.pp_seat.specs.Lines.{Tale}
 use Rattle.pp_seat.specs.Seats.{SeatState}
 use Rattle.pp_seat.proofs.News.{news_are_counted}
 use Rattle.pp_seats.specs.Standing.{at_seat as setting_at, frame_in, IsFollowed}
@@ -38,6 +40,7 @@ use Rattle.pp_agenda.proofs.Telling.{rows_are_committed, parts_known}
 use Rattle.pp_peer.specs.declared.parts.Parts.{Parts}
 use Rattle.pp_peer.specs.Flushing.{IsOurs}
 use Rattle.pp_peer.specs.Standing.{Beginning, setting, StandsFor}
+use Rattle.pp_core.specs.Remembering.{PassesTold}
 use Rattle.pp_core.specs.Peers.{PeerState}
 use Rattle.pp_core.specs.Telling.{Tells, end_of, HasOne, IsProven, TellsChunk, Announces}
 use Rattle.pp_core.specs.Turning.{scene, Sends}
@@ -45,6 +48,7 @@ use Rattle.pp_core.proofs.Flushes.{in_set}
 use Rattle.pp_core.proofs.Plain.{stands_there, proven_there}
 use Rattle.pp_core.proofs.PlainBefore.{heard_before, plain_then}
 use Rattle.pp_core.proofs.Served.{risen_or}
+use Rattle.pp_core.proofs.Stories.{IsFound, story_finds}
 use Rattle.pp_core.proofs.Told.{announced}
 use Rattle.pp_core.proofs.Writing.{any_amid, gained_alike, known_number}
 
@@ -85,7 +89,7 @@ since_all d moment (r ∷ rs) past all none =
     ∙ ap (λ (xs : List Record). Sent moment all.0.receiver all.0.bytes ∷ xs) (since_all d moment rs past all.1 none)
     ∙ ap (λ (x : Record). x ∷ rs) (sym all.0.is)
 
-earlier_all : (d : Descriptor) (moment : ℕ) (rs past : List Record) → AllByRecursion (IsOurs d moment) rs → earlier (rs ++ past) ≡ earlier past
+pub earlier_all : (d : Descriptor) (moment : ℕ) (rs past : List Record) → AllByRecursion (IsOurs d moment) rs → earlier (rs ++ past) ≡ earlier past
 earlier_all d moment [] past all = refl
 earlier_all d moment (r ∷ rs) past all = ap (λ (x : Record). earlier (x ∷ (rs ++ past))) all.0.is ∙ earlier_all d moment rs past all.1
 
@@ -99,46 +103,13 @@ announced_earlier d i (Sent moment receiver bytes ∷ before) e =
 
 -- ---- what a story tells
 
-say_tells : (i now : ℕ) (ms : List Message) (before : List Line) → (list_any (has_in i) ms ≡ true) ⊎ (is_told_of i before ≡ true)
-    → is_told_of i (say now ms before) ≡ true
-say_tells i now [] before (inl e) = absurd (false≢true e)
-say_tells i now [] before (inr e) = e
-say_tells i now (m ∷ ms) before (inl e) = ⊎_elim
-    (λ here. say_tells i now ms (Said now m ∷ before) (inr (or_left (has_in i m) (is_told_of i before) here)))
-    (λ later. say_tells i now ms (Said now m ∷ before) (inl later))
-    (or_cases (has_in i m) (list_any (has_in i) ms) e)
-say_tells i now (m ∷ ms) before (inr e) = say_tells i now ms (Said now m ∷ before) (inr (or_right (has_in i m) (is_told_of i before) e))
+pub is_told_found : (i : ℕ) → IsFound (has_in i) (is_told_of i)
+is_told_found i = record { said = λ at m before. refl; heard = λ at m before. refl; taken = λ at before. refl }
 
--- one record of this peer more
-story_sent : (d other : Descriptor) (moment : ℕ) (life : Life) (r : Record) (past : List Record) → IsOurs other moment r → life.opening ≤ length past
-    → story d life (r ∷ past) ≡ say (now (r ∷ past)) (said_in d life r) (story d life past)
-story_sent d other moment life r past ours le =
-    cond-true (leb life.opening (length past)) (told d life (eqb life.opening (length past)) (now (r ∷ past)) r (story d life past)) []
-    (le-leb life.opening (length past) le)
-    ∙ ap (λ (x : Record). told d life (eqb life.opening (length past)) (now (r ∷ past)) x (story d life past)) ours.is
-    ∙ ap (λ (x : Record). say (now (r ∷ past)) (said_in d life x) (story d life past)) (sym ours.is)
-
-longer : (rs past : List Record) → length past ≤ length (rs ++ past)
-longer [] past = omega arith
-longer (r ∷ rs) past = (let rest = longer rs past in omega (arith, rest))
-
-story_tells : (d other : Descriptor) (moment i : ℕ) (life : Life) (rs past : List Record) → AllByRecursion (IsOurs other moment) rs
+pub story_tells : (d other : Descriptor) (moment i : ℕ) (life : Life) (rs past : List Record) → AllByRecursion (IsOurs other moment) rs
     → life.opening ≤ length past → (list_any (tells_of d life i) rs ≡ true) ⊎ (is_told_of i (story d life past) ≡ true)
     → is_told_of i (story d life (rs ++ past)) ≡ true
-story_tells d other moment i life [] past all le (inl e) = absurd (false≢true e)
-story_tells d other moment i life [] past all le (inr e) = e
-story_tells d other moment i life (r ∷ rs) past all le (inl e) =
-    subst (λ (x : List Line). is_told_of i x ≡ true)
-    (sym (story_sent d other moment life r (rs ++ past) all.0 (let more = longer rs past in omega (arith, le, more))))
-    (say_tells i (now (r ∷ (rs ++ past))) (said_in d life r) (story d life (rs ++ past)) (⊎_elim
-    (λ here. inl here)
-    (λ later. inr (story_tells d other moment i life rs past all.1 le (inl later)))
-    (or_cases (tells_of d life i r) (list_any (tells_of d life i) rs) e)))
-story_tells d other moment i life (r ∷ rs) past all le (inr e) =
-    subst (λ (x : List Line). is_told_of i x ≡ true)
-    (sym (story_sent d other moment life r (rs ++ past) all.0 (let more = longer rs past in omega (arith, le, more))))
-    (say_tells i (now (r ∷ (rs ++ past))) (said_in d life r) (story d life (rs ++ past))
-    (inr (story_tells d other moment i life rs past all.1 le (inr e))))
+story_tells d other moment i life rs past all le is = story_finds (has_in i) (is_told_of i) (is_told_found i) d other moment life rs past all le is
 
 -- ---- a HAVE that went
 
@@ -148,14 +119,16 @@ said_all true true ms others g n = refl
 said_all true false ms others g n = absurd (false≢true n)
 said_all false numbered ms others g n = absurd (false≢true g)
 
-have_tells : (d : Descriptor) (c : Channel) (life : Life) (i : ℕ) (added before : List Record) (link later : LinkState)
+-- a message that passes a test went on the life
+pub told_one : (d : Descriptor) (c : Channel) (life : Life) (test : Message → Bool) (added before : List Record) (link later : LinkState)
     → link.traffic ≡ Some before → GainsRecords link.traffic added later.traffic → life.address ≡ address_of c.address
-    → (end_of c).number ≡ life.remote → Tells d (end_of c) (HasOne (has_in i)) link later → list_any (tells_of d life i) added ≡ true
-have_tells d c life i added before link later is gained address number t =
-    subst (λ (rs : List Record). list_any (tells_of d life i) rs ≡ true)
+    → (end_of c).number ≡ life.remote → Tells d (end_of c) (HasOne test) link later
+    → list_any (λ r. list_any test (said_in d life r)) added ≡ true
+told_one d c life test added before link later is gained address number t =
+    subst (λ (rs : List Record). list_any (λ x. list_any test (said_in d life x)) rs ≡ true)
     (sym (gained_alike before added (t.newer ++ r ∷ t.older) link.traffic later.traffic is gained t.gained))
-    (any_amid (tells_of d life i) t.newer r t.older
-    (ap (λ (ms : List Message). list_any (has_in i) ms)
+    (any_amid (λ x. list_any test (said_in d life x)) t.newer r t.older
+    (ap (λ (ms : List Message). list_any test ms)
     (said_all (same_address (address_of c.address) life.address) (is_number life.remote (read d r).channel) (read d r).messages.read _
     (subst (λ (a : Address). same_address (address_of c.address) a ≡ true) (sym address) (same_self (address_of c.address)))
     (ap (λ (x : Datagram). is_number life.remote x.channel) t.written.read ∙ eq-eqb (end_of c).number life.remote number)
@@ -164,6 +137,12 @@ have_tells d c life i added before link later is gained address number t =
   where
     r : Record
     r = Sent t.moment (address_of c.address) t.bytes
+
+pub have_tells : (d : Descriptor) (c : Channel) (life : Life) (i : ℕ) (added before : List Record) (link later : LinkState)
+    → link.traffic ≡ Some before → GainsRecords link.traffic added later.traffic → life.address ≡ address_of c.address
+    → (end_of c).number ≡ life.remote → Tells d (end_of c) (HasOne (has_in i)) link later → list_any (tells_of d life i) added ≡ true
+have_tells d c life i added before link later is gained address number t =
+    told_one d c life (has_in i) added before link later is gained address number t
 
 -- ---- what was told before
 
@@ -174,11 +153,28 @@ ToldBelow d p past = (n i : ℕ) (c : Channel) (life : Life) (s : SeatState) →
     → is_committed p.holding.store i ≡ true → i < s.cursor → has_chunk p.holding.queue.tickets i ≡ false
     → is_told_of i (story d life past) ≡ true
 
+-- Where no chunk from the cursor on was told of, the seat follows as if no HAVE had been lost.
+follows_fresh : (f : Frame) (lost : Lost) (s : SeatState) (t : Tale) → Follows f lost s t → ((i : ℕ) → s.cursor ≤ i → t.told i ≡ false)
+    → Follows f (record { chunks = lost.chunks; haves = 0 }) s t
+follows_fresh f lost s t h above = record {
+  lists = h.lists;
+  lacks = h.lacks;
+  slot = h.slot;
+  window = h.window;
+  told = h.told;
+  claims = h.claims;
+  proven = h.proven;
+  own = h.own;
+  haves = h.haves;
+  fresh = record { early = h.fresh.early; above = λ none i high. above i high };
+  exchange = h.exchange;
+}
+
 module _ (refused : ℕ) (old new : PeerState) (link later : LinkState) (disk left : DiskState) (course : Sends refused old new link later disk left)
-    (b : Beginning) (past before : List Record) (h : History) (stands : StandsFor b 0 old.parts past)
+    (b : Beginning) (most : ℕ) (past before : List Record) (h : History) (stands : StandsFor b most old.parts past)
     (size : length old.parts.holding.store.committed ≡ chunks_of b.d) (carries : link.traffic ≡ Some before) (turn : sent_since past ≡ [])
     (found : (i : ℕ) → StoodThroughout b.d h i → b.is_found i ≡ true) (below : ToldBelow b.d old.parts past)
-    (none : HasRisen link.faults later.faults → ⊥) (life : Life) (plain : IsPlainNow b.d life past) (heard : is_heard b.d life past ≡ true) where
+    (passes : PassesTold b.d old.parts past) (none : HasRisen link.faults later.faults → ⊥) (life : Life) (plain : IsPlainNow b.d life past) (heard : is_heard b.d life past ≡ true) where
   abbrev added : List Record
   added = course.flushes.added
 
@@ -189,16 +185,23 @@ module _ (refused : ℕ) (old new : PeerState) (link later : LinkState) (disk le
   hs = stands.seats.standing.plains.plain life plain
 
   there : Stands b.d hs.channel life past
-  there = stands_there refused old new link later disk left course b 0 past stands life plain
+  there = stands_there refused old new link later disk left course b most past stands life plain
 
   proven_first : IsProven hs.seat hs.channel old.parts
-  proven_first = proven_there refused old new link later disk left course b 0 past stands life plain heard
+  proven_first = proven_there refused old new link later disk left course b most past stands life plain heard
 
   abbrev s : SeatState
   s = proven_first.peer.known
 
-  followed : IsFollowed (setting_at (setting b stands.known_of) hs.seat) 0 s life past
+  followed : IsFollowed (setting_at (setting b stands.known_of) hs.seat) most s life past
   followed = stands.seats.follow hs.seat hs.channel life s hs.there hs.known hs.lives_there proven_first.peer.messages
+
+  above : (i : ℕ) → s.cursor ≤ i → was_told_of b.d life i past ≡ false
+  above i high = ⊎_elim
+      (λ was. absurd (let low = passes hs.seat i hs.channel life s hs.there plain there.address there.local proven_first.peer.messages was in
+      omega (arith, low, high)))
+      (λ no. no)
+      (cases_Bool (was_told_of b.d life i past))
 
   tells : Announces (scene old.parts link disk) later
   tells = announced old.dials new.dials old.speaker new.speaker refused (scene old.parts link disk) (scene course.sent later left) course.sends
@@ -231,7 +234,9 @@ module _ (refused : ℕ) (old new : PeerState) (link later : LinkState) (disk le
       let run = rows_run s.cursor old.parts.holding.store.committed 64 rows are in
       let few = rows_count s.cursor rows run in
       let counted = news_are_counted.counted b.d life (added ++ past) (frame_in (setting_at (setting b stands.known_of) hs.seat) life past)
-      followed.lost s (tale_of b.d life past) rows followed.follows (let low = followed.haves in omega (arith, low))
+      (record { chunks = followed.lost.chunks; haves = 0 }) s (tale_of b.d life past) rows
+      (follows_fresh (frame_in (setting_at (setting b stands.known_of) hs.seat) life past) followed.lost s (tale_of b.d life past)
+      followed.follows above) refl
       (λ i. news_are_counted.begun b.d life i past turn
       ∙ ap (λ (xs : List Record). was_told_of b.d life i xs) (sym (earlier_all old.parts.seats.descriptor moment added past course.flushes.ours)))
       (record {
@@ -263,17 +268,18 @@ module _ (refused : ℕ) (old new : PeerState) (link later : LinkState) (disk le
 
 -- ---- a flush
 
--- Where all that is committed below the cursors was told of, each plain channel whose peer has written was told of what is to be known
--- of, or of many new chunks, unless the link refused a datagram; so it is while it never did.
+-- Where all that is committed below the cursors was told of, and nothing from them on, each plain channel whose peer has written was told of what is to be known
+-- of, or of many new chunks, unless the link refused a datagram.
 pub flush_tells : (refused : ℕ) (old new : PeerState) (link later : LinkState) (disk left : DiskState)
-    → (course : Sends refused old new link later disk left) → (b : Beginning) (past before : List Record) (h : History)
-    → b.since ≤ moment_of disk.history → StandsFor b 0 old.parts past → length old.parts.holding.store.committed ≡ chunks_of b.d
+    → (course : Sends refused old new link later disk left) → (b : Beginning) (most : ℕ) (past before : List Record) (h : History)
+    → b.since ≤ moment_of disk.history → StandsFor b most old.parts past → length old.parts.holding.store.committed ≡ chunks_of b.d
     → link.traffic ≡ Some before → sent_since past ≡ [] → ((i : ℕ) → StoodThroughout b.d h i → b.is_found i ≡ true) → ToldBelow b.d old.parts past
+    → PassesTold b.d old.parts past
     → TellsOfHeld b.d h (course.flushes.added ++ past) ⊎ HasRisen link.faults later.faults
-flush_tells refused old new link later disk left course b past before h since stands size carries turn found below =
+flush_tells refused old new link later disk left course b most past before h since stands size carries turn found below passes =
     ⊎_elim (λ risen. inr risen)
     (λ none. inl (λ life plain heard.
-    known_told refused old new link later disk left course b past before h stands size carries turn found below none life
-    (plain_then refused old new link later disk left course b 0 past since stands life plain heard)
+    known_told refused old new link later disk left course b most past before h stands size carries turn found below passes none life
+    (plain_then refused old new link later disk left course b most past since stands life plain heard)
     (heard_before b.d old.parts.seats.descriptor (moment_of disk.history) life course.flushes.added past course.flushes.ours heard)))
     (risen_or link.faults later.faults)

@@ -235,7 +235,7 @@ pub record HasTurn (seat : ℕ) (speaker last : Speaker) (old new : Scene) : Typ
   pub turn : TurnsTo seat refused middle left begin end
   pub after : Apart seat left last end new
 
-apart_below : (seat n refused : ℕ) (speaker left : Speaker) (old new : Scene) → n ≤ seat → TurnsBelow n refused speaker left old new
+pub apart_below : (seat n refused : ℕ) (speaker left : Speaker) (old new : Scene) → n ≤ seat → TurnsBelow n refused speaker left old new
     → Apart seat speaker left old new
 unfolding TurnsBelow
 apart_below seat zero refused speaker left old new high t = apart_silent seat refused speaker left old new t

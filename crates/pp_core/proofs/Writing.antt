@@ -29,6 +29,7 @@ use Rattle.pp_peer.specs.declared.parts.Parts.{Parts}
 use Rattle.pp_peer.specs.Flushing.{IsOurs}
 use Rattle.pp_peer.specs.Standing.{Beginning, StandsFor}
 use Rattle.pp_core.specs.Peers.{PeerState}
+use Rattle.pp_core.specs.Remembering.{wrote_from, KeepsWrote}
 use Rattle.pp_core.specs.Telling.{Tells, end_of}
 use Rattle.pp_core.specs.Turning.{scene, Sends}
 use Rattle.pp_core.proofs.Plain.{stands_there, begun_there, proven_there}
@@ -57,20 +58,20 @@ now_at_low place (r ∷ past) = ⊎_elim
 sent_now : (d : Descriptor) (moment : ℕ) (r : Record) (past : List Record) → IsOurs d moment r → now (r ∷ past) ≡ now past
 sent_now d moment r past ours = ap (λ (x : Record). now (x ∷ past)) ours.is
 
-all_now : (d : Descriptor) (moment : ℕ) (rs past : List Record) → AllByRecursion (IsOurs d moment) rs → now (rs ++ past) ≡ now past
+pub all_now : (d : Descriptor) (moment : ℕ) (rs past : List Record) → AllByRecursion (IsOurs d moment) rs → now (rs ++ past) ≡ now past
 all_now d moment [] past all = refl
 all_now d moment (r ∷ rs) past all = sent_now d moment r (rs ++ past) all.0 ∙ all_now d moment rs past all.1
 
 -- ---- what was written lately
 
-lately_more : (d : Descriptor) (life : Life) (latest : ℕ) (rs past : List Record) → wrote_lately d life latest past ≡ true
+pub lately_more : (d : Descriptor) (life : Life) (latest : ℕ) (rs past : List Record) → wrote_lately d life latest past ≡ true
     → wrote_lately d life latest (rs ++ past) ≡ true
 lately_more d life latest [] past e = e
 lately_more d life latest (r ∷ rs) past e = or_right (writes_on d life r && ltb latest (now (r ∷ (rs ++ past)) + 120000000))
     (wrote_lately d life latest (rs ++ past)) (lately_more d life latest rs past e)
 
 -- one of the records that were sent
-lately_any : (d other : Descriptor) (life : Life) (moment : ℕ) (rs past : List Record) → AllByRecursion (IsOurs other moment) rs
+pub lately_any : (d other : Descriptor) (life : Life) (moment : ℕ) (rs past : List Record) → AllByRecursion (IsOurs other moment) rs
     → list_any (writes_on d life) rs ≡ true → wrote_lately d life (now past) (rs ++ past) ≡ true
 lately_any d other life moment [] past all e = absurd (false≢true e)
 lately_any d other life moment (r ∷ rs) past all e = ⊎_elim
@@ -81,11 +82,6 @@ lately_any d other life moment (r ∷ rs) past all e = ⊎_elim
     (λ later. or_right (writes_on d life r && ltb (now past) (now (r ∷ (rs ++ past)) + 120000000)) (wrote_lately d life (now past) (rs ++ past))
     (lately_any d other life moment rs past all.1 later))
     (or_cases (writes_on d life r) (list_any (writes_on d life) rs) e)
-
--- a datagram was written at a moment or later
-abbrev pub wrote_from : Descriptor → Life → ℕ → List Record → Bool
-wrote_from d life moment [] = false
-wrote_from d life moment (r ∷ before) = (writes_on d life r && leb moment (now (r ∷ before))) || wrote_from d life moment before
 
 lately_from : (d : Descriptor) (life : Life) (moment latest : ℕ) (past : List Record) → latest < moment + 120000000
     → wrote_from d life moment past ≡ true → wrote_lately d life latest past ≡ true
@@ -102,7 +98,7 @@ lately_from d life moment latest (r ∷ past) lt e = ⊎_elim
     (or_cases (writes_on d life r && leb moment (now (r ∷ past))) (wrote_from d life moment past) e)
 
 -- one since a place was written at that place's moment or later
-since_from : (d : Descriptor) (life : Life) (test : Record → Bool) (place : ℕ) (past : List Record)
+pub since_from : (d : Descriptor) (life : Life) (test : Record → Bool) (place : ℕ) (past : List Record)
     → ((r : Record) → test r ≡ true → writes_on d life r ≡ true) → some_since test place past ≡ true
     → wrote_from d life (now_at place past) past ≡ true
 since_from d life test place [] writes e = absurd (false≢true e)
@@ -120,7 +116,7 @@ since_from d life test place (r ∷ past) writes e = ⊎_elim
 
 -- ---- handshakes
 
-begins_of : (number : ℕ) (ms : List Message) → begins_as number ms ≡ true → list_any (is_of number) ms ≡ true
+pub begins_of : (number : ℕ) (ms : List Message) → begins_as number ms ≡ true → list_any (is_of number) ms ≡ true
 begins_of number [] e = absurd (false≢true e)
 begins_of number (Handshake source options ∷ ms) e = or_left (eqb source number) (list_any (is_of number) ms) e
 begins_of number (Data chunk sent_at bytes ∷ ms) e = absurd (false≢true e)
@@ -180,7 +176,7 @@ plain_sent d life r past silent is = ⊎_elim
         (first_either (comes_from life.address) (greets d life) 0 r past e)
 
 -- before all of them it was plain, or one of them is written on it
-plain_since : (d other : Descriptor) (life : Life) (moment : ℕ) (rs past : List Record) → AllByRecursion (IsOurs other moment) rs
+pub plain_since : (d other : Descriptor) (life : Life) (moment : ℕ) (rs past : List Record) → AllByRecursion (IsOurs other moment) rs
     → IsPlainNow d life (rs ++ past) → IsPlainNow d life past ⊎ (list_any (writes_on d life) rs ≡ true)
 plain_since d other life moment [] past all is = inl is
 plain_since d other life moment (r ∷ rs) past all is = ⊎_elim
@@ -207,7 +203,7 @@ heard_never d life (r ∷ past) e =
     ∙ heard_never d life past parts.1)
     (cases_Bool (ltb life.opening (length past) && comes_on d life r))
 
-answered_shows : (d : Descriptor) (life : Life) (past : List Record) → life.is_dialled ≡ false → some_since (shows d life) life.opening past ≡ false
+pub answered_shows : (d : Descriptor) (life : Life) (past : List Record) → life.is_dialled ≡ false → some_since (shows d life) life.opening past ≡ false
     → some_since (comes_on d life) life.opening past ≡ false
 answered_shows d life past answered none =
     subst (λ (b : Bool). some_since (λ r. cond b (shakes_on d life r) (comes_on d life r)) life.opening past ≡ false) answered none
@@ -253,21 +249,13 @@ told_writes d c life says added before link later is gained address number t =
     (list_any (is_of life.local) (read d (Sent t.moment (address_of c.address) t.bytes)).messages.read)
     (ap (λ (x : Datagram). is_number life.remote x.channel) t.written.read ∙ eq-eqb (end_of c).number life.remote number))))
 
--- ---- what is kept of when a datagram last went
-
--- Of each channel on which this peer's handshake was sent it is kept when a datagram last went there: one went then, or later.
-abbrev pub KeepsWrote : Descriptor → Parts → List Record → Type 0
-KeepsWrote d p past = (n : ℕ) (c : Channel) (life : Life) → channel_at p.seats.table n ≡ Some c → is_begun c.opening ≡ true
-    → life.address ≡ address_of c.address → life.local ≡ c.local → (c.remote ≡ None) ⊎ (c.remote ≡ Some life.remote)
-    → wrote_from d life c.wrote past ≡ true
-
 -- ---- a flush
 
 pub known_number : (waits : Bool) (o : Option ℕ) (number : ℕ) → waits ≡ false → o ≡ Some number → cond waits 0 (unwrap_or o 0) ≡ number
 known_number true o number e is = absurd (false≢true (sym e))
 known_number false o number e is = ap (λ (x : Option ℕ). unwrap_or x 0) is
 
-answered_waits : (dialled still : Bool) → (dialled && still) ≡ false → not still ≡ false → dialled ≡ false
+pub answered_waits : (dialled still : Bool) → (dialled && still) ≡ false → not still ≡ false → dialled ≡ false
 answered_waits true true e f = e
 answered_waits true false e f = f
 answered_waits false still e f = refl

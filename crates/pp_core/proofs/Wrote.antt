@@ -32,7 +32,7 @@ use Rattle.pp_core.proofs.Fars.{set_free}
 use Rattle.pp_core.proofs.Kept.{changed_there}
 use Rattle.pp_core.proofs.Paths.{heeded_beside, data_or_other}
 use Rattle.pp_core.proofs.Rooms.{at_changed}
-use Rattle.pp_core.proofs.Writing.{wrote_from, KeepsWrote}
+use Rattle.pp_core.specs.Remembering.{wrote_from, KeepsWrote}
 
 -- ---- a channel
 
@@ -125,7 +125,7 @@ all_closed t k n = ⊎_elim
     (λ (ne : n ≢ k). stays_wrote (channel_at t n) (channel_at (closed t k) n) (closed_there t k n ne))
     (cases_eq n k)
 
-set_made : (xs : List (Option Channel)) (k : ℕ) (x c : Channel) → at_seat (set xs k (Some x)) k ≡ Some c → c ≡ x
+pub set_made : (xs : List (Option Channel)) (k : ℕ) (x c : Channel) → at_seat (set xs k (Some x)) k ≡ Some c → c ≡ x
 set_made [] k x c e = let none : None ≡ Some c = e in absurd cc
 set_made (y ∷ xs) zero x c e = sym (same_Some x c e)
 set_made (y ∷ xs) (suc k) x c e = set_made xs k x c e
@@ -294,7 +294,7 @@ arrival_wrote (arrivals.Given seat) sender bytes slot old new r = same_table old
 
 -- ---- an event
 
-event_wrote : (e : Event) (bytes : List ℕ) (old new : Parts) → AwaitsNumber old.seats.table → TakesEvent e bytes old new
+pub event_wrote : (e : Event) (bytes : List ℕ) (old new : Parts) → AwaitsNumber old.seats.table → TakesEvent e bytes old new
     → AllWrote old.seats.table new.seats.table
 event_wrote (events.Datagram sender len at) bytes old new unknown t =
     all_twice old.seats.table t.mid.seats.table new.seats.table

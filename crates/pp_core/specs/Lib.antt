@@ -2,6 +2,8 @@ pub mod Peers
 pub mod Opening
 pub mod Keeping
 pub mod Turning
+pub mod Remembering
+pub mod Promising
 pub mod Paths
 pub mod Storing
 pub mod Listing

@@ -1,9 +1,13 @@
 -- What comes and fits is held.
-use Rattle.std.specs.Prelude.{◌≡◌, ℕ, ◌<◌, true, IfSome, List, [], ◌∷◌, slice_get}
-use Rattle.pp_terms.specs.format.Descriptor.{chunks_of}
+use Rattle.std.specs.Prelude.{◌≡◌, ◌⊎◌, ℕ, ◌<◌, true, IfSome, List, [], ◌∷◌, slice_get}
+use Rattle.pp_terms.specs.format.Descriptor.{Descriptor, chunks_of}
 use Rattle.pp_terms.specs.format.Messages.{Message, Data}
+use Rattle.pp_terms.specs.format.Traffic.{Record}
 use Rattle.pp_terms.specs.tree.Book.{LookUp}
-use Rattle.pp_terms.specs.tree.Claims.{latest}
+use Rattle.pp_terms.specs.tree.Claims.{latest, Contradicts}
+use Rattle.pp_terms.specs.tree.Proves.{Proves}
+use Rattle.pp_traffic.specs.Life.{Life}
+use Rattle.pp_promises.specs.Stored.{BringsChunk, claimed_before, met_before}
 use Rattle.pp_tree.specs.Book.{entry}
 use Rattle.pp_paths.specs.declared.judging.Verdict.TheVariants as verdicts
 use Rattle.pp_paths.specs.declared.settling.Settled.TheVariants as settlements
@@ -45,3 +49,10 @@ pub record StoresWhatFits (event : Event) (bytes : List ℕ) (old new : Parts) :
   pub absorbs : Absorbs event bytes old new
   pub holds : IfSome (path_of event bytes old absorbs.mid absorbs.takes)
       (λ path. HoldsFitting new.holding.store path.seat path.messages path.first path.last path.in_turn)
+
+-- A chunk that comes on a plain channel and is proved by what its peer claims is held in the store, or the book contradicts the climb at a
+-- node that can be named.
+abbrev pub StoresIn : Descriptor → LookUp → StoreState → List Record → Record → Type 0
+StoresIn d book store before r = (life : Life) (i : ℕ) (bytes : List ℕ) → (b : BringsChunk d life before r i bytes)
+    → Proves d (claimed_before d life r before b.front) i bytes
+    → (is_held store i ≡ true) ⊎ Contradicts book (met_before d life r before b.front i bytes)

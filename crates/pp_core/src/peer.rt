@@ -22,6 +22,8 @@ ghost use Rattle.pp_holding.specs.Opening.{IsOpenFault};
 ghost use Rattle.pp_holding.specs.Stock.{IsKept};
 ghost use Rattle.pp_peer.specs.Absorbing.{with_event, Advanced, InTime, is_quiet};
 ghost use Rattle.pp_peer.specs.Events.{Absorbs};
+ghost use Rattle.pp_paths.specs.Judge.{KeepsEntries};
+ghost use Rattle.pp_terms.specs.tree.Book.{LookUp};
 ghost use Rattle.pp_peer.specs.Standing.{Beginning, Ledger, StandsFor};
 ghost use Rattle.pp_channels.specs.Seats.{is_found};
 ghost use Rattle.pp_core.specs.Asking.{Asks};
@@ -30,9 +32,11 @@ ghost use Rattle.pp_core.specs.Keeping.{IsKeeping};
 ghost use Rattle.pp_core.specs.Leaving.{LeavesNone};
 ghost use Rattle.pp_core.specs.Listing.{ListsRequests};
 ghost use Rattle.pp_core.specs.Opening.{HasBegun, beginning};
+ghost use Rattle.pp_core.specs.Promising.{Promises};
 ghost use Rattle.pp_core.specs.Reaching.{Reaches};
+ghost use Rattle.pp_core.specs.Remembering.{KeepsWrote, StaysUnchoked, KeepsTold, HasNoTicket, KeepsAcks, HasNoRepeat};
 ghost use Rattle.pp_core.specs.Slots.{KeepsSlots};
-ghost use Rattle.pp_core.specs.Storing.{StoresWhatFits};
+ghost use Rattle.pp_core.specs.Storing.{StoresWhatFits, StoresIn};
 ghost use Rattle.pp_core.specs.Telling.{Acknowledges, Announces, Greets, Cancels, Exchanges, TakesTurns};
 ghost use Rattle.pp_core.specs.Turning.{after_refusal, limited, with_limit, scene, Sends, Closes};
 
@@ -160,7 +164,26 @@ impl Peer {
         ensures dead { OnErr result (self.new.parts.holding.store.live ≡ false) }
         // What a peer that fetches has goes on being what it holds.
         ensures had { OnOk result (HasHeld self.old.parts → HasHeld self.new.parts) }
+        // Of each channel it stays known when a datagram last went there.
+        ensures wrote { OnOk result ((b : Beginning) (most : ℕ) (past : List Record) → StandsFor b most self.old.parts past
+            → KeepsWrote b.d self.old.parts past → KeepsWrote b.d self.new.parts (record_of event.now bytes.now ∷ past)) }
+        // While at most eight datagrams opened a channel each has its slot, and no CHOKE went; and what was told stays known.
+        ensures unchoked { OnOk result ((b : Beginning) (most : ℕ) (past : List Record) → StandsFor b most self.old.parts past
+            → StaysUnchoked b.d self.old.parts past → StaysUnchoked b.d self.new.parts (record_of event.now bytes.now ∷ past)) }
+        ensures told { OnOk result ((b : Beginning) (most : ℕ) (past : List Record) → StandsFor b most self.old.parts past
+            → HasNoTicket self.old.parts → KeepsTold b.d self.old.parts past → KeepsTold b.d self.new.parts (record_of event.now bytes.now ∷ past)) }
+        // What is to be acknowledged stays known, of any book that keeps the entries of this one.
+        ensures acks { OnOk result ((b : Beginning) (most : ℕ) (past : List Record) → StandsFor b most self.old.parts past
+            → HasNoTicket self.old.parts → HasNoRepeat self.old.parts → KeepsTold b.d self.old.parts past
+            → (book : LookUp) → KeepsEntries (entry self.new.parts.holding.book) book → KeepsAcks b.d book self.old.parts past
+            → KeepsAcks b.d book self.new.parts (record_of event.now bytes.now ∷ past)) }
+        // What came on a plain channel and is proved by what its peer claims is held, or the book contradicts it.
+        ensures proves { OnOk result ((b : Beginning) (most : ℕ) (past : List Record) → StandsFor b most self.old.parts past
+            → StoresIn b.d (entry self.new.parts.holding.book) self.new.parts.holding.store past (record_of event.now bytes.now)) }
     {
+        // Their contracts tell of the swarm, and of how many chunks a seat is.
+        let _ = self.descriptor().chunk();
+        let _ = self.parts.seats.far(0);
         self.parts.absorb(event, bytes, disk)
     }
 
@@ -177,7 +200,10 @@ impl Peer {
 
     /// Sends what is due, at most 512 chunks on a channel. What the link or the disk refuses is counted.
     pub fn flush<D: Disk, L: Link>(&mut self, disk: &mut D, link: &mut L)
-        ensures exact { (refused : ℕ) × Sends refused self.old self.new (L.seen link.old) (L.seen link.new) (D.state disk.old) (D.state disk.new) }
+        // What goes, step by step; and what that leaves, in the words of what a peer promises of its turns.
+        ensures exact { (refused : ℕ)
+            × (course : Sends refused self.old self.new (L.seen link.old) (L.seen link.new) (D.state disk.old) (D.state disk.new))
+            × Promises refused self.old self.new (L.seen link.old) (L.seen link.new) (D.state disk.old) (D.state disk.new) course.flushes.added }
         // On each channel whose time isn't over what came is acknowledged, what was committed told of, what isn't awaited any more cancelled;
         // handshakes, CHOKEs and UNCHOKEs that are due go, and addresses are exchanged; unless the link refused a datagram.
         ensures acknowledged { Acknowledges (scene self.old.parts (L.seen link.old) (D.state disk.old)) (L.seen link.new) }
@@ -200,8 +226,9 @@ impl Peer {
         ensures leaves { (b : Beginning) (most : ℕ) (past : List Record) → b.since ≤ moment_of (D.state disk.old).history
             → StandsFor b most self.old.parts past → LeavesNone self.new.parts }
     {
-        // Its contract tells that a chunk has bytes.
+        // Their contracts tell that a chunk has bytes, and of how many chunks the store is.
         let _ = self.descriptor().chunk();
+        let _ = self.parts.holding.store();
         self.parts
             .flush(&mut self.dials, &mut self.speaker, disk, link);
         self.parts.holding.forget_tickets();

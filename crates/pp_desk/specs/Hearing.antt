@@ -31,12 +31,14 @@ LearnsOf range old new = (n : Node) → knows new n ≡ (knows old n || tells ol
 pub record HearsHave (range : Span) (noted : Option Note) (old new : SeatState) : Type 0 where
   pub quiet : noted ≡ None
   pub rest : new ≡ record old { told = new.told }
+  pub room : new.told.chunks ≡ old.told.chunks
   pub learns : LearnsOf range old.told new.told
 
 -- An ACK tells of nodes too, and is an acknowledgement to the window, with its delay.
 pub record HearsAck (range : Span) (delay now : ℕ) (noted : Option Note) (old new : SeatState) : Type 0 where
   pub quiet : noted ≡ None
   pub rest : new ≡ record old { told = new.told; window = meters.acked range.first range.last delay now old.window }
+  pub room : new.told.chunks ≡ old.told.chunks
   pub learns : LearnsOf range old.told new.told
 
 -- The chunks of a REQUEST come onto the list, beside those that are there.

@@ -73,7 +73,7 @@ module _ (words : List (List ℕ)) (command : Command) (status : Status) (result
   seed_ends w spelled = ended_as (Seed w.store w.descriptor w.listen w.turns) spelled
 
   pub fetch_ends : (w : PeerWords) (order : Order) (peers : List Address) → IsFetch words w.store w.descriptor w.listen w.turns order peers
-      → FetchEnds result w old new
+      → FetchEnds result w peers old new
   fetch_ends w order peers spelled = ended_as (Fetch w.store w.descriptor w.listen w.turns order peers) spelled
 
   pub check_ends : (store : List ℕ) (descriptor : Descriptor) → IsOnStore (codes "check") words store descriptor

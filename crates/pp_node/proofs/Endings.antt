@@ -1,31 +1,34 @@
 -- How a run of a peer ends, by its status.
-use Rattle.std.proofs.Common.{◌≡◌, ◌⊎◌, inl, inr, ⊎_elim, ℕ, ◌<◌, Bool, true, Option, None, List, [], length, refl, sym, ◌∙◌, ap, subst, Err}
+use Rattle.std.proofs.Common.{◌≡◌, ◌⊎◌, inl, inr, ⊎_elim, ℕ, ◌<◌, Bool, true, Option, None, List, [], length, refl, sym, ◌∙◌, ap, subst, arith, Err}
 use Rattle.std.specs.Prelude.{is_some}
 use Rattle.std.proofs.lemmas.Bool.{false≢true}
 use Rattle.pp_terms.specs.command.Report.{disk_fault_line}
 use Rattle.pp_terms.specs.disk.Disk.{DiskState, IsKnown, GainsName}
 use Rattle.pp_terms.specs.disk.Untouched.{IsSyncedAtMost}
-use Rattle.pp_terms.specs.format.Traffic.{LinkState, Record, GainsAddress}
+use Rattle.pp_terms.specs.format.Traffic.{Address, LinkState, Record, GainsAddress}
 use Rattle.pp_terms.proofs.Risings.{gains_nothing}
 use Rattle.pp_traffic.specs.Committed.{RequestsNone}
 use Rattle.pp_promises.specs.Missing.{IsComplete}
 use Rattle.pp_counts.specs.Counts.{tally_of}
+use Rattle.pp_tree.specs.Book.{entry}
 use Rattle.pp_avail.specs.declared.ranker.Rank.{Rank}
 use Rattle.pp_core.specs.Peers.{PeerState}
 use Rattle.pp_node.specs.Looking.{Lasts}
 use Rattle.pp_node.specs.Outside.{Outside}
 use Rattle.pp_node.specs.Preparing.{IsUnsent, HasPrepared, LeavesDisk, LeavesLink}
-use Rattle.pp_node.specs.Promising.{PeerWords, HasRun, IsIncomplete, IsStopped, IsUnturned, FaultsIn, SeedsIn, HasFetched, FetchesIn, LeavesFile, Binds, PeerEnds, SeedEnds, FetchEnds}
-use Rattle.pp_node.specs.Seeding.{words_of, set_of, HasEvery, NamesBehind, Serves, ReportsSeed}
+use Rattle.pp_node.specs.Promising.{PeerWords, HasRun, IsIncomplete, IsStopped, IsUnturned, FaultsIn, SeedsIn, HasFetched, FetchesIn, LeavesFile, Binds, PeerEnds, SeedEnds, DialsAsTold, FetchEnds}
+use Rattle.pp_node.specs.Seeding.{words_of, dials_of, set_of, HasEvery, NamesBehind, Serves, ReportsSeed}
 use Rattle.pp_node.specs.Status.{number_of}
 use Rattle.pp_node.specs.Text.{Says}
-use Rattle.pp_node.specs.Turning.{post, StopsIn, Ends}
+use Rattle.pp_turns.specs.Taking.{StopsIn, Ends}
+use Rattle.pp_turns.specs.Turning.{post}
+use Rattle.pp_turns.proofs.Promising.{owes_none, keeps_none, tells_none, acknowledges_none}
 use Rattle.pp_node.specs.declared.preparing.Peering.{Peering}
 use Rattle.pp_node.specs.declared.preparing.SeedFault.{SeedFault}
 use Rattle.pp_node.specs.declared.preparing.SeedFault.TheVariants as fault
 use Rattle.pp_node.specs.declared.status.Status.{Status}
 use Rattle.pp_node.specs.declared.status.Status.TheVariants.{Done, Usage, NotAStore, Incomplete, DiskFault, LinkFault, SourceFault, SinkFault, NotEmpty, ContentSize, Memory, Damaged}
-use Rattle.pp_node.proofs.Peers.{WasReady, HasBook, b, start, went_closed, is_closed, early_now, all_taken, complete_now, missing_now, peer_ends, bound_now, run_now, stopped_now, asks_none_now}
+use Rattle.pp_node.proofs.Peers.{WasReady, HasBook, b, start, went_closed, is_closed, early_now, all_taken, complete_now, missing_now, peer_ends, bound_now, run_now, stopped_now, asks_none_now, kept_to_now, dialled_now, unkept, unwilling}
 
 -- ---- a fault is one of both commands
 
@@ -72,12 +75,14 @@ pub record HasFault (number : ℕ) (w : PeerWords) (old new : Outside) : Type 0 
   pub run : PeerEnds number w old new
   pub asks_none : RequestsNone w.descriptor run.added
   pub ends : FaultsIn run.status w old new run.added
+  pub dials : (dial : List Address) → DialsAsTold w.descriptor dial old new run.added
 
 pub seed_fault : (number : ℕ) (w : PeerWords) (old new : Outside) → HasFault number w old new → SeedEnds number w old new
 seed_fault number w old new f = record { run = f.run; asks_none = f.asks_none; ends = seeds_in f.run.status w old new f.run.added f.ends }
 
-pub fetch_fault : (number : ℕ) (w : PeerWords) (old new : Outside) → HasFault number w old new → FetchEnds number w old new
-fetch_fault number w old new f = record { run = f.run; ends = fetches_in f.run.status w old new f.run.added f.ends }
+pub fetch_fault : (number : ℕ) (w : PeerWords) (dial : List Address) (old new : Outside) → HasFault number w old new
+    → FetchEnds number w dial old new
+fetch_fault number w dial old new f = record { run = f.run; dials = f.dials dial; ends = fetches_in f.run.status w old new f.run.added f.ends }
 
 module _ (w : Peering) (old new : Outside) (leaves : Leaves w old new) where
   silent : (status : Status) → IsUnsent old.link new.link → FaultsIn status (words_of w) old new [] → Binds status (words_of w).listen old.link new.link
@@ -93,6 +98,15 @@ module _ (w : Peering) (old new : Outside) (leaves : Leaves w old new) where
       whole = tt;
       keeps = λ known. record { held = (leaves.lasts known).stood; announced = λ sound. tt };
       lasts = leaves.lasts;
+      kept_to = record {
+        stores = λ steady. tt;
+        serves_owed = λ before tells steady counts. inl (owes_none _ (words_of w).descriptor new.disk.history, tt);
+        keeps_up = λ before tells willing counts. inl (keeps_none (words_of w).descriptor, tt);
+        lets_in = λ before tells willing counts. inl (refl, tt);
+        chokes_none = λ before tells willing few. refl;
+        tells = λ before tells steady calm. inl (tells_none (words_of w).descriptor new.disk.history, tt);
+        acknowledges = λ before tells steady calm. inl (acknowledges_none (words_of w).descriptor (entry new.book), tt);
+      };
       named = leaves.named;
       bound = bound;
       leaves = file;
@@ -101,6 +115,7 @@ module _ (w : Peering) (old new : Outside) (leaves : Leaves w old new) where
     };
     asks_none = refl;
     ends = ends;
+    dials = λ dial few some. absurd (let same = unsent.nexts in omega (arith, some, same));
   }
 
   unturned : IsUnsent old.link new.link → IsUnturned old new []
@@ -168,7 +183,8 @@ module _ (w : Peering) (old new : Outside) (opened : DiskState) (listens : LinkS
   module _ (e : HasEnds) where
     abbrev closed_run : (status : Status) → Binds status (words_of w).listen old.link new.link → LeavesFile status old new
         → PeerEnds (number_of status) (words_of w) old new
-    closed_run status = peer_ends w old new opened listens first room r e.takes.taken last (went_closed w old new opened listens first room r w.turns fetches last e) k status
+    closed_run status = peer_ends w old new opened listens first room r e.takes.taken last (went_closed w old new opened listens first room r w.turns fetches last e) k
+        (kept_to_now w old new opened listens first room r w.turns fetches last e k) status
 
     abbrev closed_has : (n : ℕ) → e.takes.taken ≡ n → HasRun (words_of w) n old new (went_closed w old new opened listens first room r w.turns fetches last e).added
     closed_has n is = run_now w old new opened listens first room r e.takes.taken last (went_closed w old new opened listens first room r w.turns fetches last e) k
@@ -179,6 +195,9 @@ module _ (w : Peering) (old new : Outside) (opened : DiskState) (listens : LinkS
 
     abbrev closed_asks : w.asks ≡ None → RequestsNone w.descriptor.now (went_closed w old new opened listens first room r w.turns fetches last e).added
     closed_asks none = asks_none_now w old new opened listens first room r e.takes.taken last (went_closed w old new opened listens first room r w.turns fetches last e) k none
+
+    closed_dials : DialsAsTold w.descriptor.now (dials_of w) old new (went_closed w old new opened listens first room r w.turns fetches last e).added
+    closed_dials = dialled_now w old new opened listens first room r w.turns fetches last e k
 
     closed_early : e.takes.taken < w.turns → HasEvery (set_of last)
     closed_early = early_now w old new opened listens first room r w.turns fetches last e
@@ -206,7 +225,8 @@ module _ (w : Peering) (old new : Outside) (opened : DiskState) (listens : LinkS
 
   module _ (s : Stopped) where
     abbrev stopped_run : PeerEnds (number_of DiskFault) (words_of w) old new
-    stopped_run = peer_ends w old new opened listens first room r s.taken last s.stops.went k DiskFault
+    stopped_run = peer_ends w old new opened listens first room r s.taken last s.stops.went k
+        (unkept w old new opened listens first room r s.stops.went.added s.stops.hard) DiskFault
         (inr (bound_now w old new opened listens first room r s.taken last s.stops.went k)) (left_disk old new)
 
     abbrev stopped_ends : Says disk_fault_line old.sink new.sink → IsStopped (words_of w) old new s.stops.went.added
@@ -241,20 +261,27 @@ module _ (w : Peering) (old new : Outside) (opened : DiskState) (listens : LinkS
   seed_served Memory none s = absurd s
   seed_served Damaged none s = absurd s
 
-  pub fetch_served : (status : Status) → fetches ≡ true → Served status → FetchEnds (number_of status) (words_of w) old new
+  pub fetch_served : (status : Status) → fetches ≡ true → Served status → FetchEnds (number_of status) (words_of w) (dials_of w) old new
   fetch_served Done asked s = record {
     run = closed_run s.0 Done (closed_bound s.0) (left_done old new);
+    dials = closed_dials s.0;
     ends = (fetched s.0, closed_complete s.0 (s.1.0 asked), s.1.1);
   }
   fetch_served Incomplete asked s = record {
     run = closed_run s.0 Incomplete (closed_bound s.0) (left_incomplete old new);
+    dials = closed_dials s.0;
     ends = (closed_has s.0 w.turns (closed_all s.0 (λ asked all. absurd (false≢true (sym s.1.1.names.missing ∙ all s.1.1.names.first s.1.1.names.within)))), incomplete s.0 s.1.1);
   }
   fetch_served SinkFault asked s = record {
     run = closed_run s.0 SinkFault (closed_bound s.0) (left_sink old new);
+    dials = closed_dials s.0;
     ends = (fetched s.0, s.1);
   }
-  fetch_served DiskFault asked s = record { run = stopped_run s.0; ends = inr (stopped_ends s.0 s.1) }
+  fetch_served DiskFault asked s = record {
+    run = stopped_run s.0;
+    dials = λ few some before tells willing. absurd (unwilling w old new opened listens first room r s.0.stops.hard willing);
+    ends = inr (stopped_ends s.0 s.1);
+  }
   fetch_served Usage asked s = absurd s
   fetch_served NotAStore asked s = absurd s
   fetch_served LinkFault asked s = absurd s

@@ -3,8 +3,6 @@ pub mod Lines
 pub mod Runs
 pub mod Attached
 pub mod Names
-pub mod Idle
-pub mod Steps
 pub mod Looks
 pub mod Readies
 pub mod Peers

@@ -195,6 +195,7 @@ module _ (w : Peering) (old mid new : DiskState) (seen seen' : LinkState) (tells
     };
     tells = r.tells ∙ tells;
     honest = r.honest ∙ honest;
+    faults = let more = r.faults in omega (arith, later, more);
     hard = let more = r.hard in omega (arith, hard, more);
     buffer = r.buffer;
   }

@@ -13,7 +13,8 @@ use Rattle.pp_core.specs.Peers.{PeerState}
 use Rattle.pp_core.specs.Turning.{Closes}
 use Rattle.pp_node.specs.Seeding.{set_of, NamesFirst, Judges, Finishes, Serves, ReportsSeed}
 use Rattle.pp_node.specs.Text.{Says}
-use Rattle.pp_node.specs.Turning.{Post, IsSized, TakesAll, StopsIn, Ends}
+use Rattle.pp_turns.specs.Taking.{IsSized, TakesAll, StopsIn, Ends}
+use Rattle.pp_turns.specs.Turning.{Post}
 use Rattle.pp_node.specs.declared.status.Status.{Status}
 use Rattle.pp_node.specs.declared.preparing.SeedFault.{SeedFault}
 use Rattle.pp_node.specs.declared.status.Status.TheVariants.{Done, Usage, NotAStore, Incomplete, DiskFault, LinkFault, SourceFault, SinkFault, NotEmpty, ContentSize, Memory, Damaged}

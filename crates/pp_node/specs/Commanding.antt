@@ -29,7 +29,7 @@ HasEnded (Check store descriptor) number old new = CheckEnds number store descri
 HasEnded (Seed store descriptor listen turns) number old new =
     SeedEnds number (record { store = store; descriptor = descriptor; listen = listen; turns = turns }) old new
 HasEnded (Fetch store descriptor listen turns order peers) number old new =
-    FetchEnds number (record { store = store; descriptor = descriptor; listen = listen; turns = turns }) old new
+    FetchEnds number (record { store = store; descriptor = descriptor; listen = listen; turns = turns }) peers old new
 HasEnded (Export store descriptor) number old new = ExportEnds number store descriptor old new
 HasEnded (Upgrade store descriptor) number old new = UpgradeEnds number store descriptor old new
 HasEnded _ number old new = ⊥

@@ -5,7 +5,6 @@ pub mod Outside
 pub mod Looking
 pub mod Faults
 pub mod Run
-pub mod Turning
 pub mod Preparing
 pub mod Held
 pub mod Checking

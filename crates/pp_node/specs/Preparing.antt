@@ -55,6 +55,7 @@ pub record IsReady (w : Peering) (disk disk' : DiskState) (p : PeerState) (room 
   pub fresh : IsFresh w.descriptor.now disk disk' p
   pub tells : disk'.tells ≡ disk.tells
   pub honest : disk'.honest ≡ disk.honest
+  pub faults : disk.faults ≤ disk'.faults
   pub hard : disk.hard ≤ disk'.hard
   pub buffer : room ≡ 65536
 

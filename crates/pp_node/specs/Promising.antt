@@ -17,6 +17,12 @@ use Rattle.pp_traffic.specs.Serving.{ServesAll}
 use Rattle.pp_traffic.specs.Tallied.{TookTurns, IsTallied}
 use Rattle.pp_traffic.specs.Turns.{is_closing}
 use Rattle.pp_promises.specs.Datagrams.{IsWhole, PlansAll}
+use Rattle.pp_promises.specs.Announced.{AcknowledgesAll, TellsAll}
+use Rattle.pp_promises.specs.Answered.{LetsInBut, ChokesNone, KeepsUpBut}
+use Rattle.pp_promises.specs.Asked.{DialsBut}
+use Rattle.pp_promises.specs.Premises.{Devices, IsCalm, IsWilling, IsSteady, CountsTell, refusals}
+use Rattle.pp_promises.specs.Served.{ServesBut}
+use Rattle.pp_promises.specs.Stored.{StoresAll}
 use Rattle.pp_promises.specs.Missing.{IsComplete, IsFirstMissing, incomplete_line}
 use Rattle.pp_tree.specs.Book.{entry, IsBookOf}
 use Rattle.pp_lives.specs.declared.lives.Far.{Far}
@@ -139,6 +145,32 @@ Binds DiskFault listen old new = (new.bound ≡ old.bound) ⊎ GainsAddress old.
 Binds LinkFault listen old new = new.bound ≡ old.bound
 Binds _ listen old new = GainsAddress old.bound listen new.bound
 
+-- the devices that count what they refuse
+abbrev pub devices_of : Outside → Devices
+devices_of o = record { disk = o.disk; link = o.link; sink = o.sink }
+
+-- What a run promises of the ends of its turns, while the disk, which is honest and tells, refuses nothing but readings. Where every image was
+-- sound at the attachment, what comes on a plain channel and is proved by what its peer claims is held, or the book contradicts it. Of a link
+-- that tells, at the end of every turn but so many as something was refused: of the channels that may be served none is left more chunks that
+-- it was told of, and asked for, than something was refused; a datagram went on each plain channel in the last 120 seconds; a newcomer that
+-- began the turn was let in. Nobody was choked while there were slots for all. Where the link refused nothing, each plain channel was told of
+-- what was announced before, or stood in every image at the attachment, or of 64 new chunks in the turn; and a chunk that came first, and is
+-- proved and agrees with the book, was acknowledged on its channel by the end of the next turn in which nothing came.
+pub record IsKeptTo (d : Descriptor) (old new : Outside) (added : List Record) : Type 0 where
+  pub stores : IsSteady d old.disk new.disk → StoresAll d (entry new.book) new.disk.history.reads added
+  pub serves_owed : (before : List Record) → old.link.traffic ≡ Some before → IsSteady d old.disk new.disk → CountsTell (devices_of new)
+      → ServesBut (refusals (devices_of old) (devices_of new)) d (lets_send d.chunk) new.disk.history added
+  pub keeps_up : (before : List Record) → old.link.traffic ≡ Some before → IsWilling old.disk new.disk → CountsTell (devices_of new)
+      → KeepsUpBut (refusals (devices_of old) (devices_of new)) d added
+  pub lets_in : (before : List Record) → old.link.traffic ≡ Some before → IsWilling old.disk new.disk → CountsTell (devices_of new)
+      → LetsInBut (refusals (devices_of old) (devices_of new)) d added
+  pub chokes_none : (before : List Record) → old.link.traffic ≡ Some before → IsWilling old.disk new.disk
+      → ChokesNone (refusals (devices_of old) (devices_of new)) d added
+  pub tells : (before : List Record) → old.link.traffic ≡ Some before → IsSteady d old.disk new.disk
+      → IsCalm old.link.faults new.link.faults → TellsAll d new.disk.history added
+  pub acknowledges : (before : List Record) → old.link.traffic ≡ Some before → IsSteady d old.disk new.disk
+      → IsCalm old.link.faults new.link.faults → AcknowledgesAll d (entry new.book) added
+
 -- What both commands promise, whatever the status. Of a link that tells its traffic, every chunk that was sent has its hash path in
 -- the book, answers an outstanding request of an unchoked peer, brings the hashes that the peer lacks, exactly those of its plan, and
 -- fits its LEDBAT window (RFC 6817); every datagram that was sent is read to its end. Of a disk that is honest and tells, every
@@ -155,6 +187,7 @@ pub record PeerEnds (result : ℕ) (w : PeerWords) (old new : Outside) : Type 0 
   pub whole : AllByRecursion (IsWhole w.descriptor) added
   pub keeps : IsKnown old.disk → Keeps w.descriptor new.disk.history added
   pub lasts : IsKnown old.disk → Lasts w.descriptor new.disk.history
+  pub kept_to : IsKeptTo w.descriptor old new added
   -- the store was attached by its name and the link bound to its address; the source isn't read
   pub named : IsKnown old.disk → GainsName old.disk.history.names w.store new.disk.history.names
   pub bound : Binds status w.listen old.link new.link
@@ -168,7 +201,15 @@ pub record SeedEnds (result : ℕ) (w : PeerWords) (old new : Outside) : Type 0 
   pub asks_none : RequestsNone w.descriptor run.added
   pub ends : SeedsIn run.status w old new run.added
 
--- A run of `fetch`.
-pub record FetchEnds (result : ℕ) (w : PeerWords) (old new : Outside) : Type 0 where
+-- Where a turn was taken, each of at most 16 addresses was dialled in the first, but that of a datagram that came in it, and but for as many
+-- as something was refused.
+abbrev pub DialsAsTold : Descriptor → List Address → Outside → Outside → List Record → Type 0
+DialsAsTold d dial old new added = length dial ≤ 16 → old.link.nexts < new.link.nexts → (before : List Record)
+    → old.link.traffic ≡ Some before → IsWilling old.disk new.disk → CountsTell (devices_of new)
+    → DialsBut (refusals (devices_of old) (devices_of new)) d dial added
+
+-- A run of `fetch`, which is to dial these addresses.
+pub record FetchEnds (result : ℕ) (w : PeerWords) (dial : List Address) (old new : Outside) : Type 0 where
   pub run : PeerEnds result w old new
+  pub dials : DialsAsTold w.descriptor dial old new run.added
   pub ends : FetchesIn run.status w old new run.added

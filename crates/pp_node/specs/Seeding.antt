@@ -1,9 +1,10 @@
 -- How a peer that was made ready seeds or fetches, and what is said of it.
-use Rattle.std.specs.Prelude.{◌≡◌, ℕ, ◌<◌, Bool, true, false, List, length}
+use Rattle.std.specs.Prelude.{◌≡◌, ℕ, ◌<◌, Bool, true, false, List, map, length}
 use Rattle.pp_terms.specs.Count.{HasRisen}
 use Rattle.pp_terms.specs.command.Report.{disk_fault_line, link_fault_line, not_a_store_line, SaysReport}
 use Rattle.pp_terms.specs.command.Stream.{SinkState}
 use Rattle.pp_terms.specs.disk.Disk.{DiskState}
+use Rattle.pp_terms.specs.format.Traffic.{Address}
 use Rattle.pp_terms.specs.format.Traffic.{LinkState}
 use Rattle.pp_traffic.specs.Committed.{is_in}
 use Rattle.pp_promises.specs.Missing.{incomplete_line}
@@ -14,7 +15,8 @@ use Rattle.pp_tree.specs.Book.{BookState, IsBookOf}
 use Rattle.pp_core.specs.Peers.{PeerState}
 use Rattle.pp_node.specs.Promising.{PeerWords}
 use Rattle.pp_node.specs.Text.{Says}
-use Rattle.pp_node.specs.Turning.{Post, post, Ends, StopsIn}
+use Rattle.pp_turns.specs.Taking.{Ends, StopsIn}
+use Rattle.pp_turns.specs.Turning.{Post, post}
 use Rattle.pp_node.specs.declared.preparing.Peering.{Peering}
 use Rattle.pp_node.specs.declared.preparing.SeedFault.{SeedFault}
 use Rattle.pp_node.specs.declared.preparing.SeedFault.TheVariants as fault
@@ -24,6 +26,10 @@ use Rattle.pp_node.specs.declared.status.Status.TheVariants.{Done, NotAStore, In
 -- the words as plain data
 abbrev pub words_of : Peering → PeerWords
 words_of w = record { store = w.store.now; descriptor = w.descriptor.now; listen = address_of w.listen.now; turns = w.turns }
+
+-- the addresses that it is to dial
+abbrev pub dials_of : Peering → List Address
+dials_of w = map address_of w.dial.now.items
 
 -- the set of a peer's committed chunks
 abbrev pub set_of : PeerState → List Bool

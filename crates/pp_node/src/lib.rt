@@ -14,7 +14,6 @@ mod refusing;
 mod seeding;
 mod status;
 mod top;
-mod turning;
 mod upgrading;
 
 pub use status::Status;

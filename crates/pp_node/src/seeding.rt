@@ -9,9 +9,10 @@ ghost use Rattle.pp_peer.specs.Standing.{Beginning};
 ghost use Rattle.pp_tree.specs.Book.{empty_book};
 ghost use Rattle.pp_node.specs.Outside.{outside};
 ghost use Rattle.pp_node.specs.Promising.{SeedEnds, FetchEnds};
-ghost use Rattle.pp_node.specs.Seeding.{words_of, ReportsSeed, Judges, Finishes, Serves, HasServed};
+ghost use Rattle.pp_node.specs.Seeding.{words_of, dials_of, ReportsSeed, Judges, Finishes, Serves, HasServed};
 ghost use Rattle.pp_node.specs.Status.{number_of};
-ghost use Rattle.pp_node.specs.Turning.{post, IsBegun, IsSized};
+ghost use Rattle.pp_turns.specs.Taking.{IsSized};
+ghost use Rattle.pp_turns.specs.Turning.{post, IsBegun};
 
 use crate::checking::put_not_a_store;
 use crate::counting::put_counts;
@@ -19,10 +20,10 @@ use crate::preparing::{Peering, Ready, SeedFault, prepare};
 use crate::printing::{put_all, put_counted};
 use crate::ranges::put_held;
 use crate::status::Status;
-use crate::turning::take_turns;
 use pp_core::Peer;
 use pp_outside::{Disk, Link, Sink, SinkFault};
 use pp_tree::Book;
+use pp_turns::take_turns;
 use std::alloc::Global;
 
 /// Does what `seed` or `fetch` says: attaches the named store, listens, serves the chunks that it holds for `turns` turns of at most
@@ -43,7 +44,7 @@ pub(crate) fn share<D: Disk, L: Link, K: Sink>(
         (outside (D.state disk.old) (L.seen link.old) source (K.state sink.old) book.old)
         (outside (D.state disk.new) (L.seen link.new) source (K.state sink.new) book.new) }
     ensures fetches { is_some words.now.asks ≡ true → (source : SourceState)
-        → FetchEnds (number_of result) (words_of words.now)
+        → FetchEnds (number_of result) (words_of words.now) (dials_of words.now)
         (outside (D.state disk.old) (L.seen link.old) source (K.state sink.old) book.old)
         (outside (D.state disk.new) (L.seen link.new) source (K.state sink.new) book.new) }
 {

@@ -72,7 +72,7 @@ pub fn run<D: Disk, L: Link, S: Source, K: Sink>(
 
     ensures fetch { (w : PeerWords) (order : terms.Order) (peers : List Address)
         → IsFetch (texts words.now) w.store w.descriptor w.listen w.turns order peers
-        → FetchEnds result w (outside (D.state disk.old) (L.seen link.old) (S.state source.old) (K.state sink.old) book.old)
+        → FetchEnds result w peers (outside (D.state disk.old) (L.seen link.old) (S.state source.old) (K.state sink.old) book.old)
         (outside (D.state disk.new) (L.seen link.new) (S.state source.new) (K.state sink.new) book.new) }
 
     ensures check { (store : List ℕ) (descriptor : Descriptor) → IsOnStore (codes "check") (texts words.now) store descriptor

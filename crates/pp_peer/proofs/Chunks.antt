@@ -347,6 +347,23 @@ flushes_served k (outcomes.Unread why) old new link later disk left rests s = fl
     unread_waits unread.Disk = record { turns = refl; receive_faults = refl }
     unread_waits unread.Damaged = record { turns = refl; receive_faults = refl }
 
+-- the records that the link gained by it
+abbrev pub added_by : (k : ℕ) (served : Served) (store : StoreState) (book : LookUp) (old new : SeatsState) (link later : LinkState) (disk left : DiskState)
+    → Serving k store book served old new link later disk left → List Record
+added_by k outcomes.Sent store book old new link later disk left s = Sent (moment_of left.history) (address_of s.far.address) s.datagram ∷ []
+added_by k served store book old new link later disk left s = []
+
+pub served_added : (k : ℕ) (served : Served) (old new : Parts) (link later : LinkState) (disk left : DiskState) (rests : Rests served old new)
+    → (s : Serving k old.holding.store (entry old.holding.book) served old.seats new.seats link later disk left)
+    → (flushes_served k served old new link later disk left rests s).added
+    ≡ added_by k served old.holding.store (entry old.holding.book) old.seats new.seats link later disk left s
+unfolding flushes_served flushes_unsent flushes_sent
+served_added k outcomes.Done old new link later disk left rests s = refl
+served_added k outcomes.Passed old new link later disk left rests s = refl
+served_added k outcomes.Sent old new link later disk left rests s = refl
+served_added k outcomes.Refused old new link later disk left rests s = refl
+served_added k (outcomes.Unread why) old new link later disk left rests s = refl
+
 -- with the store and the book by other names
 pub serving_of : (k : ℕ) (served : Served) (store given : StoreState) (book lent : BookState) (old new : SeatsState) (link later : LinkState) (disk left : DiskState)
     → given ≡ store → lent ≡ book → Serving k given (entry lent) served old new link later disk left → Serving k store (entry book) served old new link later disk left

@@ -63,14 +63,14 @@ tries_only to (Some took) old new t = t.1.rest
 pub tries_queue : (to : Address) (sent : Option Bool) (old new : Scene) → Tries to sent old new → new.parts.pex ≡ old.parts.pex
 tries_queue to sent old new t = ap (λ (p : Parts). p.pex) (tries_only to sent old new t)
 
-tries_flushes : (to : Address) (sent : Option Bool) (old new : Scene) → Tries to sent old new → Flushes 0 old new
+pub tries_flushes : (to : Address) (sent : Option Bool) (old new : Scene) → Tries to sent old new → Flushes 0 old new
 tries_flushes to None old new t =
     subst (λ (s : Scene). Flushes 0 old s) (sym (same_scene old new t.1.same t.1.none.link_same t.0)) (flushes_none old)
 tries_flushes to (Some took) old new t =
     subst (λ (d : DiskState). Flushes 0 old (record new { disk = d })) (sym t.0)
     (dial_flushes to took old.parts new.parts old.link new.link old.disk t.1)
 
-dialling_tries : (to : Address) (sent : Option Bool) (old new : Scene) → Tries to sent old new → IsDialling old new
+pub dialling_tries : (to : Address) (sent : Option Bool) (old new : Scene) → Tries to sent old new → IsDialling old new
 dialling_tries to sent old new t = record {
   flushes = tries_flushes to sent old new t;
   only = tries_only to sent old new t
@@ -82,7 +82,7 @@ dialling_tries to sent old new t = record {
 }
 
 -- What was suggested says nothing of what a peer stands for.
-dialling_queue : (queue : List Address) (s : Scene) → IsDialling s (with_queue queue s)
+pub dialling_queue : (queue : List Address) (s : Scene) → IsDialling s (with_queue queue s)
 dialling_queue queue s = record {
   flushes = record {
     added = [];
@@ -110,7 +110,7 @@ dialling_queue queue s = record {
 
 -- ---- the addresses that a peer was told to dial
 
-of_match : {P Q R : Type 0} → (b : Bool) → (P → R) → (Q → R) → MatchBool b P Q → R
+pub of_match : {P Q R : Type 0} → (b : Bool) → (P → R) → (Q → R) → MatchBool b P Q → R
 of_match true f g h = f h
 of_match false f g h = g h
 
@@ -136,7 +136,7 @@ module _ (dial : Dial) (state : DialState) (a b : Scene) (has : has_channel a.pa
   step_dialled sent due tries is =
       matched_false _ (has_channel a.parts dial.address) has (matched_true _ (is_due a.parts.seats.moment dial.state) due (sent, tries, is))
 
-dialling_step : (dial : Dial) (state : DialState) (a b : Scene) → StepsDial dial state a b → IsDialling a b
+pub dialling_step : (dial : Dial) (state : DialState) (a b : Scene) → StepsDial dial state a b → IsDialling a b
 dialling_step dial state a b h =
     of_match (has_channel a.parts dial.address) (λ p. dialling_same a b p.0)
     (λ q. of_match (is_due a.parts.seats.moment dial.state) (λ p. dialling_tries dial.address p.0 a b p.1) (λ p. dialling_same a b p.0) q) h

@@ -5,7 +5,7 @@ use Rattle.std.specs.List.{slice_get}
 use Rattle.std.proofs.Math.ListN.{set}
 use Rattle.std.proofs.lemmas.Bool.{cases_eq, eq-eqb, false≢true}
 use Rattle.std.proofs.lemmas.Bool.Decides.{nat_tests}
-use Rattle.std.proofs.lemmas.List.{get_or-set_other}
+use Rattle.std.proofs.lemmas.List.{length-set, get_or-set_other}
 use Rattle.std.proofs.lemmas.List.Quantifiers.{position-Some}
 use Rattle.pp_terms.specs.format.Traffic.{Record}
 use Rattle.pp_requests.specs.declared.asking.Asking.{Asking}
@@ -226,6 +226,10 @@ module _ (p q : Parts) (s : SeatsState) (k : ℕ) (ends : Ends k p.seats s) (cle
     moment = ap (λ (o : SeatsState). o.moment) clears.forgets.is ∙ ap (λ (o : SeatsState). o.moment) ends.is;
     swarm = ap (λ (o : SeatsState). o.descriptor) clears.forgets.is ∙ ap (λ (o : SeatsState). o.descriptor) ends.is;
     turned = ap (λ (o : Parts). o.slots.turned) clears.rest;
+    sizes = (
+      ap (λ (o : Parts). length o.slots.slots) clears.rest ∙ length-set p.slots.slots k None,
+      ap (λ (o : Parts). length o.slots.waiting) clears.rest ∙ length-set p.slots.waiting k None,
+    );
     wanted = released_wanted k (own_in p.seats.seats k) p.fetching q.fetching released;
     rest = clears.rest
         ∙ ap (λ (o : Parts). record p { seats = q.seats; fetching = q.fetching; slots = o.slots; questions = o.questions }) (sym clears.rest);
@@ -248,6 +252,7 @@ drops_outside p s k ends past_all = record {
   moment = ap (λ (o : SeatsState). o.moment) ends.is;
   swarm = ap (λ (o : SeatsState). o.descriptor) ends.is;
   turned = refl;
+  sizes = (refl, refl);
   wanted = refl;
   rest = refl;
   each = λ n lt. inl (let ne : n ≢ k = λ is. below n is lt in record {
@@ -277,6 +282,7 @@ drops_none p = record {
   moment = refl;
   swarm = refl;
   turned = refl;
+  sizes = (refl, refl);
   wanted = refl;
   rest = refl;
   each = λ n lt. inl (record {
@@ -315,6 +321,7 @@ drops_twice a b c one two = record {
   moment = two.moment ∙ one.moment;
   swarm = two.swarm ∙ one.swarm;
   turned = two.turned ∙ one.turned;
+  sizes = (two.sizes.0 ∙ one.sizes.0, two.sizes.1 ∙ one.sizes.1);
   wanted = two.wanted ∙ one.wanted;
   rest = two.rest ∙ ap (λ (o : Parts). record o { seats = c.seats; fetching = c.fetching; slots = c.slots; questions = c.questions }) one.rest;
   each = λ n lt. of n (one.each n lt) (two.each n lt);

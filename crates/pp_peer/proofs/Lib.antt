@@ -14,6 +14,7 @@ pub mod Greeted
 pub mod Parted
 pub mod GivenUp
 pub mod Chunks
+pub mod Alone
 pub mod Rounds
 pub mod Asked
 pub mod Plainly

@@ -7,7 +7,7 @@ use Rattle.std.proofs.lemmas.Bool.{both_ways, cases_lt}
 use Rattle.std.proofs.lemmas.Bool.Decides.{nat_tests}
 use Rattle.std.proofs.Math.Bool.{and-false, and-or_distrib_left}
 use Rattle.std.proofs.lemmas.List.{length-append}
-use Rattle.pp_terms.specs.format.Traffic.{LinkState}
+use Rattle.pp_terms.specs.format.Traffic.{Record, LinkState}
 use Rattle.pp_terms.specs.disk.Disk.{DiskState}
 use Rattle.pp_terms.specs.tree.Book.{LookUp}
 use Rattle.pp_terms.specs.format.Descriptor.{chunks_of}
@@ -28,10 +28,12 @@ use Rattle.pp_seats.specs.Standing.{SeatsState}
 use Rattle.pp_seats.specs.Serving.{Serving, HasNothing}
 use Rattle.pp_seats.proofs.Lists.{get_set_there}
 use Rattle.pp_peer.specs.declared.parts.Parts.{Parts}
+use Rattle.pp_peer.specs.Delivering.{ServesAlone, AreRefused}
 use Rattle.pp_peer.specs.Flushing.{Scene, Flushes}
 use Rattle.pp_peer.specs.Taking.{after_some}
 use Rattle.pp_peer.specs.Serving.{counted, sent_of, given_up, most_sent, flying_in, flying_at, IsServed, OnlySeats, ServesSeat, ChangesOneSeat, ServesBelow}
-use Rattle.pp_peer.proofs.Flushed.{flushes_none, flushes_twice}
+use Rattle.pp_peer.proofs.Alone.{alone_none, alone_twice, served_alone, lost_none, lost_twice, served_lost}
+use Rattle.pp_peer.proofs.Flushed.{flushes_none, flushes_twice, none_added, twice_added}
 use Rattle.pp_peer.proofs.Chunks.{Rests, flushes_served, one_served}
 
 -- ---- chunks that left a list
@@ -249,6 +251,8 @@ pub record Goes (seat sent refused : ℕ) (old new : Scene) : Type 0 where
   pub content : low ≤ chunks_of old.parts.holding.store.descriptor
   pub none : NoneBelow new.parts.seats seat low
   pub one : ChangesOneSeat seat old.parts.seats new.parts.seats
+  pub alone : ServesAlone old.parts.seats new.parts.seats flushes.added
+  pub counted : AreRefused refused old new
 
 pub goes_none : (seat : ℕ) (a : Scene) → Goes seat 0 0 a a
 goes_none seat a = record {
@@ -260,6 +264,8 @@ goes_none seat a = record {
   content = omega arith;
   none = λ i lt. absurd (omega (arith, lt));
   one = record { far = λ other. refl; others = λ other ne. refl };
+  alone = alone_none a.parts.seats a.parts.seats (flushes_none a).added refl (none_added a);
+  counted = lost_none a;
 }
 
 one_twice : (seat : ℕ) (a b c : SeatsState) → ChangesOneSeat seat a b → ChangesOneSeat seat b c → ChangesOneSeat seat a c
@@ -286,6 +292,11 @@ goes_more seat sent refused served a b c g room whole rests s more =
       none = l.1.1.1;
       one = one_twice seat a.parts.seats b.parts.seats c.parts.seats g.one
           (one_served seat served b.parts.holding.store (entry b.parts.holding.book) b.parts.seats c.parts.seats b.link c.link b.disk c.disk s);
+      alone = subst (λ (rs : List Record). ServesAlone a.parts.seats c.parts.seats rs) (sym (twice_added refused (given_up served) a b c g.flushes f))
+          (alone_twice a.parts.seats b.parts.seats c.parts.seats g.flushes.added f.added g.alone
+          (served_alone seat served b.parts c.parts b.link c.link b.disk c.disk rests s));
+      counted = lost_twice refused (given_up served) a b c g.flushes f g.counted
+          (served_lost seat served b.parts c.parts b.link c.link b.disk c.disk s);
     }
   where
     at_most_one : (o : Served) → sent_of o ≤ 1
@@ -297,11 +308,18 @@ goes_more seat sent refused served a b c g room whole rests s more =
 
 -- Nothing may be sent any more.
 goes_done : (seat sent refused : ℕ) (a b : Scene) → Goes seat sent refused a b → HasNothing b.parts.seats seat → ServesSeat seat refused a b
-goes_done seat sent refused a b g none = record { flushes = g.flushes; ends = inl none; one = g.one }
+goes_done seat sent refused a b g none =
+    record { flushes = g.flushes; ends = inl none; one = g.one; alone = g.alone; lost = g.counted }
 
 pub goes_full : (seat sent refused : ℕ) (a b : Scene) → Goes seat sent refused a b → most_sent ≤ sent → ServesSeat seat refused a b
 goes_full seat sent refused a b g full =
-    record { flushes = g.flushes; ends = inr (let many = g.many in omega (arith, many, full)); one = g.one }
+    record {
+      flushes = g.flushes;
+      ends = inr (let many = g.many in omega (arith, many, full));
+      one = g.one;
+      alone = g.alone;
+      lost = g.counted;
+    }
 
 -- ---- in the words of the calls
 
@@ -347,7 +365,13 @@ goes_end seat sent refused (outcomes.Unread why) a b c g e s counts only = absur
 -- ---- seat after seat
 
 pub seats_none : (a : Scene) → ServesBelow 0 0 a a
-seats_none a = record { flushes = flushes_none a; ends = λ seat lt. absurd (omega (arith, lt)); far = λ seat. refl }
+seats_none a = record {
+  flushes = flushes_none a;
+  ends = λ seat lt. absurd (omega (arith, lt));
+  far = λ seat. refl;
+  alone = alone_none a.parts.seats a.parts.seats (flushes_none a).added refl (none_added a);
+  lost = lost_none a;
+}
 
 nothing_stays : (seat other : ℕ) (p q : SeatsState) → ChangesOneSeat seat p q → other ≢ seat → HasNothing p other → HasNothing q other
 nothing_stays seat other p q one ne (inl silent) = inl (subst (λ (o : Option Far). IsSilent o) (sym (one.far other)) silent)
@@ -365,6 +389,9 @@ seats_more seat refused more a b c s one = record {
       (λ (le : seat ≤ other). subst (λ (n : ℕ). IsServed c.parts.seats n) (sym (same other lt le)) one.ends)
       (cases_lt other seat);
   far = λ other. one.one.far other ∙ s.far other;
+  alone = subst (λ (rs : List Record). ServesAlone a.parts.seats c.parts.seats rs) (sym (twice_added refused more a b c s.flushes one.flushes))
+      (alone_twice a.parts.seats b.parts.seats c.parts.seats s.flushes.added one.flushes.added s.alone one.alone);
+  lost = lost_twice refused more a b c s.flushes one.flushes s.lost one.lost;
 }
   where
     same : (other : ℕ) → other < seat + 1 → seat ≤ other → other ≡ seat

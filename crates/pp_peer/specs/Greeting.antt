@@ -205,6 +205,7 @@ pub record Drops (old new : Parts) : Type 0 where
   pub moment : new.seats.moment ≡ old.seats.moment
   pub swarm : new.seats.descriptor ≡ old.seats.descriptor
   pub turned : new.slots.turned ≡ old.slots.turned
+  pub sizes : (length new.slots.slots ≡ length old.slots.slots) × (length new.slots.waiting ≡ length old.slots.waiting)
   pub wanted : wanted_of new.fetching ≡ wanted_of old.fetching
   pub rest : new ≡ record old { seats = new.seats; fetching = new.fetching; slots = new.slots; questions = new.questions }
   pub each : (seat : ℕ) → seat < 64

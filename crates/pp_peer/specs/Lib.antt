@@ -3,6 +3,7 @@ pub mod Taking
 pub mod Absorbing
 pub mod Flushing
 pub mod Greeting
+pub mod Delivering
 pub mod Serving
 pub mod Slotting
 pub mod Speaking

@@ -2,6 +2,7 @@
 use Rattle.std.specs.Prelude.{◌≡◌, ℕ, ◌+◌, ◌-◌, ◌%◌, ◌^◌, ◌<◌, ◌≤◌, ◌==◌, nat_le, Bool, true, false, ◌&&◌, ◌||◌, if◌then◌else◌, Option, Some, None, is_some, option_map, List, [], ◌∷◌, ◌++◌, length, drop, slice_get, slice_set}
 use Rattle.pp_terms.specs.format.Descriptor.{Descriptor, chunks_of}
 use Rattle.pp_terms.specs.format.Messages.{Message, Data, Have, Pex4, PexReq, Choke, Pex6, messages_at}
+use Rattle.pp_terms.specs.tree.Book.{IsRooted}
 use Rattle.pp_terms.specs.tree.Claims.{Claim, latest}
 use Rattle.pp_terms.specs.tree.Range.{Span, within}
 use Rattle.pp_tree.specs.Book.{entry}
@@ -136,6 +137,9 @@ pub record Puts (ticket : Ticket) (bytes : List ℕ) (claims : List Claim) (old 
   pub live : new.holding.store.live ≡ true
   -- what waits is what is pending in the store
   pub waits : HasWaiting new.holding.store new.holding.queue.waiting
+  -- the book was one of the swarm, and the store goes on being its
+  pub swarm : new.holding.store.descriptor ≡ old.holding.store.descriptor
+  pub rooted : IsRooted old.holding.store.descriptor (entry old.holding.book)
   pub rest : new ≡ record old {
     holding = new.holding;
     fetching = got_of put ticket.chunk old.fetching;

@@ -3,7 +3,7 @@ use Rattle.std.specs.Prelude.{◌≡◌, ℕ, ◌+◌, ◌<◌, List}
 use Rattle.pp_peer.specs.declared.dialling.Dial.{Dial}
 use Rattle.pp_peer.specs.declared.parts.Parts.{Parts}
 use Rattle.pp_peer.specs.declared.speaking.Speaker.{Speaker}
-use Rattle.pp_peer.specs.Flushing.{Scene}
+use Rattle.pp_peer.specs.Flushing.{Scene, Flushes}
 use Rattle.pp_peer.specs.Greeting.{Drops, HasNoneOver, GivesUp, HasNoneExpired}
 use Rattle.pp_peer.specs.Dialling.{DialsAll, HasNoneToDial}
 use Rattle.pp_peer.specs.Slotting.{TurnsSlots}
@@ -27,6 +27,8 @@ pub record SendsAll (dials lefts : List Dial) (speaker left : Speaker) (refused 
   pub unsaid : ℕ
   pub said : Scene
   pub speaks : SpeaksAll unsaid speaker left (record dialled { parts = turned }) said
+  pub speech : Flushes unsaid (record dialled { parts = turned }) said
+  pub unread : said.disk ≡ old.disk
   pub unserved : ℕ
   pub serves : ServesBelow 64 unserved said new
   pub only : OnlySeats said.parts new.parts

@@ -12,6 +12,7 @@ use Rattle.pp_seats.specs.Standing.{SeatsState}
 use Rattle.pp_seats.specs.Serving.{HasNothing}
 use Rattle.pp_peer.specs.declared.parts.Parts.{Parts}
 use Rattle.pp_peer.specs.Flushing.{Scene, Flushes}
+use Rattle.pp_peer.specs.Delivering.{ServesAlone, AreRefused}
 
 -- what is counted of what became of a chunk
 abbrev pub counted : Served → Option Note
@@ -69,9 +70,13 @@ pub record ServesSeat (seat refused : ℕ) (old new : Scene) : Type 0 where
   pub flushes : Flushes refused old new
   pub ends : IsServed new.parts.seats seat
   pub one : ChangesOneSeat seat old.parts.seats new.parts.seats
+  pub alone : ServesAlone old.parts.seats new.parts.seats flushes.added
+  pub lost : AreRefused refused old new
 
--- So it is on the channel of each seat below a number.
+-- The channel of each seat below a number was served in this way.
 pub record ServesBelow (seats refused : ℕ) (old new : Scene) : Type 0 where
   pub flushes : Flushes refused old new
   pub ends : (seat : ℕ) → seat < seats → IsServed new.parts.seats seat
   pub far : (seat : ℕ) → far_of (channel_at new.parts.seats.table seat) ≡ far_of (channel_at old.parts.seats.table seat)
+  pub alone : ServesAlone old.parts.seats new.parts.seats flushes.added
+  pub lost : AreRefused refused old new

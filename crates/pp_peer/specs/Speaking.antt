@@ -4,6 +4,7 @@ use Rattle.std.specs.List.{filter}
 use Rattle.pp_terms.specs.disk.Disk.{moment_of}
 use Rattle.pp_terms.specs.format.Traffic.{LinkState}
 use Rattle.pp_terms.specs.tree.Range.{Span, has, IsRunsFrom}
+use Rattle.pp_requests.specs.Moments.{IsRisingFrom}
 use Rattle.pp_requests.specs.declared.asking.Asking.{Asking}
 use Rattle.pp_counts.specs.Counts.{after_notes}
 use Rattle.pp_counts.specs.declared.note.Note.TheVariants as counted
@@ -68,12 +69,13 @@ PicksFrom true order seat room picks (Some old) new =
 PicksFrom true order seat room picks None new = (picks ≡ []) × (new ≡ None)
 PicksFrom false order seat room picks old new = (picks ≡ []) × (new ≡ old)
 
--- Chunks were picked for the channel of a seat, on which 32 may be awaited at a time.
+-- Chunks were picked for the channel of a seat, on which 32 may be awaited at a time, each once.
 pub record Picks (order : Rank) (seat : ℕ) (picks : List Span) (old new : Parts) : Type 0 where
   pub known : SeatState
   pub there : slice_get old.seats.seats seat ≡ Some known
   pub room : ℕ
   pub room_is : room + length known.own ≡ 32
+  pub rises : IsRisingFrom 0 known.own
   pub picks_from : PicksFrom (may_ask known) order seat room picks old.fetching new.fetching
   pub rest : new ≡ record old { fetching = new.fetching }
 

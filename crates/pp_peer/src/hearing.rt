@@ -99,9 +99,10 @@ impl Parts {
         ensures dead { OnErr result (self.new.holding.store.live ≡ false) }
     {
         let claims = self.seats.seat(parcel.ticket.seat).claims();
+        // Their contracts tell that the book is rooted, and that what waits is what is pending.
+        let _ = self.holding.book();
         let put = self.holding.put(parcel, claims, disk)?;
         self.heed_put(put, parcel.ticket.chunk);
-        // Its contract tells that what waits is what is pending.
         let _ = self.holding.store();
         Ok(())
     }

@@ -1,5 +1,5 @@
 -- What contracts see of a seat: all that a peer keeps of one channel's messages.
-use Rattle.std.specs.Prelude.{◌≡◌, ℕ, Bool, false, Option, List, []}
+use Rattle.std.specs.Prelude.{◌≡◌, ℕ, Bool, false, not, Option, List, []}
 use Rattle.pp_terms.specs.tree.Claims.{Claim}
 use Rattle.pp_terms.specs.tree.Range.{Span}
 use Rattle.pp_traffic.specs.Meter.{Meter}
@@ -29,9 +29,11 @@ pub record SeatState : Type 0 where
   pub answer : Option ℕ
   pub question : Option ℕ
 
--- Nothing was asked for, told or claimed on the channel yet, whose other peer isn't proven to be at its address.
+-- Nothing was asked for, told or claimed on the channel yet, whose other peer isn't proven to be at its address. A CHOKE is to be sent
+-- just where there is no slot.
 pub record IsFresh (slot : Bool) (s : SeatState) : Type 0 where
   pub slot_is : s.slot ≡ slot
+  pub owes_is : s.owes ≡ not slot
   pub unproven : s.proven ≡ false
   pub list : s.list ≡ []
   pub own : s.own ≡ []

@@ -4,7 +4,7 @@ ghost use Rattle.std.specs.Prelude.{◌≡◌, ◌↔◌, ◌⊎◌, IsTrue, ◌
 ghost use Rattle.pp_terms.specs.tree.Range.{Span, within};
 ghost use Rattle.pp_terms.specs.format.Messages.{Data, Request, Cancel, Choke, Unchoke};
 ghost use Rattle.pp_traffic.specs.Story.{Line, Heard, Said};
-ghost use Rattle.pp_requests.specs.Moments.{asked_at, Changes, IsLeastAsked, IsLeastExpired, NoneExpired};
+ghost use Rattle.pp_requests.specs.Moments.{asked_at, IsRisingFrom, Changes, IsLeastAsked, IsLeastExpired, NoneExpired};
 ghost use Rattle.pp_traffic.specs.Fates.{clock};
 ghost use Rattle.pp_promises.specs.OwnSide.{most_outstanding, is_choked_by_peer, has_old_request, asking};
 ghost use Rattle.pp_terms.specs.format.Traffic.{Record};
@@ -77,6 +77,7 @@ impl Seat {
     /// How many chunks more this peer may ask for.
     pub fn room(&self) -> u32
         ensures room { result + length self.now.own ≡ 32 }
+        ensures rising { IsRisingFrom 0 self.now.own }
         ensures some { (f : Frame) (lost : Lost) (t : Tale) → Follows f lost self.now t
             → named_count f.chunks t.story < most_outstanding → 0 < result }
         ensures outstanding { (d : Descriptor) (life : Life) (past : List Record) → AreAwaited (chunks_of d) self.now.own (read_story d life past)

@@ -334,6 +334,7 @@ dials p q k to source moment sent bytes link later free none number written send
   free = free;
   none = none;
   source = source;
+  local = sym number;
   bytes = bytes;
   written = written;
   sends = sends;

@@ -1,5 +1,5 @@
 -- Handshakes that go out on the seats' channels, channels that are dialled, and channels that end.
-use Rattle.std.specs.Prelude.{◌≡◌, ◌⊎◌, ℕ, Bool, true, false, cond, Option, Some, None, position, List, [], ◌∷◌, ◌++◌}
+use Rattle.std.specs.Prelude.{◌≡◌, ◌⊎◌, ℕ, Bool, true, false, cond, Option, Some, None, option_map, position, List, [], ◌∷◌, ◌++◌}
 use Rattle.std.specs.List.{list_any}
 use Rattle.pp_terms.specs.format.Traffic.{Record, Sent, LinkState}
 use Rattle.pp_terms.specs.format.Messages.{Handshake}
@@ -46,7 +46,9 @@ pub record Dials (to : Address) (moment : ℕ) (sent : Bool) (old new : SeatsSta
   pub seat : ℕ
   pub free : free_seat old.table ≡ Some seat
   pub none : list_any (has_address to) old.table.channels ≡ false
+  -- this peer's number for the channel
   pub source : ℕ
+  pub local : option_map (λ c. c.local) (channel_at (with_dial to old) seat) ≡ Some source
   pub bytes : List ℕ
   pub written : IsDatagram old.descriptor 0 (Handshake source (own_options old.descriptor) ∷ []) bytes
   pub sends : Sends (address_of to) bytes moment link later sent

@@ -1,11 +1,11 @@
-use Rattle.pp_traffic.specs.Serving.{window_of}
+use Rattle.pp_traffic.specs.Meter.{lets_send}
 use Rattle.pp_promises.specs.Datagrams.{Plans}
 use Rattle.pp_audit.proofs.Sendings.{AreOn}
 use Rattle.pp_audit.proofs.plans.plans_all.Given as goal
 
 abbrev pub invariant-places : goal.invariant-places
 invariant-places l = record {
-  on : AreOn (Plans l.descriptor (window_of l.descriptor)) l.entries l.place;
+  on : AreOn (Plans l.descriptor (lets_send l.descriptor.chunk)) l.entries l.place;
 }
 
 abbrev pub decreases-places : goal.decreases-places

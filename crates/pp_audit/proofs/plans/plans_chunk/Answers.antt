@@ -1,6 +1,6 @@
 use Rattle.std.proofs.Common.{take, arith}
 use Rattle.pp_terms.specs.format.Messages.{datagram}
-use Rattle.pp_traffic.specs.Serving.{window_of}
+use Rattle.pp_traffic.specs.Meter.{lets_send}
 use Rattle.pp_outside.specs.Outside.{address_of}
 use Rattle.pp_audit.specs.Entries.{past}
 use Rattle.pp_audit.specs.Parts.{all}
@@ -14,7 +14,7 @@ returns-then-chunk c = (
       let few = c.chunks-chunks.ensures.range in
       let low = c.height-height.ensures.range in
       let far = c.if-chunk.true in
-      absurd (far_unplanned c.args.descriptor.now (window_of c.args.descriptor.now) (past c.args.entries.now) (address_of c.args.to)
+      absurd (far_unplanned c.args.descriptor.now (lets_send c.args.descriptor.now.chunk) (past c.args.entries.now) (address_of c.args.to)
       (datagram c.args.descriptor.now.method c.args.descriptor.now.chunk c.args.bytes.now).channel c.args.chunk (take c.args.count (all c.args.descriptor.now c.args.bytes.now))
       (omega (arith, few, c.chunks-chunks.ensures.chunks)) (omega (arith, low, c.height-height.ensures.height)) (omega (arith, far)) plans),
 )

@@ -1,4 +1,4 @@
-use Rattle.pp_traffic.specs.Flight.{fewer_than_two}
+use Rattle.pp_traffic.specs.Meter.{lets_send}
 use Rattle.pp_traffic.specs.Serving.{Serves}
 use Rattle.pp_tree.specs.Book.{entry}
 use Rattle.pp_audit.proofs.Sendings.{AreOn}
@@ -6,7 +6,7 @@ use Rattle.pp_audit.proofs.serving.serves.Given as goal
 
 abbrev pub invariant-places : goal.invariant-places
 invariant-places l = record {
-  on : AreOn (Serves l.descriptor (entry l.book) fewer_than_two) l.entries l.place;
+  on : AreOn (Serves l.descriptor (entry l.book) (lets_send l.descriptor.chunk)) l.entries l.place;
 }
 
 abbrev pub decreases-places : goal.decreases-places

@@ -1,6 +1,6 @@
 use Rattle.std.proofs.Common.{◌≤◌, ◌-◌, length}
 use Rattle.pp_terms.specs.format.Messages.{datagram}
-use Rattle.pp_traffic.specs.Flight.{fewer_than_two}
+use Rattle.pp_traffic.specs.Meter.{lets_send}
 use Rattle.pp_traffic.specs.Serving.{ServesFrom}
 use Rattle.pp_tree.specs.Book.{entry}
 use Rattle.pp_outside.specs.Outside.{address_of}
@@ -13,7 +13,7 @@ abbrev pub invariant-messages : goal.invariant-messages
 invariant-messages l = record {
   within : l.at ≤ length l.bytes;
   few : l.count ≤ l.at;
-  on : IsOn (ServesFrom l.descriptor (entry l.book) fewer_than_two (past l.entries) (address_of l.to) (datagram l.descriptor.method l.descriptor.chunk l.bytes).channel)
+  on : IsOn (ServesFrom l.descriptor (entry l.book) (lets_send l.descriptor.chunk) (past l.entries) (address_of l.to) (datagram l.descriptor.method l.descriptor.chunk l.bytes).channel)
       (all l.descriptor l.bytes) l.count (rest l.descriptor l.bytes l.at);
 }
 

@@ -4,7 +4,7 @@ use Rattle.pp_desk.proofs.hearing.hear_ack.Goals as goal
 
 pub returns-in-Some-clause-hears : goal.returns-in-Some-clause-hears
 returns-in-Some-clause-hears c = part_hears _ _ _ _ _ _ _ c.chunks.ensures c.in-Some.ensures
-    (record { quiet = refl; rest = c.heard_ack.ensures.rest; learns = c.heard_ack.ensures.told })
+    (record { quiet = refl; rest = c.heard_ack.ensures.rest; room = c.heard_ack.ensures.chunks; learns = c.heard_ack.ensures.told })
 
 pub returns-in-Some-clause-goes : goal.returns-in-Some-clause-goes
 returns-in-Some-clause-goes c = part_goes _ _ _ _ _ _ c.chunks.ensures c.in-Some.ensures (c.heard_ack.ensures.goes _)

@@ -10,6 +10,7 @@ returns-in-Ok-open-clause-opened g c = record {
       c.in-Ok-open.peer c.open.ensures.disk.later (g.met.D.Disk.whole c.args.disk.now) c.in-Ok-open.ensures.scanned c.in-Ok-open.ensures.taken c.in-Ok-open.ensures.kept;
   tells = c.open.ensures.disk.tells;
   honest = c.open.ensures.disk.honest;
+  faults = c.open.ensures.disk.faults;
   hard = c.open.ensures.disk.hard;
   buffer = c.in-Ok.ensures;
 }

@@ -63,5 +63,5 @@ returns-in-Err-clause-fetches g c asked source =
       unread = refl;
       unfilled = refl;
     } in
-    fetch_fault _ _ old new (fault_ends c.args.words.now old new leaves c.report.result c.in-Err.fault c.in-Err.ensures.prepared c.in-Err.ensures.disk c.in-Err.ensures.link
+    fetch_fault _ _ _ old new (fault_ends c.args.words.now old new leaves c.report.result c.in-Err.fault c.in-Err.ensures.prepared c.in-Err.ensures.disk c.in-Err.ensures.link
     c.prepare.ensures.unsent c.report.ensures)

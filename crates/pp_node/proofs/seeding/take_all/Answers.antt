@@ -1,6 +1,6 @@
 use Rattle.std.proofs.Common.{refl, subst, Bool}
 use Rattle.pp_node.specs.Seeding.{Serves}
-use Rattle.pp_node.specs.Turning.{Post, post}
+use Rattle.pp_turns.specs.Turning.{Post, post}
 use Rattle.pp_node.proofs.Seeds.{serves_on, stops_on}
 use Rattle.pp_node.proofs.seeding.take_all.Goals as goal
 

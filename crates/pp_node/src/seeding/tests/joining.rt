@@ -1,6 +1,5 @@
 // A seeder and a fetcher whose links are joined: what one sends comes to the other. What each link carried is audited at the end.
 use super::*;
-use crate::turning::take_turns;
 use arrayvec::ArrayVec;
 use pp_audit::{
     acknowledges_all, are_whole, asks_but, chokes_none, dials_but, keeps_up_but, lets_in_but,
@@ -10,6 +9,7 @@ use pp_avail::Rank;
 use pp_core::Peer;
 use pp_outside::ZeroSource;
 use pp_store::import;
+use pp_turns::take_turns;
 
 const SEEDER: Address = Address::V4([10, 0, 0, 1], 7000);
 
@@ -115,7 +115,7 @@ fn store_of_zeros(alloc: Global, size: u64) -> Result<(Descriptor, MemoryDisk), 
     Ok((swarm, disk))
 }
 
-// Whether the traffic of an end is as it should be.
+// Whether the traffic of an end is as it should be, of one where all chunks stood at the start, or none.
 fn is_right(end: &End, stood: bool) -> Result<bool, Fail> {
     let entries = entries_of(end.alloc, &end.link)?;
     let swarm = end.peer.descriptor();
@@ -125,8 +125,8 @@ fn is_right(end: &End, stood: bool) -> Result<bool, Fail> {
             && plans_all(&swarm, &entries)
             && are_whole(&swarm, &entries)
             && acknowledges_all(&swarm, book, &entries)
-            && stores_all(&swarm, book, &[true; 4], &entries)
-            && tells_all(&swarm, &[stood; 4], &entries),
+            && stores_all(&swarm, book, &[true; 7], &entries)
+            && tells_all(&swarm, &[stood; 7], &entries),
     )
 }
 
@@ -139,43 +139,95 @@ fn is_kept(end: &End, stood: bool, dialled: &[Address]) -> Result<bool, Fail> {
             && lets_in_but(0, &swarm, &entries)
             && chokes_none(0, &swarm, &entries)
             && keeps_up_but(0, &swarm, &entries)
-            && serves_but(0, &swarm, &[stood; 4], &entries)
-            && asks_but(0, &swarm, &[true; 4], &entries),
+            && serves_but(0, &swarm, &[stood; 7], &entries)
+            && asks_but(0, &swarm, &[true; 7], &entries),
     )
+}
+
+// A seeder of seven chunks, and one that fetches them from it.
+#[derive(Drop)]
+struct Pair {
+    seeder: End,
+    fetcher: End,
+}
+
+impl Pair {
+    fn new(alloc: Global) -> Result<Pair, Fail> {
+        let (swarm, disk) = store_of_zeros(alloc, 7000)?;
+        let seeder = End::new(alloc, &swarm, SEEDER, None, disk)?;
+        let empty = MemoryDisk::new(alloc, &[])?;
+        let fetcher = End::new(alloc, &swarm, FETCHER, Some(SEEDER), empty)?;
+        Ok(Pair { seeder, fetcher })
+    }
+
+    // What each sent comes to the other, in each of some rounds, so many microseconds apart.
+    fn meets(&mut self, rounds: u64, apart: u64, loses: bool) -> bool {
+        for round in 0..rounds {
+            let at = round.saturating_mul(apart);
+            if !meets(&mut self.seeder, &mut self.fetcher, at, loses) {
+                return false;
+            }
+            if !meets(&mut self.fetcher, &mut self.seeder, at, loses) {
+                return false;
+            }
+        }
+        true
+    }
+
+    // The fetcher has the content.
+    fn has_all(&self) -> bool {
+        self.fetcher.peer.committed().first_absent().is_none()
+    }
+
+    fn is_right(&self) -> Result<bool, Fail> {
+        Ok(is_right(&self.seeder, true)? && is_right(&self.fetcher, false)?)
+    }
+
+    fn is_kept(&self) -> Result<bool, Fail> {
+        let nobody: [Address; 0] = [];
+        let seeder: [Address; 1] = [SEEDER];
+        Ok(is_kept(&self.seeder, true, &nobody)? && is_kept(&self.fetcher, false, &seeder)?)
+    }
+}
+
+// What a pair showed. Whether it kept what is promised is asked only where nothing is lost: to decide it over many turns takes minutes.
+#[derive(Drop)]
+struct Shown {
+    has_all: bool,
+    is_right: bool,
+    is_kept: bool,
+}
+
+impl Pair {
+    fn shows(&mut self, rounds: u64, apart: u64, loses: bool) -> Result<Shown, Fail> {
+        let has_met = self.meets(rounds, apart, loses);
+        Ok(Shown {
+            has_all: has_met && self.has_all(),
+            is_right: self.is_right()?,
+            is_kept: loses || self.is_kept()?,
+        })
+    }
+}
+
+// What a pair shows after so many rounds, so many microseconds apart.
+fn meeting(alloc: Global, rounds: u64, apart: u64, loses: bool) -> Result<Shown, Fail> {
+    let mut pair = Pair::new(alloc)?;
+    pair.shows(rounds, apart, loses)
 }
 
 #[test]
 fn a_fetch_and_a_seeding_meet(rt: HostRuntime) -> Result<(), Fail> {
-    let alloc = rt.alloc();
-    let (swarm, disk) = store_of_zeros(alloc, 4096)?;
-    let mut seeder = End::new(alloc, &swarm, SEEDER, None, disk)?;
-    let empty = MemoryDisk::new(alloc, &[])?;
-    let mut fetcher = End::new(alloc, &swarm, FETCHER, Some(SEEDER), empty)?;
-    for round in 0..8 {
-        let at = round * 100_000;
-        assert!(rt; meets(&mut seeder, &mut fetcher, at, false));
-        assert!(rt; meets(&mut fetcher, &mut seeder, at, false));
-    }
-    assert_eq!(rt; fetcher.peer.committed().first_absent(), None);
-    assert!(rt; is_right(&seeder, true)?);
-    assert!(rt; is_right(&fetcher, false)?);
-    assert!(rt; is_kept(&seeder, true, &[])?);
-    assert!(rt; is_kept(&fetcher, false, &[SEEDER])?);
+    let shown = meeting(rt.alloc(), 8, 100_000, false)?;
+    assert!(rt; shown.has_all);
+    assert!(rt; shown.is_right);
+    assert!(rt; shown.is_kept);
     Ok(())
 }
 
 #[test]
 fn a_fetch_ends_where_each_fifth_datagram_is_lost(rt: HostRuntime) -> Result<(), Fail> {
-    let alloc = rt.alloc();
-    let (swarm, disk) = store_of_zeros(alloc, 7000)?;
-    let mut seeder = End::new(alloc, &swarm, SEEDER, None, disk)?;
-    let empty = MemoryDisk::new(alloc, &[])?;
-    let mut fetcher = End::new(alloc, &swarm, FETCHER, Some(SEEDER), empty)?;
-    for round in 0..100 {
-        let at = round * 3_000_000;
-        assert!(rt; meets(&mut seeder, &mut fetcher, at, true));
-        assert!(rt; meets(&mut fetcher, &mut seeder, at, true));
-    }
-    assert_eq!(rt; fetcher.peer.committed().first_absent(), None);
+    let shown = meeting(rt.alloc(), 64, 4_500_000, true)?;
+    assert!(rt; shown.has_all);
+    assert!(rt; shown.is_right);
     Ok(())
 }

@@ -1,8 +1,18 @@
+use Rattle.std.proofs.Common.{◌≡◌, ℕ, sym, ◌∙◌, ap, subst, arith}
 use Rattle.std.proofs.lemmas.Result.{on_ok_weaker}
+use Rattle.pp_terms.specs.format.Descriptor.{Descriptor, chunks_of, IsDescriptor}
+use Rattle.pp_seats.specs.Standing.{AllHold}
+use Rattle.pp_core.specs.Peers.{PeerState}
 use Rattle.pp_core.proofs.Having.{absorbs_held}
-use Rattle.pp_core.proofs.Keeping.{kept_on, kept_event}
+use Rattle.pp_core.proofs.Keeping.{kept_on, kept_event, on_ok_both}
 use Rattle.pp_core.proofs.Listing.{lists_requests}
+use Rattle.pp_core.proofs.Firsts.{absorb_acks}
+use Rattle.pp_core.proofs.LatelySent.{awaits_number}
+use Rattle.pp_core.proofs.Remembered.{absorb_keeps}
+use Rattle.pp_core.proofs.Steadily.{promised}
 use Rattle.pp_core.proofs.Storing.{stores_what_fits}
+use Rattle.pp_core.proofs.Unchoked.{absorbs_unchoked}
+use Rattle.pp_core.proofs.Wrote.{absorbs_wrote}
 use Rattle.pp_core.proofs.peer.Peer.absorb.Goals as goal
 
 pub returns-clause-keeps : goal.returns-clause-keeps
@@ -32,3 +42,55 @@ returns-clause-reads g c = rw (← c.self.view_is) (λ since past k. on_ok_weake
 pub returns-clause-had : goal.returns-clause-had
 returns-clause-had g c = rw (← c.self.view_is) (on_ok_weaker c.absorb.result
     (λ a h. absorbs_held c.args.event.now c.args.bytes.now c.self.inside.parts c.absorb.new.self a h) c.absorb.ensures.exact)
+
+pub returns-clause-proves : goal.returns-clause-proves
+returns-clause-proves g c = rw (← c.self.view_is) (on_ok_weaker c.absorb.result
+    (λ absorbs b most past stands.
+    let swarm : c.descriptor.result ≡ b.d =
+    c.descriptor.ensures ∙ ap (λ (p : PeerState). p.parts.holding.store.descriptor) (sym c.self.view_is) ∙ stands.ledger.swarm in
+    promised b most past c.args.event.now c.args.bytes.now c.self.inside.parts c.absorb.new.self
+    (subst IsDescriptor swarm c.chunk.ensures.valid)
+    (subst (λ (d : Descriptor). AllHold (chunks_of d) c.self.inside.parts.seats.seats) stands.seats.swarm c.far.ensures.content)
+    c.requires stands c.absorb.ensures.advanced.advances.entries
+    (stores_what_fits c.args.event.now c.args.bytes.now c.self.inside.parts c.absorb.new.self absorbs))
+    c.absorb.ensures.exact)
+
+pub returns-clause-ledger : goal.returns-clause-ledger
+returns-clause-ledger g c = rw (← c.self.view_is) c.absorb.ensures.ledger
+
+pub returns-clause-stands : goal.returns-clause-stands
+returns-clause-stands g c = rw (← c.self.view_is) c.absorb.ensures.stands
+
+pub returns-clause-wrote : goal.returns-clause-wrote
+returns-clause-wrote g c = rw (← c.self.view_is) (on_ok_weaker c.absorb.result
+    (λ absorbs b most past stands keeps. absorbs_wrote c.args.event.now c.args.bytes.now c.self.inside.parts c.absorb.new.self absorbs
+    (awaits_number b most c.self.inside.parts past stands) b.d _ past keeps) c.absorb.ensures.exact)
+
+pub returns-clause-unchoked : goal.returns-clause-unchoked
+returns-clause-unchoked g c = rw (← c.self.view_is) (on_ok_weaker c.absorb.result
+    (λ absorbs b most past stands was. absorbs_unchoked c.args.event.now c.args.bytes.now c.self.inside.parts c.absorb.new.self absorbs c.requires
+    b most past stands was) c.absorb.ensures.exact)
+
+pub returns-clause-told : goal.returns-clause-told
+returns-clause-told g c = rw (← c.self.view_is) (on_ok_both c.absorb.result
+    (λ absorbs goes b most past stands taken keeps.
+    let swarm : c.descriptor.result ≡ b.d =
+    c.descriptor.ensures ∙ ap (λ (p : PeerState). p.parts.holding.store.descriptor) (sym c.self.view_is) ∙ stands.ledger.swarm in
+    absorb_keeps b most past c.args.event.now c.args.bytes.now c.self.inside.parts c.absorb.new.self absorbs c.requires (λ i. omega (arith, c.type_inv.bytes i))
+    (subst IsDescriptor swarm c.chunk.ensures.valid).chunk_size stands (goes b most past stands) taken keeps)
+    c.absorb.ensures.exact c.absorb.ensures.stands)
+
+pub returns-clause-acks : goal.returns-clause-acks
+returns-clause-acks g c = rw (← c.self.view_is) (on_ok_both c.absorb.result
+    (λ absorbs goes b most past stands taken unrepeated told book keeps acks.
+    let swarm : c.descriptor.result ≡ b.d =
+    c.descriptor.ensures ∙ ap (λ (p : PeerState). p.parts.holding.store.descriptor) (sym c.self.view_is) ∙ stands.ledger.swarm in
+    let valid = subst IsDescriptor swarm c.chunk.ensures.valid in
+    absorb_acks b most past c.args.event.now c.args.bytes.now c.self.inside.parts c.absorb.new.self absorbs c.requires
+    (λ i. omega (arith, c.type_inv.bytes i)) valid.chunk_size stands (goes b most past stands) taken unrepeated told
+    (promised b most past c.args.event.now c.args.bytes.now c.self.inside.parts c.absorb.new.self valid
+    (subst (λ (d : Descriptor). AllHold (chunks_of d) c.self.inside.parts.seats.seats) stands.seats.swarm c.far.ensures.content)
+    c.requires stands c.absorb.ensures.advanced.advances.entries
+    (stores_what_fits c.args.event.now c.args.bytes.now c.self.inside.parts c.absorb.new.self absorbs))
+    book keeps acks)
+    c.absorb.ensures.exact c.absorb.ensures.stands)

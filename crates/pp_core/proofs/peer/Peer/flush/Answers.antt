@@ -6,6 +6,7 @@ use Rattle.pp_core.specs.Turning.{scene}
 use Rattle.pp_core.proofs.Flushes.{flush_course, flush_asks}
 use Rattle.pp_core.proofs.Having.{flush_held}
 use Rattle.pp_core.proofs.Leaving.{leaves_none}
+use Rattle.pp_core.proofs.Promising.{flush_promises}
 use Rattle.pp_core.proofs.Reaching.{flush_reaches}
 use Rattle.pp_core.proofs.Slots.{slots_kept}
 use Rattle.pp_core.proofs.Told.{acknowledged, announced, greeted, cancelled, exchanged, turned}
@@ -13,14 +14,24 @@ use Rattle.pp_core.proofs.peer.Peer.flush.Goals as goal
 
 pub returns-clause-exact : goal.returns-clause-exact
 returns-clause-exact g c = rw (← c.self.view_is) (
-  c.flush.result,
-  flush_course c.flush.result
-      (record { parts = c.self.inside.parts; speaker = c.self.inside.speaker; dials = c.self.inside.dials })
-      (record { parts = record c.flush.new.self { holding = c.forget_tickets.new.self }; speaker = c.flush.new.speaker; dials = c.flush.new.dials })
-      c.flush.new.self
-      (g.L.Link.seen c.args.link.now) (g.L.Link.seen c.flush.new.link) (g.D.Disk.state c.args.disk.now) (g.D.Disk.state c.flush.new.disk)
-      c.flush.ensures.sends c.flush.ensures.flushes (λ t. record c.flush.new.self { holding = c.forget_tickets.ensures t }),
-)
+    let old : PeerState = record { parts = c.self.inside.parts; speaker = c.self.inside.speaker; dials = c.self.inside.dials } in
+    let new : PeerState =
+    record { parts = record c.flush.new.self { holding = c.forget_tickets.new.self }; speaker = c.flush.new.speaker; dials = c.flush.new.dials } in
+    let course = flush_course c.flush.result old new c.flush.new.self
+    (g.L.Link.seen c.args.link.now) (g.L.Link.seen c.flush.new.link) (g.D.Disk.state c.args.disk.now) (g.D.Disk.state c.flush.new.disk)
+    c.flush.ensures.sends c.flush.ensures.flushes (λ t. record c.flush.new.self { holding = c.forget_tickets.ensures t }) in
+    let swarm : c.descriptor.result ≡ c.self.inside.parts.holding.store.descriptor =
+    c.descriptor.ensures ∙ ap (λ (p : PeerState). p.parts.holding.store.descriptor) (sym c.self.view_is) in (
+      c.flush.result,
+      course,
+      flush_promises c.flush.result old new
+          (g.L.Link.seen c.args.link.now) (g.L.Link.seen c.flush.new.link) (g.D.Disk.state c.args.disk.now) (g.D.Disk.state c.flush.new.disk)
+          course c.store.ensures.tied.waits.committed_size
+          (let range = c.chunk.ensures.range.0 in
+          let is = c.chunk.ensures.chunk ∙ ap (λ (d : Descriptor). d.chunk) swarm in
+          omega (arith, range, is)),
+    )
+    )
 
 pub returns-clause-acknowledged : goal.returns-clause-acknowledged
 returns-clause-acknowledged g c = rw (← c.self.view_is) (acknowledged c.self.inside.dials c.flush.new.dials c.self.inside.speaker c.flush.new.speaker c.flush.result

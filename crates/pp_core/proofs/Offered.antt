@@ -1,0 +1,343 @@
+-- What a flush asks for, in the words of the promises.
+use Rattle.std.proofs.Common.{◌≡◌, ◌⊎◌, inl, inr, ⊎_elim, ℕ, ◌+◌, ◌<◌, ◌≤◌, eqb, Bool, true, false, not, ◌&&◌, ◌||◌, Option, Some, None, List, [], ◌∷◌, ◌++◌, length, map, refl, sym, ◌∙◌, ap, subst, arith}
+use Rattle.std.specs.Prelude.{is_some, nat_lt, slice_get, slice_index_or}
+use Rattle.std.specs.List.{list_any}
+use Rattle.std.proofs.lemmas.Bool.{and_parts, false≢true, lt-ltb, ltb-true, or_left}
+use Rattle.std.proofs.lemmas.Option.{same_Some}
+use Rattle.pp_terms.specs.Count.{HasRisen}
+use Rattle.pp_terms.specs.disk.Disk.{DiskState, moment_of}
+use Rattle.pp_terms.specs.disk.Image.{holds}
+use Rattle.pp_terms.specs.format.Descriptor.{Descriptor, chunks_of}
+use Rattle.pp_terms.specs.format.Traffic.{Record, LinkState}
+use Rattle.pp_terms.proofs.Risings.{risen_more, risen_less}
+use Rattle.pp_traffic.specs.Life.{Life}
+use Rattle.pp_traffic.specs.Plain.{IsPlainNow}
+use Rattle.pp_traffic.specs.Story.{Line, story}
+use Rattle.pp_traffic.proofs.Awaited.{plain_began}
+use Rattle.pp_promises.specs.Asked as asked
+use Rattle.pp_promises.specs.Asked.{MayBeAsked, asks_for, named_count}
+use Rattle.pp_promises.specs.Batches.{is_in, is_pending}
+use Rattle.pp_promises.specs.OwnSide.{is_named, is_offered}
+use Rattle.pp_promises.specs.ReadStory.{read_story}
+use Rattle.pp_promises.proofs.ReadStories.{plains_are_read}
+use Rattle.pp_avail.specs.Offers as offers
+use Rattle.pp_fetching.specs.Fetching.{FetchState}
+use Rattle.pp_fetching.specs.Owners.{awaits}
+use Rattle.pp_requests.specs.declared.asking.Asking.{Asking}
+use Rattle.pp_requests.specs.Moments.{asked_at}
+use Rattle.pp_store.specs.Store.{is_committed, is_held, HoldsAll}
+use Rattle.pp_channels.specs.Seats.{channel_at}
+use Rattle.pp_holding.specs.Holding.{HoldingState, batch_of, is_queued, HasWaiting}
+use Rattle.pp_holding.specs.Queue.{pending_of}
+use Rattle.pp_holding.specs.declared.queue.Waiting.{Waiting}
+use Rattle.pp_lives.specs.Fars.{far_of}
+use Rattle.pp_lives.specs.Standing.{Stands, HasSeat}
+use Rattle.pp_lives.proofs.Own.{stands_of}
+use Rattle.pp_seat.specs.Lines.{is_asked_at, is_named_at}
+use Rattle.pp_seat.specs.Seats.{SeatState}
+use Rattle.pp_seats.specs.Standing.{SeatsState}
+use Rattle.pp_peer.specs.declared.parts.Parts.{Parts}
+use Rattle.pp_peer.specs.Delivering.{IsServedAt}
+use Rattle.pp_peer.specs.Flushing.{Scene}
+use Rattle.pp_peer.specs.Greeting.{LetsGoAt, offers_of}
+use Rattle.pp_peer.specs.Sending.{SendsAll}
+use Rattle.pp_peer.specs.Serving.{IsServed}
+use Rattle.pp_peer.specs.Speaking.{may_ask}
+use Rattle.pp_peer.specs.Standing.{Beginning, IsWhole, asked_of, own_at, own_in, StandsFor}
+use Rattle.pp_peer.proofs.Dialled.{IsDialling, all_dialling}
+use Rattle.pp_core.specs.Asking.{OffersNone}
+use Rattle.pp_core.specs.Having.{HasHeld, HasJust}
+use Rattle.pp_core.specs.Peers.{PeerState}
+use Rattle.pp_core.specs.Turning.{scene, Sends}
+use Rattle.pp_core.proofs.Asking.{HadAll}
+use Rattle.pp_core.proofs.Askable.{IsAskable, askable}
+use Rattle.pp_core.proofs.FewNamed.{few_named}
+use Rattle.pp_core.proofs.Filling.{IsFull, MayAskAt, turns_leave}
+use Rattle.pp_core.proofs.Flushes.{in_set}
+use Rattle.pp_core.proofs.Haves.{OffersHeard}
+use Rattle.pp_core.proofs.Having.{had_of, wanted_had}
+use Rattle.pp_core.proofs.Named.{named_later, named_then, noted_asked}
+use Rattle.pp_core.proofs.PlainBefore.{plain_then}
+use Rattle.pp_core.proofs.Rooms.{Alike, slots_alike, may_at, may_in, IsOwned}
+use Rattle.pp_core.proofs.Served.{risen_or}
+use Rattle.pp_core.proofs.Staying.{flush_came, dials_messages}
+use Rattle.pp_core.proofs.Turned.{owned_alike}
+
+-- ---- what is held
+
+queued_in : (waiting : List Waiting) (i : ℕ) → list_any (λ p. eqb p.chunk i) (map pending_of waiting) ≡ is_queued waiting i
+queued_in [] i = refl
+queued_in (w ∷ waiting) i = λ t. eqb w.ticket.chunk i || queued_in waiting i t
+
+-- What is committed or waits is held.
+pub in_held : (h : HoldingState) (i : ℕ) → HasWaiting h.store h.queue.waiting → is_in (batch_of h) i ≡ true → is_held h.store i ≡ true
+in_held h i waits e = ap (λ (x : Bool). slice_index_or h.store.committed i false || x) (sym (queued_in h.queue.waiting i ∙ waits.each i)) ∙ e
+
+-- a fetching peer has what is committed
+had_all : (p : Parts) → HasHeld p → HadAll (had_of p.fetching) (is_committed p.holding.store)
+had_all p h = of p.fetching h
+  where
+    of : (o : Option FetchState) → ((f : FetchState) → o ≡ Some f → HasJust f.want.had (batch_of p.holding))
+        → HadAll (had_of o) (is_committed p.holding.store)
+    of None h = tt
+    of (Some f) h = λ i at.
+        let just = h f refl in
+        just.each i (let lt = in_set p.holding.store.committed i at in let size = just.size in omega (arith, lt, size))
+        ∙ or_left (is_committed p.holding.store i) (is_pending (batch_of p.holding) i) at
+
+-- ---- what was asked for
+
+-- Each chunk below a number that a channel offers which may be asked was asked for, or is among some others.
+abbrev pub AsksOrHolds : Descriptor → ℕ → (others : ℕ → Bool) → List Record → Type 0
+AsksOrHolds d below others past = (life : Life) → MayBeAsked d life past → (i : ℕ) → i < below → is_offered i (story d life past) ≡ true
+    → (list_any (asks_for d i) past ≡ true) ⊎ (others i ≡ true)
+
+had_or_asked : (a b had asked offers : Bool) → ((((a && b) && not had) && not asked) && offers) ≡ false → a ≡ true → b ≡ true → offers ≡ true
+    → (had ≡ true) ⊎ (asked ≡ true)
+had_or_asked true true true asked offers e x y z = inl refl
+had_or_asked true true false true offers e x y z = inr refl
+had_or_asked true true false false true e x y z = absurd cc
+had_or_asked true true false false false e x y z = absurd cc
+had_or_asked true false had asked offers e x y z = absurd cc
+had_or_asked false b had asked offers e x y z = absurd cc
+
+-- what a seat was before chunks were served
+served_state : (o p : Option SeatState) (s : SeatState) → IsServedAt o p → p ≡ Some s
+    → (was : SeatState) × (o ≡ Some was) × (may_ask was ≡ may_ask s) × (was.own ≡ s.own)
+served_state None p s served there = let x : None ≡ Some s = sym served ∙ there in absurd cc
+served_state (Some was) p s served there =
+    let same = same_Some served.0 s (sym served.1 ∙ there) in (
+      was,
+      refl,
+      sym (ap may_ask served.2) ∙ ap may_ask same,
+      sym (ap (λ (x : SeatState). x.own) served.2) ∙ ap (λ (x : SeatState). x.own) same,
+    )
+
+-- where something may be asked for, nothing was given up
+let_none : (now : ℕ) (o p : Option SeatState) → LetsGoAt now o p → may_at p ≡ true → p ≡ o
+let_none now None p l may = l
+let_none now (Some s) p l may = ⊎_elim
+    (λ same. l.1 ∙ ap (λ (x : SeatState). Some x) same)
+    (λ gone.
+    let goes_on = (and_parts (not l.0.chokes) (not l.0.stopped)
+    (and_parts l.0.proven (not l.0.chokes && not l.0.stopped) (sym (ap may_at l.1) ∙ may)).1).1 in
+    absurd (false≢true (ap not (sym gone.2) ∙ goes_on)))
+    l.2.stopped
+
+-- A chunk that is awaited was asked for at some moment.
+awaited_at : (own : List Asking) (i : ℕ) → awaits own i ≡ true → (moment : ℕ) × (asked_at own i ≡ Some moment)
+awaited_at own i e = of (asked_at own i) refl e
+  where
+    of : (m : Option ℕ) → asked_at own i ≡ m → is_some m ≡ true → (moment : ℕ) × (asked_at own i ≡ Some moment)
+    of None is e = absurd (false≢true e)
+    of (Some moment) is e = (moment, is)
+
+-- What a fetching peer knows before a flush and after it, which wants all chunks.
+pub record IsAsking (b : Beginning) (old new : PeerState) : Type 0 where
+  pub had : HasHeld old.parts
+  pub whole : IsWhole new.parts
+  pub waits : HasWaiting new.parts.holding.store new.parts.holding.queue.waiting
+  pub held : HasHeld new.parts
+  pub fetching : FetchState
+  pub is_fetching : new.parts.fetching ≡ Some fetching
+  pub wants : chunks_of b.d ≤ fetching.want.limit
+
+module _ (refused : ℕ) (old new : PeerState) (link later : LinkState) (disk left : DiskState) (course : Sends refused old new link later disk left)
+    (b : Beginning) (most : ℕ) (past : List Record) (since : b.since ≤ moment_of disk.history) (stands : StandsFor b most old.parts past)
+    (is : IsAsking b old new) (heard : OffersHeard b.d new.parts (course.flushes.added ++ past)) where
+  abbrev records : List Record
+  records = course.flushes.added ++ past
+
+  abbrev f : FetchState
+  f = is.fetching
+
+  abbrev s : SendsAll old.dials new.dials old.speaker new.speaker refused (scene old.parts link disk) (scene course.sent later left)
+  s = course.sends
+
+  abbrev start : Scene
+  start = scene s.given link disk
+
+  dialling : IsDialling start s.dialled
+  dialling = all_dialling old.dials new.dials start s.dials_all.0 s.dialled s.dials_all.1 s.dials_all.2
+
+  slots : Alike s.dialled.parts s.turned
+  slots = slots_alike s.dialled.parts s.turned s.turns
+
+  messages : s.dialled.parts.seats.seats ≡ s.given.seats.seats
+  messages = dials_messages old.dials new.dials start s.dialled s.dials_all
+
+  then : StandsFor b (most + refused) new.parts records
+  then = course.goes.stands b most past since stands
+
+  seats_same : new.parts.seats ≡ course.sent.seats
+  seats_same = ap (λ (p : Parts). p.seats) course.rest
+
+  fetching_same : new.parts.fetching ≡ s.said.parts.fetching
+  fetching_same = ap (λ (p : Parts). p.fetching) course.rest ∙ ap (λ (p : Parts). p.fetching) s.only
+
+  -- ---- as the seats' turns begin
+
+  same_fetching : s.turned.fetching ≡ s.given.fetching
+  same_fetching = slots.fetching ∙ ap (λ (p : Parts). p.fetching) dialling.only
+
+  own_given : (n : ℕ) → own_in s.turned.seats.seats n ≡ own_in s.given.seats.seats n
+  own_given n = slots.own n ∙ ap (λ (xs : List SeatState). own_in xs n) messages
+
+  may_given : (n : ℕ) → may_in s.turned.seats.seats n ≡ may_in s.given.seats.seats n
+  may_given n = slots.may n ∙ ap (λ (xs : List SeatState). may_in xs n) messages
+
+  owned : IsOwned s.turned
+  owned = owned_alike s.given s.turned own_given same_fetching
+      (s.gives_up.stands b most past (s.drops.stands b most past stands)).fetches.owned
+
+  holding : s.turned.holding ≡ old.parts.holding
+  holding = slots.holding ∙ dialling.flushes.holding ∙ ap (λ (p : Parts). p.holding) s.gives_up.rest ∙ ap (λ (p : Parts). p.holding) s.drops.rest
+
+  had : HadAll (had_of s.turned.fetching) (is_committed s.turned.holding.store)
+  had = subst (λ (h : HoldingState). HadAll (had_of s.turned.fetching) (is_committed h.store)) (sym holding)
+      (subst (λ (o : Option (List Bool)). HadAll o (is_committed old.parts.holding.store))
+      (sym (ap had_of same_fetching ∙ wanted_had s.given.fetching s.dropped.fetching s.gives_up.wanted
+      ∙ wanted_had s.dropped.fetching old.parts.fetching s.drops.wanted))
+      (had_all old.parts is.had))
+
+  -- ---- a channel that may be asked
+
+  module _ (life : Life) (may : MayBeAsked b.d life records) (a : IsAskable b.d new.parts life records) where
+    there_sent : channel_at course.sent.seats.table a.seat ≡ Some a.channel
+    there_sent = ap (λ (x : SeatsState). channel_at x.table a.seat) (sym seats_same) ∙ a.there
+
+    was : (was : SeatState) × (slice_get s.said.parts.seats.seats a.seat ≡ Some was) × (may_ask was ≡ may_ask a.state) × (was.own ≡ a.state.own)
+    was = served_state (slice_get s.said.parts.seats.seats a.seat) (slice_get course.sent.seats.seats a.seat) a.state
+        (s.serves.alone.states a.seat) (ap (λ (x : SeatsState). slice_get x.seats a.seat) (sym seats_same) ∙ a.state_there)
+
+    own_said : own_in s.said.parts.seats.seats a.seat ≡ a.state.own
+    own_said = ap own_at was.1 ∙ was.3
+
+    may_said : MayAskAt a.seat s.said.parts
+    may_said = record {
+      far = a.far;
+      is_far = sym (s.serves.far a.seat) ∙ ap (λ (x : SeatsState). far_of (channel_at x.table a.seat)) (sym seats_same) ∙ a.is_far;
+      begun = a.begun;
+      may = ap may_at was.1 ∙ was.2 ∙ a.may;
+    }
+
+    -- the channel was there before, and was plain
+    plain : IsPlainNow b.d life past
+    plain = plain_then refused old new link later disk left course b most past since stands life may.plain may.heard
+
+    hs : HasSeat old.parts.seats.table stands.seats.lives life
+    hs = stands.seats.standing.plains.plain life plain
+
+    seat_is : a.seat ≡ hs.seat
+    seat_is =
+        let came = flush_came a.seat old.dials new.dials old.speaker new.speaker refused (scene old.parts link disk) (scene course.sent later left)
+        s a.low in
+        let e = came.channel a.channel there_sent a.of_life.known in
+        let st : Stands b.d hs.channel life past = stands_of b.d (channel_at old.parts.seats.table hs.seat) (stands.seats.lives hs.seat) hs.channel life past
+        (stands.seats.standing.seated.each hs.seat) hs.there hs.lives_there in
+        stands.seats.standing.seated.are.differ a.seat hs.seat e.0 hs.channel e.1 hs.there (e.4 ∙ sym a.of_life.local ∙ st.local)
+
+    asked_named : (i moment : ℕ) (lines : List Line) → is_asked_at (chunks_of b.d) i moment lines ≡ true
+        → (i < chunks_of b.d) × (is_named i lines ≡ true)
+    asked_named i moment lines e =
+        let parts = and_parts (nat_lt i (chunks_of b.d)) (is_named_at i moment lines) e in
+        (ltb-true i (chunks_of b.d) parts.0, named_then i moment lines parts.1)
+
+    -- what was awaited there before was named
+    old_named : (i : ℕ) → awaits (own_in old.parts.seats.seats a.seat) i ≡ true
+        → (i < chunks_of b.d) × (is_named i (read_story b.d life records) ≡ true)
+    old_named i e = of (slice_get old.parts.seats.seats hs.seat) refl
+        (ap (λ (n : ℕ). awaits (own_in old.parts.seats.seats n) i) (sym seat_is) ∙ e)
+      where
+        of : (o : Option SeatState) → slice_get old.parts.seats.seats hs.seat ≡ o → awaits (own_at o) i ≡ true
+            → (i < chunks_of b.d) × (is_named i (read_story b.d life records) ≡ true)
+        of None there e = absurd (false≢true e)
+        of (Some known) there e =
+            let at = awaited_at known.own i e in
+            let followed = stands.seats.follow hs.seat hs.channel life known hs.there hs.known hs.lives_there there in
+            let it = asked_named i at.0 (read_story b.d life past) (followed.follows.own.named i at.0 at.1) in (
+              it.0,
+              named_later b.d old.parts.seats.descriptor life i (moment_of disk.history) course.flushes.added past course.flushes.ours
+                  (plain_began b.d life past past plain) it.1,
+            )
+
+    -- and so is what is awaited now
+    new_named : (i : ℕ) → awaits a.state.own i ≡ true → (i < chunks_of b.d) × (is_named i (read_story b.d life records) ≡ true)
+    new_named i e = let at = awaited_at a.state.own i e in asked_named i at.0 (read_story b.d life records) (a.named i at.0 at.1)
+
+    -- What was awaited as the turns began was awaited before the flush.
+    own_begun : may_in s.turned.seats.seats a.seat ≡ true → (i : ℕ) → awaits (own_in s.turned.seats.seats a.seat) i ≡ true
+        → awaits (own_in old.parts.seats.seats a.seat) i ≡ true
+    own_begun asks i e = ⊎_elim
+        (λ kept. ap (λ (own : List Asking). awaits own i) (sym (dropped ∙ ap own_at kept.messages)) ∙ e)
+        (λ over. absurd (false≢true (ap (λ (own : List Asking). awaits own i) (sym (dropped ∙ over.1.own)) ∙ e)))
+        (s.drops.each a.seat a.low)
+      where
+        dropped : own_in s.turned.seats.seats a.seat ≡ own_in s.dropped.seats.seats a.seat
+        dropped = own_given a.seat ∙ ap own_at (let_none s.dropped.seats.moment (slice_get s.dropped.seats.seats a.seat)
+            (slice_get s.given.seats.seats a.seat) (s.gives_up.each a.seat) (sym (may_given a.seat) ∙ asks))
+
+    -- a channel with room was not filled
+    not_full : IsFull a.seat s.turned s.said.parts → ⊥
+    not_full full =
+        let count = few_named (λ i. is_named i (read_story b.d life records)) (chunks_of b.d) (own_in s.turned.seats.seats a.seat) full.picks
+        full.rises full.runs full.fresh (λ i e. old_named i (own_begun full.may i e))
+        (λ i at. new_named i (ap (λ (own : List Asking). awaits own i) (sym own_said) ∙ full.awaited i at)) in
+        let room = subst (λ (lines : List Line). named_count (chunks_of b.d) lines < 32) (sym (plains_are_read b.d life records may.plain)) may.room in
+        let thirty_two = full.full in
+        omega (arith, count, room, thirty_two)
+
+    -- a chunk that is offered where nothing is left to ask for
+    chunk_asked : OffersNone a.seat new.parts → (i : ℕ) → i < chunks_of b.d → is_offered i (story b.d life records) ≡ true
+        → (list_any (asks_for b.d i) records ≡ true) ⊎ (is_held new.parts.holding.store i ≡ true)
+    chunk_asked none i low offered = ⊎_elim
+        (λ had. inr (in_held new.parts.holding i is.waits (sym ((is.held f is.is_fetching).each i within) ∙ had)))
+        (λ asked. inl (noted_asked b (most + refused) new.parts records then i
+        (ap (λ (o : Option FetchState). slice_index_or (asked_of o) i false) is.is_fetching ∙ asked)))
+        (had_or_asked (nat_lt i (length f.want.had)) (nat_lt i f.want.limit) (slice_index_or f.want.had i false)
+        (slice_index_or f.want.asked i false) (offers.has f.offers a.seat i) (none f is.is_fetching i)
+        (lt-ltb i (length f.want.had) within)
+        (lt-ltb i f.want.limit (let wants = is.wants in omega (arith, low, wants)))
+        (ap (λ (o : Option FetchState). offers_of o a.seat i) (sym is.is_fetching)
+        ∙ heard life (inl may.plain) a.seat a.channel a.there a.of_life (ap is_some is.is_fetching) i low
+        (ap (is_offered i) (plains_are_read b.d life records may.plain) ∙ offered)))
+      where
+        within : i < length f.want.had
+        within =
+            let size = is.whole.content f is.is_fetching in
+            let same = ap chunks_of then.ledger.swarm in
+            omega (arith, low, size, same)
+
+    channel_asked : (HasRisen link.faults later.faults → ⊥) → (i : ℕ) → i < chunks_of b.d → is_offered i (story b.d life records) ≡ true
+        → (list_any (asks_for b.d i) records ≡ true) ⊎ (is_held new.parts.holding.store i ≡ true)
+    channel_asked unrisen i low offered = ⊎_elim
+        (λ nothing. chunk_asked (λ g e. nothing g (sym fetching_same ∙ e)) i low offered)
+        (λ rest. ⊎_elim
+        (λ risen. absurd (unrisen (risen_more link.faults s.said.link.faults later.faults s.serves.flushes.later
+        (risen_less link.faults s.dialled.link.faults s.said.link.faults dialling.flushes.later risen))))
+        (λ full. absurd (not_full full))
+        rest)
+        (turns_leave a.seat 64 s.unsaid s.speaks.gathered new.speaker (record s.dialled { parts = s.turned }) s.said s.speaks.turns a.low owned had
+        may_said)
+
+  -- On each channel that may be asked each chunk of the content that it offers was asked for, or is held, unless the link refused a datagram.
+  pub turn_asks : AsksOrHolds b.d (chunks_of b.d) (λ i. is_held new.parts.holding.store i) records ⊎ HasRisen link.faults later.faults
+  turn_asks = ⊎_elim
+      (λ risen. inr risen)
+      (λ none. inl (λ life may i low offered.
+      channel_asked life may (askable b (most + refused) new.parts records then ends life may) none i low offered))
+      (risen_or link.faults later.faults)
+    where
+      ends : (n : ℕ) → n < 64 → IsServed new.parts.seats n
+      ends n lt = subst (λ (x : SeatsState). IsServed x n) (sym seats_same) (s.serves.ends n lt)
+
+  -- So it is with what stands in the store's file, where all that is held does.
+  pub turn_asks_held : (reads : List ℕ) → HoldsAll new.parts.holding.store reads
+      → asked.AsksOffered b.d (chunks_of b.d) reads records ⊎ HasRisen link.faults later.faults
+  turn_asks_held reads holds_all = ⊎_elim
+      (λ asks. inl (λ life may i low offered. ⊎_elim
+      (λ it. inl it)
+      (λ held_there. inr (subst (λ (d : Descriptor). holds d reads i ≡ true) then.ledger.swarm (holds_all i held_there).held))
+      (asks life may i low offered)))
+      (λ risen. inr risen)
+      turn_asks

@@ -1,8 +1,0 @@
-use Rattle.pp_node.specs.Turning.{post}
-use Rattle.pp_node.proofs.Steps.{turn_whole}
-use Rattle.pp_node.proofs.turning.take_turn.Goals as goal
-
-pub returns : goal.returns
-returns g c =
-    turn_whole (post c.args.peer.now (g.D.Disk.state c.args.disk.now) (g.L.Link.seen c.args.link.now)) (post c.wait.new.peer (g.D.Disk.state c.wait.new.disk) (g.L.Link.seen c.wait.new.link))
-    (post c.flush.new.self (g.D.Disk.state c.flush.new.disk) (g.L.Link.seen c.flush.new.link)) c.flush.ensures.exact.0 tt tt c.in_ok-wait.ensures c.flush.ensures.exact.1

@@ -1,0 +1,5 @@
+pub mod Idle
+pub mod Promising
+pub mod Steps
+pub mod Turned
+pub mod Loops

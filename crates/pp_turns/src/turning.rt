@@ -1,0 +1,90 @@
+//! The turns of a peer.
+
+ghost use Rattle.std.specs.Prelude.{◌≡◌, true, length, MatchBool};
+ghost use Rattle.pp_outside.specs.Outside.{size_of};
+ghost use Rattle.pp_peer.specs.Standing.{Beginning};
+ghost use Rattle.pp_turns.specs.Taking.{TakesTurn, Waits, TurnsEnd, HasAll, LacksSome};
+ghost use Rattle.pp_turns.specs.Turning.{post, IsBegun};
+
+use pp_core::Peer;
+use pp_outside::{Disk, DiskFault, Event, Link};
+
+/// How long a turn waits, in microseconds.
+const WAIT_US: u64 = 100_000;
+
+/// Takes so many turns; a peer that fetches takes none more once all its chunks are committed. The buffer has 65,536 bytes, room for any
+/// datagram. A fault of the disk ends the turns: after it the peer isn't live, and nothing is sent.
+pub fn take_turns<D: Disk, L: Link>(
+    peer: &mut Peer,
+    turns: u32,
+    fetches: bool,
+    buffer: &mut [u8],
+    disk: &mut D,
+    link: &mut L,
+) -> Result<(), DiskFault>
+    requires room { length buffer.old ≡ 65536 }
+    ensures { (b : Beginning) → IsBegun b (post peer.old (D.state disk.old) (L.seen link.old))
+        → TurnsEnd b turns fetches (post peer.old (D.state disk.old) (L.seen link.old)) (post peer.new (D.state disk.new) (L.seen link.new)) result }
+{
+    let mut taken = 0;
+    while taken < turns {
+        if is_done(peer, fetches) {
+            return Ok(());
+        }
+        take_turn(peer, buffer, disk, link)?;
+        taken += 1;
+    }
+    Ok(())
+}
+
+// Whether a peer that fetches has all its chunks committed.
+fn is_done(peer: &Peer, fetches: bool) -> bool
+    ensures { MatchBool result ((fetches ≡ true) × HasAll peer.now) (fetches ≡ true → LacksSome peer.now) }
+{
+    fetches && peer.committed().first_absent().is_none()
+}
+
+/// Waits once, at most 100,000 microseconds, takes what came, and sends what is due. A wait that the link refuses is counted, and what is
+/// due is sent then too. The buffer has 65,536 bytes. After a fault of the disk the peer isn't live, and nothing is sent.
+pub fn take_turn<D: Disk, L: Link>(
+    peer: &mut Peer,
+    buffer: &mut [u8],
+    disk: &mut D,
+    link: &mut L,
+) -> Result<(), DiskFault>
+    requires room { length buffer.old ≡ 65536 }
+    ensures { TakesTurn (post peer.old (D.state disk.old) (L.seen link.old)) (post peer.new (D.state disk.new) (L.seen link.new)) result }
+{
+    wait(peer, buffer, disk, link)?;
+    peer.flush(disk, link);
+    Ok(())
+}
+
+// Waits once for a datagram and takes it. A wait that is refused is counted.
+fn wait<D: Disk, L: Link>(
+    peer: &mut Peer,
+    buffer: &mut [u8],
+    disk: &mut D,
+    link: &mut L,
+) -> Result<(), DiskFault>
+    requires room { length buffer.old ≡ 65536 }
+    ensures { Waits (post peer.old (D.state disk.old) (L.seen link.old)) (post peer.new (D.state disk.new) (L.seen link.new)) result }
+{
+    match link.next(WAIT_US, buffer) {
+        Ok(event) => peer.absorb(&event, &buffer[..size(&event)], disk),
+        Err(_) => {
+            peer.refused();
+            Ok(())
+        }
+    }
+}
+
+// How many bytes of the buffer are the event's.
+fn size(event: &Event) -> usize
+    ensures { result ≡ size_of event.now }
+{
+    match *event {
+        Event::Datagram { len, .. } => len,
+        Event::Quiet { .. } => 0,
+    }
+}
