@@ -29,14 +29,8 @@ use Rattle.pp_peer.specs.declared.parts.Parts.{Parts}
 use Rattle.pp_peer.specs.Serving.{most_sent, flying_in, IsServed}
 use Rattle.pp_peer.specs.Speaking.{may_ask}
 use Rattle.pp_peer.specs.Standing.{Beginning, setting, StandsFor}
+use Rattle.pp_core.specs.Offering.{IsOfLife}
 use Rattle.pp_core.proofs.Served.{in_list, known_far, plain_begun}
-
--- The channel is that of the life, and its other peer's number is known.
-pub record IsOfLife (c : Channel) (life : Life) : Type 0 where
-  pub known : is_waiting c ≡ false
-  pub address : life.address ≡ address_of c.address
-  pub local : life.local ≡ c.local
-  pub remote : c.remote ≡ Some life.remote
 
 -- The seat of a channel's life, to whose peer this peer's handshake was sent, and where more may be asked for. What is awaited
 -- there the story names.

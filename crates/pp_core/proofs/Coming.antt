@@ -41,10 +41,10 @@ use Rattle.pp_peer.specs.Greeting.{offers_of}
 use Rattle.pp_peer.specs.Standing.{Beginning, IsWhole, size_of, StandsFor}
 use Rattle.pp_peer.specs.Taking.{read_at}
 use Rattle.pp_peer.proofs.Arrived.{datagram_is}
+use Rattle.pp_core.specs.Offering.{IsOfLife, IsOpen, OffersHeard}
 use Rattle.pp_core.proofs.Arriving.{IsHeardOn, IsRepliedOn, on_its_seat}
-use Rattle.pp_core.proofs.Askable.{IsOfLife}
 use Rattle.pp_core.proofs.Entering.{IsOpened, IsReplied, arrives_entered, opened_anew, heard_on}
-use Rattle.pp_core.proofs.Haves.{IsOpen, OffersHeard, of_life_before}
+use Rattle.pp_core.proofs.Haves.{of_life_before}
 use Rattle.pp_core.proofs.Heeding.{received_offers, quiet_offers, unbegun_offers, heard_since, heard_opening, none_offered, arrival_grows, heard_notes, replied_notes, opened_notes}
 use Rattle.pp_core.proofs.Noting.{size_some, IsFetching, GrowsOn}
 

@@ -26,24 +26,9 @@ use Rattle.pp_peer.specs.Greeting.{offers_of}
 use Rattle.pp_peer.specs.Standing.{Beginning, StandsFor}
 use Rattle.pp_core.specs.Peers.{PeerState}
 use Rattle.pp_core.specs.Turning.{scene, limited, with_limit, after_refusal, Sends}
-use Rattle.pp_core.proofs.Askable.{IsOfLife}
+use Rattle.pp_core.specs.Offering.{IsOfLife, IsOpen, OffersHeard}
 use Rattle.pp_core.proofs.Served.{in_list}
 use Rattle.pp_core.proofs.Staying.{CameThrough, flush_came}
-
--- ---- what was offered
-
--- The channel is plain; or the other peer opened it, and it is plain but for this peer's reply.
-abbrev pub IsOpen : Descriptor → Life → List Record → Type 0
-IsOpen d life past = IsPlainNow d life past ⊎ ((life.is_dialled ≡ false) × Awaits d life past)
-
--- A fetching peer has each chunk that a story offers among those that a seat offers.
-abbrev pub OffersAll : ℕ → Parts → (seat : ℕ) → List Line → Type 0
-OffersAll chunks p seat story = is_some p.fetching ≡ true → (i : ℕ) → i < chunks → is_offered i story ≡ true → offers_of p.fetching seat i ≡ true
-
--- So it is of each such channel.
-abbrev pub OffersHeard : Descriptor → Parts → List Record → Type 0
-OffersHeard d p past = (life : Life) → IsOpen d life past → (seat : ℕ) (c : Channel) → channel_at p.seats.table seat ≡ Some c → IsOfLife c life
-    → OffersAll (chunks_of d) p seat (read_story d life past)
 
 -- ---- records that were sent
 

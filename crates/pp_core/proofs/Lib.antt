@@ -45,13 +45,14 @@ pub mod Named
 pub mod Askable
 pub mod Staying
 pub mod Haves
-pub mod Offered
 pub mod Noting
 pub mod Entering
 pub mod Heeding
 pub mod Coming
 pub mod Filling
 pub mod FewNamed
+pub mod Limits
+pub mod Offered
 pub mod Lately
 pub mod LatelySent
 pub mod Passed

@@ -6,7 +6,6 @@ use Rattle.std.proofs.lemmas.Bool.{and_parts, false≢true, lt-ltb, ltb-true, or
 use Rattle.std.proofs.lemmas.Option.{same_Some}
 use Rattle.pp_terms.specs.Count.{HasRisen}
 use Rattle.pp_terms.specs.disk.Disk.{DiskState, moment_of}
-use Rattle.pp_terms.specs.disk.Image.{holds}
 use Rattle.pp_terms.specs.format.Descriptor.{Descriptor, chunks_of}
 use Rattle.pp_terms.specs.format.Traffic.{Record, LinkState}
 use Rattle.pp_terms.proofs.Risings.{risen_more, risen_less}
@@ -14,18 +13,23 @@ use Rattle.pp_traffic.specs.Life.{Life}
 use Rattle.pp_traffic.specs.Plain.{IsPlainNow}
 use Rattle.pp_traffic.specs.Story.{Line, story}
 use Rattle.pp_traffic.proofs.Awaited.{plain_began}
-use Rattle.pp_promises.specs.Asked as asked
 use Rattle.pp_promises.specs.Asked.{MayBeAsked, asks_for, named_count}
 use Rattle.pp_promises.specs.Batches.{is_in, is_pending}
 use Rattle.pp_promises.specs.OwnSide.{is_named, is_offered}
 use Rattle.pp_promises.specs.ReadStory.{read_story}
 use Rattle.pp_promises.proofs.ReadStories.{plains_are_read}
 use Rattle.pp_avail.specs.Offers as offers
+use Rattle.pp_avail.specs.declared.ranker.Rank.{Rank}
+use Rattle.pp_outside.specs.Arrivals.{IsEvent}
+use Rattle.pp_outside.specs.Outside.{record_of}
+use Rattle.pp_outside.specs.declared.link.Address.{Address}
+use Rattle.pp_outside.specs.declared.link.Event.{Event}
+use Rattle.pp_peer.specs.Events.{Absorbs}
 use Rattle.pp_fetching.specs.Fetching.{FetchState}
 use Rattle.pp_fetching.specs.Owners.{awaits}
 use Rattle.pp_requests.specs.declared.asking.Asking.{Asking}
 use Rattle.pp_requests.specs.Moments.{asked_at}
-use Rattle.pp_store.specs.Store.{is_committed, is_held, HoldsAll}
+use Rattle.pp_store.specs.Store.{is_committed, is_held}
 use Rattle.pp_channels.specs.Seats.{channel_at}
 use Rattle.pp_holding.specs.Holding.{HoldingState, batch_of, is_queued, HasWaiting}
 use Rattle.pp_holding.specs.Queue.{pending_of}
@@ -47,15 +51,19 @@ use Rattle.pp_peer.specs.Standing.{Beginning, IsWhole, asked_of, own_at, own_in,
 use Rattle.pp_peer.proofs.Dialled.{IsDialling, all_dialling}
 use Rattle.pp_core.specs.Asking.{OffersNone}
 use Rattle.pp_core.specs.Having.{HasHeld, HasJust}
+use Rattle.pp_core.specs.Offering.{OffersHeard, limit_of, FetchesAll, KeepsOffers, AsksOrHolds}
+use Rattle.pp_core.specs.Opening.{HasBegun, WantsIf}
 use Rattle.pp_core.specs.Peers.{PeerState}
-use Rattle.pp_core.specs.Turning.{scene, Sends}
+use Rattle.pp_core.specs.Turning.{scene, after_refusal, Sends}
 use Rattle.pp_core.proofs.Asking.{HadAll}
 use Rattle.pp_core.proofs.Askable.{IsAskable, askable}
 use Rattle.pp_core.proofs.FewNamed.{few_named}
 use Rattle.pp_core.proofs.Filling.{IsFull, MayAskAt, turns_leave}
 use Rattle.pp_core.proofs.Flushes.{in_set}
-use Rattle.pp_core.proofs.Haves.{OffersHeard}
-use Rattle.pp_core.proofs.Having.{had_of, wanted_had}
+use Rattle.pp_core.proofs.Coming.{absorbs_heard, none_heard}
+use Rattle.pp_core.proofs.Haves.{flush_heard, refusal_heard}
+use Rattle.pp_core.proofs.Having.{had_of, wanted_had, absorbs_held, flush_held}
+use Rattle.pp_core.proofs.Limits.{absorbs_limit, flush_limit}
 use Rattle.pp_core.proofs.Named.{named_later, named_then, noted_asked}
 use Rattle.pp_core.proofs.PlainBefore.{plain_then}
 use Rattle.pp_core.proofs.Rooms.{Alike, slots_alike, may_at, may_in, IsOwned}
@@ -86,11 +94,6 @@ had_all p h = of p.fetching h
         ∙ or_left (is_committed p.holding.store i) (is_pending (batch_of p.holding) i) at
 
 -- ---- what was asked for
-
--- Each chunk below a number that a channel offers which may be asked was asked for, or is among some others.
-abbrev pub AsksOrHolds : Descriptor → ℕ → (others : ℕ → Bool) → List Record → Type 0
-AsksOrHolds d below others past = (life : Life) → MayBeAsked d life past → (i : ℕ) → i < below → is_offered i (story d life past) ≡ true
-    → (list_any (asks_for d i) past ≡ true) ⊎ (others i ≡ true)
 
 had_or_asked : (a b had asked offers : Bool) → ((((a && b) && not had) && not asked) && offers) ≡ false → a ≡ true → b ≡ true → offers ≡ true
     → (had ≡ true) ⊎ (asked ≡ true)
@@ -135,7 +138,6 @@ awaited_at own i e = of (asked_at own i) refl e
 -- What a fetching peer knows before a flush and after it, which wants all chunks.
 pub record IsAsking (b : Beginning) (old new : PeerState) : Type 0 where
   pub had : HasHeld old.parts
-  pub whole : IsWhole new.parts
   pub waits : HasWaiting new.parts.holding.store new.parts.holding.queue.waiting
   pub held : HasHeld new.parts
   pub fetching : FetchState
@@ -304,7 +306,7 @@ module _ (refused : ℕ) (old new : PeerState) (link later : LinkState) (disk le
       where
         within : i < length f.want.had
         within =
-            let size = is.whole.content f is.is_fetching in
+            let size = (is.held f is.is_fetching).size ∙ is.waits.committed_size in
             let same = ap chunks_of then.ledger.swarm in
             omega (arith, low, size, same)
 
@@ -331,13 +333,73 @@ module _ (refused : ℕ) (old new : PeerState) (link later : LinkState) (disk le
       ends : (n : ℕ) → n < 64 → IsServed new.parts.seats n
       ends n lt = subst (λ (x : SeatsState). IsServed x n) (sym seats_same) (s.serves.ends n lt)
 
-  -- So it is with what stands in the store's file, where all that is held does.
-  pub turn_asks_held : (reads : List ℕ) → HoldsAll new.parts.holding.store reads
-      → asked.AsksOffered b.d (chunks_of b.d) reads records ⊎ HasRisen link.faults later.faults
-  turn_asks_held reads holds_all = ⊎_elim
+-- ---- what a fetch keeps for it
+
+limit_there : (o : Option FetchState) (n : ℕ) → limit_of o ≡ Some n → (f : FetchState) × (o ≡ Some f) × (f.want.limit ≡ n)
+limit_there None n e = absurd cc
+limit_there (Some f) n e = (f, refl, same_Some f.want.limit n e)
+
+-- A peer that begins, and asks for all that it lacks, keeps what others offer: nothing.
+pub begun_offers : (d : Descriptor) (p : Parts) → FetchesAll d p → HasHeld p → KeepsOffers d p []
+begun_offers d p fetches held = record { fetches = fetches; held = held; heard = none_heard d p }
+
+-- A peer that begins to fetch asks for all that it lacks.
+pub begun_fetches : (d : Descriptor) (random : List ℕ) (asks : Option Rank) (dial : List Address) (p : PeerState) → HasBegun d random asks dial p
+    → is_some asks ≡ true → FetchesAll d p.parts
+begun_fetches d random asks dial p begun some = of asks begun.fetching some
+  where
+    of : (o : Option Rank) → WantsIf (chunks_of d) (is_committed p.parts.holding.store) o p.parts.fetching → is_some o ≡ true → FetchesAll d p.parts
+    of None w some = absurd (false≢true some)
+    of (Some order) w some = ap limit_of w.1 ∙ ap (λ (n : ℕ). Some n) w.2.limit
+
+-- A wait that was refused keeps it,
+pub refused_offers : (d : Descriptor) (p : PeerState) (past : List Record) → KeepsOffers d p.parts past → KeepsOffers d (after_refusal p).parts past
+refused_offers d p past k = record { fetches = k.fetches; held = k.held; heard = refusal_heard d p past k.heard }
+
+-- an event does,
+pub absorbs_offers : (b : Beginning) (most : ℕ) (past : List Record) (old new : Parts) → StandsFor b most old past → IsWhole old → (event : Event)
+    (bytes : List ℕ) → IsEvent event bytes → Absorbs event bytes old new → KeepsOffers b.d old past → KeepsOffers b.d new (record_of event bytes ∷ past)
+absorbs_offers b most past old new stands whole event bytes fits a k = record {
+  fetches = absorbs_limit event bytes old new a ∙ k.fetches;
+  held = absorbs_held event bytes old new a k.held;
+  heard = absorbs_heard b most past old new stands whole event bytes fits a k.heard;
+}
+
+-- and so does a flush, which asks for what is offered.
+module _ (refused : ℕ) (old new : PeerState) (link later : LinkState) (disk left : DiskState) (course : Sends refused old new link later disk left)
+    (b : Beginning) (most : ℕ) (past : List Record) (since : b.since ≤ moment_of disk.history) (stands : StandsFor b most old.parts past)
+    (keeps : KeepsOffers b.d old.parts past) where
+  pub flush_offers : KeepsOffers b.d new.parts (course.flushes.added ++ past)
+  flush_offers = record {
+    fetches = ap (λ (p : Parts). limit_of p.fetching) course.rest
+        ∙ flush_limit old.dials new.dials old.speaker new.speaker refused (scene old.parts link disk) (scene course.sent later left) course.sends
+        ∙ keeps.fetches;
+    held = flush_held old.dials new.dials old.speaker new.speaker refused (scene old.parts link disk) (scene course.sent later left) new.parts
+        course.sends course.flushes.holding course.rest keeps.held;
+    heard = flush_heard refused old new link later disk left course b most past since stands keeps.heard;
+  }
+
+  waiting_then : HasWaiting old.parts.holding.store old.parts.holding.queue.waiting → HasWaiting new.parts.holding.store new.parts.holding.queue.waiting
+  waiting_then waits = subst (λ (p : Parts). HasWaiting p.holding.store p.holding.queue.waiting) (sym course.rest)
+      (subst (λ (h : HoldingState). HasWaiting h.store h.queue.waiting) (sym course.flushes.holding) waits)
+
+  pub flush_asks_all : HasWaiting old.parts.holding.store old.parts.holding.queue.waiting
+      → (others : ℕ → Bool) → ((i : ℕ) → is_held new.parts.holding.store i ≡ true → others i ≡ true)
+      → AsksOrHolds b.d (chunks_of b.d) others (course.flushes.added ++ past) ⊎ HasRisen link.faults later.faults
+  flush_asks_all waits others contains = ⊎_elim
       (λ asks. inl (λ life may i low offered. ⊎_elim
       (λ it. inl it)
-      (λ held_there. inr (subst (λ (d : Descriptor). holds d reads i ≡ true) then.ledger.swarm (holds_all i held_there).held))
+      (λ held_there. inr (contains i held_there))
       (asks life may i low offered)))
       (λ risen. inr risen)
-      turn_asks
+      (turn_asks refused old new link later disk left course b most past since stands (record {
+        had = keeps.held;
+        waits = waiting_then waits;
+        held = flush_offers.held;
+        fetching = there.0;
+        is_fetching = there.1;
+        wants = (let limit = there.2 in omega (arith, limit));
+      }) flush_offers.heard)
+    where
+      there : (f : FetchState) × (new.parts.fetching ≡ Some f) × (f.want.limit ≡ chunks_of b.d)
+      there = limit_there new.parts.fetching (chunks_of b.d) flush_offers.fetches

@@ -1,9 +1,10 @@
 -- What a flush leaves, in the words of what a peer promises.
-use Rattle.std.proofs.Common.{◌≡◌, ℕ, ◌<◌, List, length, ◌∙◌, ap}
+use Rattle.std.proofs.Common.{◌≡◌, ℕ, ◌<◌, List, ◌∙◌, ap}
 use Rattle.std.proofs.lemmas.Bool.{or_left}
 use Rattle.pp_terms.specs.disk.Disk.{DiskState}
 use Rattle.pp_terms.specs.format.Descriptor.{chunks_of}
 use Rattle.pp_terms.specs.format.Traffic.{LinkState, Record}
+use Rattle.pp_holding.specs.Holding.{HasWaiting}
 use Rattle.pp_peer.specs.Delivering.{ReadsRight}
 use Rattle.pp_peer.proofs.Dialled.{all_dialling}
 use Rattle.pp_core.specs.Keeping.{IsKeeping}
@@ -17,6 +18,7 @@ use Rattle.pp_core.proofs.Dialled.{first_dials}
 use Rattle.pp_core.proofs.Firsts.{flush_acks, flush_unrepeated}
 use Rattle.pp_core.proofs.LatelySent.{flush_wrote}
 use Rattle.pp_core.proofs.LetsIn.{turn_lets_in}
+use Rattle.pp_core.proofs.Offered.{flush_offers, flush_asks_all}
 use Rattle.pp_core.proofs.Remembered.{flush_keeps, flush_taken}
 use Rattle.pp_core.proofs.Served.{flush_serves}
 use Rattle.pp_core.proofs.StaysTold.{all_below}
@@ -34,11 +36,11 @@ keeping_reads since p link disk past k = record {
 
 pub flush_promises : (refused : ℕ) (old new : PeerState) (link later : LinkState) (disk left : DiskState)
     → (course : Sends refused old new link later disk left)
-    → length old.parts.holding.store.committed ≡ chunks_of old.parts.holding.store.descriptor → 0 < old.parts.holding.store.descriptor.chunk
+    → HasWaiting old.parts.holding.store old.parts.holding.queue.waiting → 0 < old.parts.holding.store.descriptor.chunk
     → Promises refused old new link later disk left course.flushes.added
-flush_promises refused old new link later disk left course size some = record {
+flush_promises refused old new link later disk left course waits some = record {
   closes_none = flush_closes_none refused old new link later disk left course;
-  serves = λ b most past h since stands found. flush_serves refused old new link later disk left course size some b most past h since stands found;
+  serves = λ b most past h since stands found. flush_serves refused old new link later disk left course waits.committed_size some b most past h since stands found;
   lost = sends_counted refused old new link later disk left course
       (all_dialling old.dials new.dials (scene course.sends.given link disk) course.sends.dials_all.0 course.sends.dialled
       course.sends.dials_all.1 course.sends.dials_all.2).flushes.later;
@@ -47,7 +49,7 @@ flush_promises refused old new link later disk left course size some = record {
   told = λ b most past before since stands tells none keeps. flush_keeps refused old new link later disk left course b most past before since stands
       tells none keeps;
   tells = λ b most past before h since stands tells none found keeps. flush_tells refused old new link later disk left course b most past before h
-      since stands (size ∙ ap chunks_of stands.ledger.swarm) tells none found (all_below b.d old.parts past keeps.told) keeps.passes;
+      since stands (waits.committed_size ∙ ap chunks_of stands.ledger.swarm) tells none found (all_below b.d old.parts past keeps.told) keeps.passes;
   taken = flush_taken refused old new link later disk left course;
   unrepeated = flush_unrepeated refused old new link later disk left course;
   acks = λ b most past before since stands tells none book acks. flush_acks refused old new link later disk left course b most past before since stands
@@ -60,5 +62,8 @@ flush_promises refused old new link later disk left course size some = record {
   lets_in = λ event bytes start absorbs fits b most still past before was stands tells.
       turn_lets_in event bytes refused (record old { parts = start }) old new link later disk left absorbs course fits b most still past before was
       stands tells;
+  offers = λ b most past since stands keeps. flush_offers refused old new link later disk left course b most past since stands keeps;
+  asks = λ b most past since stands keeps others contains.
+      flush_asks_all refused old new link later disk left course b most past since stands keeps waits others contains;
   keeps_up = λ b most past before stands tells keeps. flush_keeps_up refused old new link later disk left course b most past before stands keeps tells;
 }

@@ -10,6 +10,7 @@ pub mod Listing
 pub mod Telling
 pub mod Slots
 pub mod Having
+pub mod Offering
 pub mod Reaching
 pub mod Asking
 pub mod Leaving

@@ -1,9 +1,9 @@
 -- What a flush leaves at the end of its turn, in the words of what a peer promises of its records.
-use Rattle.std.specs.Prelude.{◌≡◌, ◌⊎◌, ℕ, ◌+◌, ◌-◌, ◌^◌, ◌<◌, ◌≤◌, map, length, true, false, Some, List, [], ◌∷◌, ◌++◌}
+use Rattle.std.specs.Prelude.{◌≡◌, ◌⊎◌, ℕ, ◌+◌, ◌-◌, ◌^◌, ◌<◌, ◌≤◌, map, length, Bool, true, false, Some, List, [], ◌∷◌, ◌++◌}
 use Rattle.std.specs.List.{list_any}
 use Rattle.pp_terms.specs.Count.{HasRisen}
 use Rattle.pp_terms.specs.disk.Disk.{DiskState, History, moment_of}
-use Rattle.pp_terms.specs.format.Descriptor.{Descriptor}
+use Rattle.pp_terms.specs.format.Descriptor.{Descriptor, chunks_of}
 use Rattle.pp_terms.specs.format.Traffic as traffic
 use Rattle.pp_terms.specs.format.Traffic.{same_address, LinkState, Record}
 use Rattle.pp_terms.specs.tree.Book.{LookUp}
@@ -25,6 +25,8 @@ use Rattle.pp_peer.specs.Dialling.{undialled}
 use Rattle.pp_peer.specs.Events.{Absorbs}
 use Rattle.pp_peer.specs.Flushing.{Scene}
 use Rattle.pp_peer.specs.Standing.{Beginning, StandsFor}
+use Rattle.pp_store.specs.Store.{is_held}
+use Rattle.pp_core.specs.Offering.{KeepsOffers, AsksOrHolds}
 use Rattle.pp_core.specs.Peers.{PeerState}
 use Rattle.pp_core.specs.Remembering.{KeepsWrote, StaysUnchoked, KeepsTold, HasNoTicket, AwaitsAck, KeepsAcks, HasNoRepeat}
 use Rattle.pp_core.specs.Turning.{scene}
@@ -106,6 +108,19 @@ AcknowledgesKnown old later added = (event : Event) (bytes : List ℕ) (start : 
     → (book : LookUp) → AwaitsAck b.d book old.parts (record_of event bytes ∷ past)
     → AcknowledgesFirst b.d book (added ++ record_of event bytes ∷ past) ⊎ HasRisen old.link.faults later.faults
 
+-- A fetch goes on asking for all that it lacks, and what others offer stays noted.
+abbrev pub StaysOffering : Scene → Parts → List Record → Type 0
+StaysOffering old new added = (b : Beginning) (most : ℕ) (past : List Record) → b.since ≤ moment_of old.disk.history
+    → StandsFor b most old.parts past → KeepsOffers b.d old.parts past → KeepsOffers b.d new (added ++ past)
+
+-- A fetch asked on each channel that may be asked for each chunk that it offers, but for what is held, and maybe others; unless the link
+-- refused a datagram.
+abbrev pub AsksAll : Scene → Parts → LinkState → List Record → Type 0
+AsksAll old new later added = (b : Beginning) (most : ℕ) (past : List Record) → b.since ≤ moment_of old.disk.history
+    → StandsFor b most old.parts past → KeepsOffers b.d old.parts past
+    → (others : ℕ → Bool) → ((i : ℕ) → is_held new.holding.store i ≡ true → others i ≡ true)
+    → AsksOrHolds b.d (chunks_of b.d) others (added ++ past) ⊎ HasRisen old.link.faults later.faults
+
 -- What a flush promises in which so many calls were given up, and these records went.
 pub record Promises (refused : ℕ) (old new : PeerState) (link later : LinkState) (disk left : DiskState) (added : List Record) : Type 0 where
   pub closes_none : ClosesNone (scene old.parts link disk) added
@@ -122,3 +137,5 @@ pub record Promises (refused : ℕ) (old new : PeerState) (link later : LinkStat
   pub unrepeated : HasNoRepeat new.parts
   pub acks : StaysToAcknowledge (scene old.parts link disk) new.parts later added
   pub acknowledges : AcknowledgesKnown (scene old.parts link disk) later added
+  pub offers : StaysOffering (scene old.parts link disk) new.parts added
+  pub asks : AsksAll (scene old.parts link disk) new.parts later added

@@ -31,6 +31,7 @@ ghost use Rattle.pp_core.specs.Having.{HasHeld};
 ghost use Rattle.pp_core.specs.Keeping.{IsKeeping};
 ghost use Rattle.pp_core.specs.Leaving.{LeavesNone};
 ghost use Rattle.pp_core.specs.Listing.{ListsRequests};
+ghost use Rattle.pp_core.specs.Offering.{KeepsOffers};
 ghost use Rattle.pp_core.specs.Opening.{HasBegun, beginning};
 ghost use Rattle.pp_core.specs.Promising.{Promises};
 ghost use Rattle.pp_core.specs.Reaching.{Reaches};
@@ -177,6 +178,9 @@ impl Peer {
             → HasNoTicket self.old.parts → HasNoRepeat self.old.parts → KeepsTold b.d self.old.parts past
             → (book : LookUp) → KeepsEntries (entry self.new.parts.holding.book) book → KeepsAcks b.d book self.old.parts past
             → KeepsAcks b.d book self.new.parts (record_of event.now bytes.now ∷ past)) }
+        // A fetch goes on asking for all that it lacks, and what others offer stays noted.
+        ensures offers { OnOk result ((b : Beginning) (most : ℕ) (past : List Record) → StandsFor b most self.old.parts past
+            → KeepsOffers b.d self.old.parts past → KeepsOffers b.d self.new.parts (record_of event.now bytes.now ∷ past)) }
         // What came on a plain channel and is proved by what its peer claims is held, or the book contradicts it.
         ensures proves { OnOk result ((b : Beginning) (most : ℕ) (past : List Record) → StandsFor b most self.old.parts past
             → StoresIn b.d (entry self.new.parts.holding.book) self.new.parts.holding.store past (record_of event.now bytes.now)) }

@@ -4,7 +4,9 @@ use Rattle.std.specs.Prelude.{is_some}
 use Rattle.std.proofs.lemmas.Bool.{false≢true}
 use Rattle.pp_terms.specs.command.Report.{disk_fault_line}
 use Rattle.pp_terms.specs.disk.Disk.{DiskState, IsKnown, GainsName}
+use Rattle.pp_terms.specs.disk.Image.{holds}
 use Rattle.pp_terms.specs.disk.Untouched.{IsSyncedAtMost}
+use Rattle.pp_terms.specs.format.Descriptor.{Descriptor}
 use Rattle.pp_terms.specs.format.Traffic.{Address, LinkState, Record, GainsAddress}
 use Rattle.pp_terms.proofs.Risings.{gains_nothing}
 use Rattle.pp_traffic.specs.Committed.{RequestsNone}
@@ -12,23 +14,25 @@ use Rattle.pp_promises.specs.Missing.{IsComplete}
 use Rattle.pp_counts.specs.Counts.{tally_of}
 use Rattle.pp_tree.specs.Book.{entry}
 use Rattle.pp_avail.specs.declared.ranker.Rank.{Rank}
+use Rattle.pp_core.specs.Offering.{FetchesAll}
 use Rattle.pp_core.specs.Peers.{PeerState}
+use Rattle.pp_core.proofs.Offered.{begun_fetches}
 use Rattle.pp_node.specs.Looking.{Lasts}
 use Rattle.pp_node.specs.Outside.{Outside}
 use Rattle.pp_node.specs.Preparing.{IsUnsent, HasPrepared, LeavesDisk, LeavesLink}
-use Rattle.pp_node.specs.Promising.{PeerWords, HasRun, IsIncomplete, IsStopped, IsUnturned, FaultsIn, SeedsIn, HasFetched, FetchesIn, LeavesFile, Binds, PeerEnds, SeedEnds, DialsAsTold, FetchEnds}
+use Rattle.pp_node.specs.Promising.{PeerWords, HasRun, IsIncomplete, IsStopped, IsUnturned, FaultsIn, SeedsIn, HasFetched, FetchesIn, LeavesFile, Binds, PeerEnds, SeedEnds, DialsAsTold, AsksAsOffered, FetchEnds}
 use Rattle.pp_node.specs.Seeding.{words_of, dials_of, set_of, HasEvery, NamesBehind, Serves, ReportsSeed}
 use Rattle.pp_node.specs.Status.{number_of}
 use Rattle.pp_node.specs.Text.{Says}
 use Rattle.pp_turns.specs.Taking.{StopsIn, Ends}
 use Rattle.pp_turns.specs.Turning.{post}
-use Rattle.pp_turns.proofs.Promising.{owes_none, keeps_none, tells_none, acknowledges_none}
+use Rattle.pp_turns.proofs.Promising.{owes_none, keeps_none, tells_none, acknowledges_none, asks_none}
 use Rattle.pp_node.specs.declared.preparing.Peering.{Peering}
 use Rattle.pp_node.specs.declared.preparing.SeedFault.{SeedFault}
 use Rattle.pp_node.specs.declared.preparing.SeedFault.TheVariants as fault
 use Rattle.pp_node.specs.declared.status.Status.{Status}
 use Rattle.pp_node.specs.declared.status.Status.TheVariants.{Done, Usage, NotAStore, Incomplete, DiskFault, LinkFault, SourceFault, SinkFault, NotEmpty, ContentSize, Memory, Damaged}
-use Rattle.pp_node.proofs.Peers.{WasReady, HasBook, b, start, went_closed, is_closed, early_now, all_taken, complete_now, missing_now, peer_ends, bound_now, run_now, stopped_now, asks_none_now, kept_to_now, dialled_now, unkept, unwilling}
+use Rattle.pp_node.proofs.Peers.{WasReady, HasBook, b, start, d_is, went_closed, is_closed, early_now, all_taken, complete_now, missing_now, peer_ends, bound_now, run_now, stopped_now, asks_none_now, kept_to_now, dialled_now, asked_now, unkept, unwilling}
 
 -- ---- a fault is one of both commands
 
@@ -76,13 +80,14 @@ pub record HasFault (number : ℕ) (w : PeerWords) (old new : Outside) : Type 0 
   pub asks_none : RequestsNone w.descriptor run.added
   pub ends : FaultsIn run.status w old new run.added
   pub dials : (dial : List Address) → DialsAsTold w.descriptor dial old new run.added
+  pub asks : AsksAsOffered w.descriptor old new run.added
 
 pub seed_fault : (number : ℕ) (w : PeerWords) (old new : Outside) → HasFault number w old new → SeedEnds number w old new
 seed_fault number w old new f = record { run = f.run; asks_none = f.asks_none; ends = seeds_in f.run.status w old new f.run.added f.ends }
 
 pub fetch_fault : (number : ℕ) (w : PeerWords) (dial : List Address) (old new : Outside) → HasFault number w old new
     → FetchEnds number w dial old new
-fetch_fault number w dial old new f = record { run = f.run; dials = f.dials dial; ends = fetches_in f.run.status w old new f.run.added f.ends }
+fetch_fault number w dial old new f = record { run = f.run; dials = f.dials dial; asks = f.asks; ends = fetches_in f.run.status w old new f.run.added f.ends }
 
 module _ (w : Peering) (old new : Outside) (leaves : Leaves w old new) where
   silent : (status : Status) → IsUnsent old.link new.link → FaultsIn status (words_of w) old new [] → Binds status (words_of w).listen old.link new.link
@@ -116,6 +121,8 @@ module _ (w : Peering) (old new : Outside) (leaves : Leaves w old new) where
     asks_none = refl;
     ends = ends;
     dials = λ dial few some. absurd (let same = unsent.nexts in omega (arith, some, same));
+    asks = λ before tells steady counts.
+        inl (asks_none (words_of w).descriptor _ (λ i. holds (words_of w).descriptor new.disk.history.reads i), tt);
   }
 
   unturned : IsUnsent old.link new.link → IsUnturned old new []
@@ -199,6 +206,12 @@ module _ (w : Peering) (old new : Outside) (opened : DiskState) (listens : LinkS
     closed_dials : DialsAsTold w.descriptor.now (dials_of w) old new (went_closed w old new opened listens first room r w.turns fetches last e).added
     closed_dials = dialled_now w old new opened listens first room r w.turns fetches last e k
 
+    closed_asked : fetches ≡ true
+        → AsksAsOffered w.descriptor.now old new (went_closed w old new opened listens first room r w.turns fetches last e).added
+    closed_asked asked = asked_now w old new opened listens first room r w.turns fetches last e k
+        (subst (λ (x : Descriptor). FetchesAll x first.parts) (sym (d_is w old new opened listens first room r))
+        (begun_fetches w.descriptor.now w.random w.asks w.dial.now.items first r.ready.begun asked))
+
     closed_early : e.takes.taken < w.turns → HasEvery (set_of last)
     closed_early = early_now w old new opened listens first room r w.turns fetches last e
 
@@ -265,21 +278,25 @@ module _ (w : Peering) (old new : Outside) (opened : DiskState) (listens : LinkS
   fetch_served Done asked s = record {
     run = closed_run s.0 Done (closed_bound s.0) (left_done old new);
     dials = closed_dials s.0;
+    asks = closed_asked s.0 asked;
     ends = (fetched s.0, closed_complete s.0 (s.1.0 asked), s.1.1);
   }
   fetch_served Incomplete asked s = record {
     run = closed_run s.0 Incomplete (closed_bound s.0) (left_incomplete old new);
     dials = closed_dials s.0;
+    asks = closed_asked s.0 asked;
     ends = (closed_has s.0 w.turns (closed_all s.0 (λ asked all. absurd (false≢true (sym s.1.1.names.missing ∙ all s.1.1.names.first s.1.1.names.within)))), incomplete s.0 s.1.1);
   }
   fetch_served SinkFault asked s = record {
     run = closed_run s.0 SinkFault (closed_bound s.0) (left_sink old new);
     dials = closed_dials s.0;
+    asks = closed_asked s.0 asked;
     ends = (fetched s.0, s.1);
   }
   fetch_served DiskFault asked s = record {
     run = stopped_run s.0;
     dials = λ few some before tells willing. absurd (unwilling w old new opened listens first room r s.0.stops.hard willing);
+    asks = λ before tells steady. absurd (unwilling w old new opened listens first room r s.0.stops.hard steady.willing);
     ends = inr (stopped_ends s.0 s.1);
   }
   fetch_served Usage asked s = absurd s

@@ -41,6 +41,7 @@ use Rattle.pp_peer.specs.Greeting.{IsFarewell, fars_of}
 use Rattle.pp_peer.specs.Greeting as farewells
 use Rattle.pp_peer.specs.Standing.{Beginning}
 use Rattle.pp_core.specs.Keeping.{IsThere, IsKeeping}
+use Rattle.pp_core.specs.Offering.{FetchesAll, AsksOrHolds}
 use Rattle.pp_core.specs.Opening.{WantsIf, beginning}
 use Rattle.pp_core.specs.Peers.{PeerState}
 use Rattle.pp_core.specs.Promising.{IsFoundIn}
@@ -53,7 +54,7 @@ use Rattle.pp_core.proofs.Unchoked.{begun_unchoked, chokes_none, close_chokes_no
 use Rattle.pp_node.specs.Looking.{IsOf, Lasts}
 use Rattle.pp_node.specs.Outside.{Outside}
 use Rattle.pp_node.specs.Preparing.{IsUnsent, IsReady}
-use Rattle.pp_node.specs.Promising.{IsClosed, HasRun, IsStopped, LeavesFile, Binds, devices_of, IsKeptTo, PeerEnds, DialsAsTold}
+use Rattle.pp_node.specs.Promising.{IsClosed, HasRun, IsStopped, LeavesFile, Binds, devices_of, IsKeptTo, PeerEnds, DialsAsTold, AsksAsOffered}
 use Rattle.pp_node.specs.Seeding.{words_of, dials_of, set_of, HasEvery}
 use Rattle.pp_node.specs.Status.{number_of}
 use Rattle.pp_node.specs.Text.{Says}
@@ -113,6 +114,7 @@ module _ (w : Peering) (old new : Outside) (opened : DiskState) (listens : LinkS
     taken = begun_taken d w.random w.asks w.dial.now.items first r.ready.begun;
     unrepeated = begun_unrepeated d w.random w.asks w.dial.now.items first r.ready.begun;
     acks = begun_acks b.d d w.random w.asks w.dial.now.items first r.ready.begun;
+    held = r.ready.held;
   }
 
   pub d_is : b.d ≡ d
@@ -368,21 +370,18 @@ module _ (w : Peering) (old new : Outside) (opened : DiskState) (listens : LinkS
         )
 
     module _ (k : HasBook last new.book) where
+      -- what is held in the store is in what the disk reads
+      held_now : IsSteady d old.disk new.disk → (i : ℕ) → is_held last.parts.holding.store i ≡ true → holds d new.disk.history.reads i ≡ true
+      held_now steady i is = subst (λ (x : Descriptor). holds x new.disk.history.reads i ≡ true)
+          (went_closed.advances.descriptor ∙ d_is)
+          ((keeping taken_in last went_closed k steady.willing.known steady.began).kept.holds closed_turns.0.live i is).held
+
       stores_now : IsSteady d old.disk new.disk → StoresAll d (entry new.book) new.disk.history.reads went_closed.added
       unfolding went_closed
       stores_now steady = subst (λ (rs : List Record). StoresAll d (entry new.book) new.disk.history.reads rs) (sym closed_turns.1)
           (subst (λ (x : BookState). StoresAll d (entry x) new.disk.history.reads (closing ++ turned)) (sym k.book_is)
-          (each_read d (entry last.parts.holding.book) last.parts.holding.store new.disk.history.reads held (closing ++ turned) stores_closed))
-        where
-          kept : IsKeeping b.since last new.disk went_closed.added
-          kept = keeping taken_in last went_closed k steady.willing.known steady.began
-
-          live : last.parts.holding.store.live ≡ true
-          live = closed_turns.0.live
-
-          held : (i : ℕ) → is_held last.parts.holding.store i ≡ true → holds d new.disk.history.reads i ≡ true
-          held i is = subst (λ (x : Descriptor). holds x new.disk.history.reads i ≡ true)
-              (went_closed.advances.descriptor ∙ d_is) (kept.kept.holds live i is).held
+          (each_read d (entry last.parts.holding.book) last.parts.holding.store new.disk.history.reads (held_now steady) (closing ++ turned)
+          stores_closed))
 
       -- nothing closed a channel before the turns ended
       unclosed : (before : List Record) → old.link.traffic ≡ Some before → list_any (is_closing d) turned ≡ false
@@ -498,6 +497,13 @@ module _ (w : Peering) (old new : Outside) (opened : DiskState) (listens : LinkS
         tells = tells_now;
         acknowledges = acknowledges_now;
       }
+
+      pub asked_now : FetchesAll b.d first.parts → AsksAsOffered d old new went_closed.added
+      asked_now fetches before tells steady counts =
+          subst (λ (x : Descriptor). AtEndsBut most_failed d (AsksOrHolds x (chunks_of x) (λ i. holds d new.disk.history.reads i)) went_closed.added) d_is
+          (ends_closed (AsksOrHolds b.d (chunks_of b.d) (λ i. holds d new.disk.history.reads i)) before tells
+          (e.takes.some.turns.keeps.asks fetches (mid_tells counts) (λ i. holds d new.disk.history.reads i)
+          (λ i is. held_now steady i (subst (λ (s : StoreState). is_held s i ≡ true) (sym store_same) is))))
 
       pub dialled_now : DialsAsTold d (dials_of w) old new went_closed.added
       unfolding went_closed

@@ -198,6 +198,7 @@ module _ (w : Peering) (old mid new : DiskState) (seen seen' : LinkState) (tells
     faults = let more = r.faults in omega (arith, later, more);
     hard = let more = r.hard in omega (arith, hard, more);
     buffer = r.buffer;
+    held = r.held;
   }
 
   pub prepared_since : (result : Result Ready SeedFault) → HasPrepared w mid new seen seen' result → HasPrepared w old new seen seen' result

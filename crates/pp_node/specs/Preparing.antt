@@ -14,6 +14,7 @@ use Rattle.pp_store.specs.Store.{is_committed}
 use Rattle.pp_store.specs.declared.findings.ProbeFault.{ProbeFault}
 use Rattle.pp_store.specs.declared.findings.ProbeFault.TheVariants as probes
 use Rattle.pp_peer.specs.Standing.{StandsFor}
+use Rattle.pp_core.specs.Having.{HasHeld}
 use Rattle.pp_core.specs.Keeping.{IsKeeping}
 use Rattle.pp_core.specs.Opening.{HasBegun, beginning}
 use Rattle.pp_core.specs.Peers.{PeerState}
@@ -58,6 +59,8 @@ pub record IsReady (w : Peering) (disk disk' : DiskState) (p : PeerState) (room 
   pub faults : disk.faults ≤ disk'.faults
   pub hard : disk.hard ≤ disk'.hard
   pub buffer : room ≡ 65536
+  -- what a peer that fetches has is what it holds
+  pub held : HasHeld p.parts
 
 -- When each answer comes.
 abbrev pub HasPrepared : Peering → DiskState → DiskState → LinkState → LinkState → Result Ready SeedFault → Type 0

@@ -19,7 +19,7 @@ use Rattle.pp_traffic.specs.Turns.{is_closing}
 use Rattle.pp_promises.specs.Datagrams.{IsWhole, PlansAll}
 use Rattle.pp_promises.specs.Announced.{AcknowledgesAll, TellsAll}
 use Rattle.pp_promises.specs.Answered.{LetsInBut, ChokesNone, KeepsUpBut}
-use Rattle.pp_promises.specs.Asked.{DialsBut}
+use Rattle.pp_promises.specs.Asked.{DialsBut, AsksBut}
 use Rattle.pp_promises.specs.Premises.{Devices, IsCalm, IsWilling, IsSteady, CountsTell, refusals}
 use Rattle.pp_promises.specs.Served.{ServesBut}
 use Rattle.pp_promises.specs.Stored.{StoresAll}
@@ -208,8 +208,15 @@ DialsAsTold d dial old new added = length dial ≤ 16 → old.link.nexts < new.l
     → old.link.traffic ≡ Some before → IsWilling old.disk new.disk → CountsTell (devices_of new)
     → DialsBut (refusals (devices_of old) (devices_of new)) d dial added
 
+-- While the disk, which is honest and tells, refuses nothing but readings, and every image was sound at the attachment: at the end of every turn
+-- but so many as something was refused, each chunk was asked for that a channel offers which may be asked, or is held at the end.
+abbrev pub AsksAsOffered : Descriptor → Outside → Outside → List Record → Type 0
+AsksAsOffered d old new added = (before : List Record) → old.link.traffic ≡ Some before → IsSteady d old.disk new.disk → CountsTell (devices_of new)
+    → AsksBut (refusals (devices_of old) (devices_of new)) d new.disk.history.reads added
+
 -- A run of `fetch`, which is to dial these addresses.
 pub record FetchEnds (result : ℕ) (w : PeerWords) (dial : List Address) (old new : Outside) : Type 0 where
   pub run : PeerEnds result w old new
   pub dials : DialsAsTold w.descriptor dial old new run.added
+  pub asks : AsksAsOffered w.descriptor old new run.added
   pub ends : FetchesIn run.status w old new run.added

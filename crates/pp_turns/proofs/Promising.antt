@@ -1,5 +1,5 @@
 -- What turns keep of what a peer promises, turn by turn.
-use Rattle.std.proofs.Common.{◌≡◌, ◌⊎◌, inl, inr, ⊎_elim, ℕ, zero, suc, ◌+◌, ◌-◌, ◌^◌, ◌<◌, ◌≤◌, true, false, Option, Some, List, [], ◌∷◌, ◌++◌, refl, sym, ◌∙◌, ap, subst, arith}
+use Rattle.std.proofs.Common.{◌≡◌, ◌⊎◌, inl, inr, ⊎_elim, ℕ, zero, suc, ◌+◌, ◌-◌, ◌^◌, ◌<◌, ◌≤◌, Bool, true, false, Option, Some, List, [], ◌∷◌, ◌++◌, refl, sym, ◌∙◌, ap, subst, arith}
 use Rattle.std.specs.List.{AllByRecursion, list_any}
 use Rattle.std.proofs.lemmas.Bool.{cases_lt, cond-true, cond-false, or_parts}
 use Rattle.pp_terms.specs.disk.Disk.{History}
@@ -23,6 +23,7 @@ use Rattle.pp_outside.specs.declared.link.Event.TheVariants as came
 use Rattle.pp_paths.specs.Judge.{KeepsEntries}
 use Rattle.pp_store.specs.Store.{StoreState, is_held}
 use Rattle.pp_peer.specs.Flushing.{IsOurs}
+use Rattle.pp_core.specs.Offering.{AsksOrHolds}
 use Rattle.pp_core.specs.Storing.{StoresIn}
 use Rattle.pp_turns.specs.Promising.{Ended, Came, Refused, faults_of, FailsFew}
 use Rattle.pp_turns.specs.Turning.{Post}
@@ -186,3 +187,7 @@ event_last (came.Quiet at) bytes past = refl
 -- nothing is to be acknowledged before anything came
 pub acknowledges_none : (d : Descriptor) (book : LookUp) → AcknowledgesFirst d book []
 acknowledges_none d book quiet = tt
+
+-- no channel may be asked before anything came or went
+pub asks_none : (d : Descriptor) (below : ℕ) (others : ℕ → Bool) → AsksOrHolds d below others []
+asks_none d below others life may = let began = plain_began d life [] [] may.plain in absurd (omega (arith, began))

@@ -34,6 +34,7 @@ use Rattle.pp_peer.specs.Absorbing.{with_event, Advanced}
 use Rattle.pp_peer.specs.Events.{Absorbs}
 use Rattle.pp_peer.specs.Flushing.{IsOurs, Flushes}
 use Rattle.pp_peer.specs.Standing.{Beginning, Ledger, StandsFor}
+use Rattle.pp_core.specs.Offering.{KeepsOffers}
 use Rattle.pp_core.specs.Peers.{PeerState}
 use Rattle.pp_core.specs.Keeping.{IsThere, IsKeeping}
 use Rattle.pp_core.specs.Remembering.{KeepsWrote, StaysUnchoked, KeepsTold, HasNoTicket, KeepsAcks, HasNoRepeat}
@@ -217,6 +218,8 @@ pub record Absorbed (event : Event) (bytes : List ℕ) (old new : Post) : Type 0
   pub acks : (b : Beginning) (most : ℕ) (past : List Record) → StandsFor b most old.peer.parts past → HasNoTicket old.peer.parts
       → HasNoRepeat old.peer.parts → KeepsTold b.d old.peer.parts past → (book : LookUp) → KeepsEntries (entry new.peer.parts.holding.book) book
       → KeepsAcks b.d book old.peer.parts past → KeepsAcks b.d book new.peer.parts (record_of event bytes ∷ past)
+  pub offers : (b : Beginning) (most : ℕ) (past : List Record) → StandsFor b most old.peer.parts past
+      → KeepsOffers b.d old.peer.parts past → KeepsOffers b.d new.peer.parts (record_of event bytes ∷ past)
   pub live : new.peer.parts.holding.store.live ≡ true
 
 pub turns_event : (event : Event) (bytes : List ℕ) (n : ℕ) (b : Beginning) (first old new : Post)

@@ -4,7 +4,7 @@ use Rattle.std.specs.List.{AllByRecursion, list_any}
 use Rattle.std.proofs.lemmas.List.Folds.{list_any-append}
 use Rattle.pp_terms.specs.Count.{HasRisen, HasCause, capped}
 use Rattle.pp_terms.specs.disk.Disk.{DiskState, History, moment_of}
-use Rattle.pp_terms.specs.format.Descriptor.{Descriptor}
+use Rattle.pp_terms.specs.format.Descriptor.{Descriptor, chunks_of}
 use Rattle.pp_terms.specs.format.Traffic.{LinkState, Record}
 use Rattle.pp_terms.proofs.Risings.{risen_more, risen_less}
 use Rattle.pp_terms.specs.tree.Book.{LookUp}
@@ -29,6 +29,8 @@ use Rattle.pp_peer.specs.Dialling.{undialled}
 use Rattle.pp_peer.specs.Events.{Absorbs}
 use Rattle.pp_peer.specs.Flushing.{IsOurs}
 use Rattle.pp_peer.specs.Standing.{Beginning, StandsFor}
+use Rattle.pp_store.specs.Store.{is_held}
+use Rattle.pp_core.specs.Offering.{FetchesAll, KeepsOffers, AsksOrHolds}
 use Rattle.pp_core.specs.Peers.{PeerState}
 use Rattle.pp_core.specs.Promising.{IsFoundIn, Promises}
 use Rattle.pp_core.specs.Remembering.{KeepsWrote, StaysUnchoked, KeepsTold, HasNoTicket, AwaitsAck, KeepsAcks, HasNoRepeat}
@@ -37,13 +39,14 @@ use Rattle.pp_core.specs.Turning.{scene, Sends, after_refusal}
 use Rattle.pp_core.proofs.Dialled.{misses_more}
 use Rattle.pp_core.proofs.FirstTurn.{events_few}
 use Rattle.pp_core.proofs.LatelySent.{refused_wrote}
+use Rattle.pp_core.proofs.Offered.{begun_offers, refused_offers}
 use Rattle.pp_core.proofs.Promising.{keeping_reads}
 use Rattle.pp_core.proofs.Remembered.{refused_keeps}
 use Rattle.pp_core.proofs.Unchoked.{refusal_unchokes}
 use Rattle.pp_turns.specs.Promising.{Stage, Ended, Came, Refused, faults_of, Tells, FailsFew, IsTelling, IsCalmLink, EndsAll, HasCome, Keeps, open_of, HasDialled, DialsIn, HasTurned}
 use Rattle.pp_turns.specs.Taking.{TurnsTo, TakesTurn, WaitsTo, Waits}
 use Rattle.pp_turns.specs.Turning.{Post, IsBegun, TakesTurns}
-use Rattle.pp_turns.proofs.Promising.{each_grows, fails_event, fails_refused, fails_sent, fails_sent_late, fails_none, owes_none, keeps_none, tells_none, acknowledges_none, ends_before, ends_sent, event_last, gained_some, event_open}
+use Rattle.pp_turns.proofs.Promising.{each_grows, fails_event, fails_refused, fails_sent, fails_sent_late, fails_none, owes_none, keeps_none, tells_none, acknowledges_none, asks_none, ends_before, ends_sent, event_last, gained_some, event_open}
 use Rattle.pp_turns.proofs.Steps.{Kept, Absorbed, turns_none, none_turned, turns_event, event_turned, sent_none, stops_event, turns_refused, refused_turned, turns_flushed, flushed_turned}
 
 -- ---- what was refused
@@ -120,6 +123,8 @@ turned_none b p begun = turned_as Ended 0 b p p (turns_none b p begun) [] 0 (non
       acknowledges = λ before is calm book keeps. inl (acknowledges_none b.d book, tt);
       came = tt;
       lets_in = λ before is tells. fails_none p (LetsIn b.d) refl;
+      offers = λ fetches. begun_offers b.d p.peer.parts fetches begun.held;
+      asks = λ fetches tells others contains. fails_none p (AsksOrHolds b.d (chunks_of b.d) others) (asks_none b.d (chunks_of b.d) others);
     })
     (λ telling. omega arith) (omega arith) dials
   where
@@ -170,6 +175,9 @@ turned_event event bytes n b first old new k a q =
       };
       lets_in = λ traffic is tells. fails_event first old new (LetsIn b.d) event bytes q.turns.went.added later
           (q.keeps.lets_in traffic is (told_before old new k.later disk tells));
+      offers = λ fetches. a.offers b q.turns.refused q.turns.went.added q.turns.stands (q.keeps.offers fetches);
+      asks = λ fetches tells others contains. fails_event first old new (AsksOrHolds b.d (chunks_of b.d) others) event bytes q.turns.went.added later
+          (q.keeps.asks fetches (told_before old new k.later disk tells) others (λ i is. contains i (k.advanced.advances.held i is)));
     })
     (λ telling. let lost = q.lost (before telling) in omega (arith, lost, later)) (omega arith) dials
   where
@@ -211,11 +219,13 @@ pub waits_event : (event : Event) (bytes : List ℕ) (old new : Post) (result : 
     → OnOk result ((b : Beginning) (most : ℕ) (past : List Record) → StandsFor b most old.peer.parts past → HasNoTicket old.peer.parts
     → HasNoRepeat old.peer.parts → KeepsTold b.d old.peer.parts past → (book : LookUp) → KeepsEntries (entry new.peer.parts.holding.book) book
     → KeepsAcks b.d book old.peer.parts past → KeepsAcks b.d book new.peer.parts (record_of event bytes ∷ past))
+    → OnOk result ((b : Beginning) (most : ℕ) (past : List Record) → StandsFor b most old.peer.parts past
+    → KeepsOffers b.d old.peer.parts past → KeepsOffers b.d new.peer.parts (record_of event bytes ∷ past))
     → (old.peer.parts.holding.store.live ≡ true → OnOk result (new.peer.parts.holding.store.live ≡ true))
     → (old.peer.parts.holding.store.live ≡ true → HasCause old.disk.hard new.disk.hard result) → Waits old new result
-waits_event event bytes old new (Ok u) fits dials k exact stands proves wrote unchoked told acks live cause b taken first q = inl
-    (turned_event event bytes taken b first old new k (record { fits = fits; dials = dials; exact = exact; stands = stands; proves = proves; wrote = wrote; unchoked = unchoked; told = told; acks = acks; live = live q.turns.live }) q)
-waits_event event bytes old new (Err fault) fits dials k exact stands proves wrote unchoked told acks live cause b taken first q =
+waits_event event bytes old new (Ok u) fits dials k exact stands proves wrote unchoked told acks offers live cause b taken first q = inl
+    (turned_event event bytes taken b first old new k (record { fits = fits; dials = dials; exact = exact; stands = stands; proves = proves; wrote = wrote; unchoked = unchoked; told = told; acks = acks; offers = offers; live = live q.turns.live }) q)
+waits_event event bytes old new (Err fault) fits dials k exact stands proves wrote unchoked told acks offers live cause b taken first q =
     stops_event event bytes taken b first old new k ((cause q.turns.live).risen refl) q.turns
 
 -- ---- the wait was refused
@@ -256,6 +266,11 @@ waits_refused old new u peer disk traffic nexts bound later risen stands b taken
       came = tt;
       lets_in = λ traffic is tells. fails_refused first old new (LetsIn b.d) q.turns.went.added (rises tells)
           (q.keeps.lets_in traffic is (told_before old new later (omega (arith, same)) tells));
+      offers = λ fetches. subst (λ (p : PeerState). KeepsOffers b.d p.parts q.turns.went.added) (sym peer)
+          (refused_offers b.d old.peer q.turns.went.added (q.keeps.offers fetches));
+      asks = λ fetches tells others contains. fails_refused first old new (AsksOrHolds b.d (chunks_of b.d) others) q.turns.went.added (rises tells)
+          (q.keeps.asks fetches (told_before old new later (omega (arith, same)) tells) others
+          (λ i is. contains i (subst (λ (p : PeerState). is_held p.parts.holding.store i ≡ true) (sym peer) is)));
     })
     (λ telling. let lost = q.lost (before telling) in let lt = rises telling.tells in omega (arith, lost, lt)) (omega arith) dials
     )
@@ -364,6 +379,22 @@ module _ (stage : Stage) (n : ℕ) (b : Beginning) (first old new : Post) (refus
       (subst (λ (rs : List Record). StandsFor b q.turns.refused old.peer.parts rs) came.behind q.turns.stands)
       (gained_some first.link.traffic old.link.traffic q.turns.went.added traffic q.turns.went.gained is))
 
+  offers_then : FetchesAll b.d first.peer.parts → KeepsOffers b.d new.peer.parts all
+  offers_then fetches = promises.offers b q.turns.refused q.turns.went.added q.turns.went.past q.turns.stands (q.keeps.offers fetches)
+
+  asks_now : FetchesAll b.d first.peer.parts → Tells new → (others : ℕ → Bool)
+      → ((i : ℕ) → is_held new.peer.parts.holding.store i ≡ true → others i ≡ true)
+      → AsksOrHolds b.d (chunks_of b.d) others all ⊎ (faults_of old < faults_of new)
+  asks_now fetches tells others contains = ⊎_elim
+      (λ asks. inl asks)
+      (λ risen. inr (let lt = risen tells.link in omega (arith, lt, disk)))
+      (promises.asks b q.turns.refused q.turns.went.added q.turns.went.past q.turns.stands (q.keeps.offers fetches) others contains)
+
+  -- what was held before is held
+  held_then : (i : ℕ) → is_held old.peer.parts.holding.store i ≡ true → is_held new.peer.parts.holding.store i ≡ true
+  held_then i is = subst (λ (p : Parts). is_held p.holding.store i ≡ true) (sym course.rest)
+      (subst (λ (h : HoldingState). is_held h.store i ≡ true) (sym course.flushes.holding) is)
+
   unchoked : (traffic : List Record) → first.link.traffic ≡ Some traffic → StaysUnchoked b.d new.peer.parts all
   unchoked traffic is = promises.unchoked b q.turns.refused q.turns.went.added (q.turns.went.added ++ traffic) q.turns.stands
       (gained_some first.link.traffic old.link.traffic q.turns.went.added traffic q.turns.went.gained is) (q.keeps.unchoked traffic is)
@@ -456,8 +487,11 @@ abbrev sent_as : (stage : Stage) (n : ℕ) (b : Beginning) (first old new : Post
     → EndsAll Ended (TellsOfHeld b.d h) (course.flushes.added ++ q.turns.went.added))
     → ((traffic : List Record) → first.link.traffic ≡ Some traffic → IsCalmLink first new → (book : LookUp)
     → KeepsEntries (entry new.peer.parts.holding.book) book → EndsAll Ended (AcknowledgesFirst b.d book) (course.flushes.added ++ q.turns.went.added))
+    → (FetchesAll b.d first.peer.parts → Tells new → (others : ℕ → Bool)
+    → ((i : ℕ) → is_held new.peer.parts.holding.store i ≡ true → others i ≡ true)
+    → FailsFew Ended first new (AsksOrHolds b.d (chunks_of b.d) others) (course.flushes.added ++ q.turns.went.added))
     → 0 < open_of stage → open_of stage ≡ 1 → HasTurned Ended b n first new
-sent_as stage n b first old new refused course promises q serves keeps_up lets_in tells acknowledges some one =
+sent_as stage n b first old new refused course promises q serves keeps_up lets_in tells acknowledges asks some one =
     turned_as Ended n b first new (turns_flushed n b first old new refused course q.turns) (course.flushes.added ++ q.turns.went.added)
     (q.turns.refused + refused) (flushed_turned n b first old new refused course q.turns)
     (record {
@@ -474,6 +508,8 @@ sent_as stage n b first old new refused course promises q serves keeps_up lets_i
       acknowledges = acknowledges;
       came = tt;
       lets_in = lets_in;
+      offers = offers_then stage n b first old new refused course promises q;
+      asks = asks;
     })
     (lost stage n b first old new refused course promises q) (omega arith) (dials_on stage n b first old new refused course promises q some one)
 
@@ -503,7 +539,13 @@ turned_sent n b first old new refused course promises q =
     course.flushes.added q.turns.went.added course.flushes.ours
     (acknowledges_now Came n b first old new refused course promises q traffic is calm q.keeps.came book keeps)
     (q.keeps.acknowledges traffic is (calm_before first old new course.flushes.later calm) book
-    (entries_then Came n b first old new refused course promises q book keeps))) (omega arith) refl
+    (entries_then Came n b first old new refused course promises q book keeps)))
+    (λ fetches tells others contains. fails_sent first old new (AsksOrHolds b.d (chunks_of b.d) others) old.peer.parts.seats.descriptor
+    (moment_of old.disk.history) course.flushes.added q.turns.went.added course.flushes.ours
+    (later Came n b first old new refused course promises q)
+    (asks_now Came n b first old new refused course promises q fetches tells others contains)
+    (q.keeps.asks fetches (told Came n b first old new refused course promises q tells) others
+    (λ i is. contains i (held_then Came n b first old new refused course promises q i is)))) (omega arith) refl
 
 pub turned_late : (n : ℕ) (b : Beginning) (first old new : Post) (refused : ℕ)
     → (course : Sends refused old.peer new.peer old.link new.link old.disk new.disk)
@@ -523,7 +565,12 @@ turned_late n b first old new refused course promises q =
     (q.keeps.lets_in traffic is (told Refused n b first old new refused course promises q tells)))
     (λ traffic is calm h found. absurd (q.keeps.tells traffic is (calm_before first old new course.flushes.later calm) h found))
     (λ traffic is calm book keeps. absurd (q.keeps.acknowledges traffic is (calm_before first old new course.flushes.later calm) book
-    (entries_then Refused n b first old new refused course promises q book keeps))) (omega arith) refl
+    (entries_then Refused n b first old new refused course promises q book keeps)))
+    (λ fetches tells others contains. fails_sent_late first old new (AsksOrHolds b.d (chunks_of b.d) others) old.peer.parts.seats.descriptor
+    (moment_of old.disk.history) course.flushes.added q.turns.went.added course.flushes.ours
+    (later Refused n b first old new refused course promises q)
+    (q.keeps.asks fetches (told Refused n b first old new refused course promises q tells) others
+    (λ i is. contains i (held_then Refused n b first old new refused course promises q i is)))) (omega arith) refl
 
 -- a turn: the wait, and then what is due
 pub turn_whole : (old mid new : Post) (refused : ℕ) (u v : Unit {0}) → Waits old mid (Ok u)

@@ -1,8 +1,9 @@
 -- What the turns of a peer keep of what it promises: at the end of each turn but of those in which something was refused.
-use Rattle.std.specs.Prelude.{◌≡◌, ℕ, ◌+◌, ◌-◌, ◌^◌, ◌<◌, ◌≤◌, zero, suc, false, map, length, Some, List, [], ◌∷◌, ◌++◌}
+use Rattle.std.specs.Prelude.{◌≡◌, ℕ, ◌+◌, ◌-◌, ◌^◌, ◌<◌, ◌≤◌, zero, suc, Bool, true, false, map, length, Some, List, [], ◌∷◌, ◌++◌}
 use Rattle.std.specs.List.{list_any}
 use Rattle.pp_terms.specs.Count.{HasRisen}
 use Rattle.pp_terms.specs.disk.Disk.{History}
+use Rattle.pp_terms.specs.format.Descriptor.{chunks_of}
 use Rattle.pp_terms.specs.format.Traffic.{Record}
 use Rattle.pp_traffic.specs.Meter.{lets_send}
 use Rattle.pp_traffic.specs.Past.{EachRecord}
@@ -21,7 +22,9 @@ use Rattle.pp_peer.specs.declared.parts.Parts.{Parts}
 use Rattle.pp_peer.specs.Dialling.{undialled}
 use Rattle.pp_peer.specs.Events.{Absorbs}
 use Rattle.pp_peer.specs.Standing.{Beginning, StandsFor}
+use Rattle.pp_store.specs.Store.{is_held}
 use Rattle.pp_core.specs.Keeping.{IsKeeping}
+use Rattle.pp_core.specs.Offering.{FetchesAll, KeepsOffers, AsksOrHolds}
 use Rattle.pp_core.specs.Promising.{IsFoundIn, MissesFew}
 use Rattle.pp_core.specs.Remembering.{KeepsWrote, StaysUnchoked, KeepsTold, HasNoTicket, KeepsAcks, HasNoRepeat}
 use Rattle.pp_core.specs.Storing.{StoresIn}
@@ -109,7 +112,8 @@ CameAt Refused b new added = Unit {0}
 -- Chunks that come on a plain channel and are proved by what its peer claims are held. No channel was closed, as far as the link tells. Of the channels that may be served none is left more
 -- chunks that it was told of, and asked for, than something was refused. And on each plain channel a
 -- datagram went lately, the newcomer of a turn was let in, and nobody is choked while there are slots; and while the link refuses nothing, what
--- is held was told of, and what came first was acknowledged once nothing came.
+-- is held was told of, and what came first was acknowledged once nothing came. A peer that asks for all that it lacks asked on each channel
+-- that may be asked for each chunk that it offers, but for what is held, and maybe others.
 pub record Keeps (stage : Stage) (b : Beginning) (first new : Post) (added : List Record) : Type 0 where
   pub stores : EachRecord (StoresIn b.d (entry new.peer.parts.holding.book) new.peer.parts.holding.store) added
   pub closes_none : (before : List Record) → first.link.traffic ≡ Some before → list_any (is_closing b.d) added ≡ false
@@ -130,6 +134,11 @@ pub record Keeps (stage : Stage) (b : Beginning) (first new : Post) (added : Lis
       → KeepsEntries (entry new.peer.parts.holding.book) book → EndsAll stage (AcknowledgesFirst b.d book) added
   pub came : CameAt stage b new added
   pub lets_in : (before : List Record) → first.link.traffic ≡ Some before → Tells new → FailsFew stage first new (LetsIn b.d) added
+  -- what others offer to a peer that asks for all that it lacks
+  pub offers : FetchesAll b.d first.peer.parts → KeepsOffers b.d new.peer.parts added
+  pub asks : FetchesAll b.d first.peer.parts → Tells new → (others : ℕ → Bool)
+      → ((i : ℕ) → is_held new.peer.parts.holding.store i ≡ true → others i ≡ true)
+      → FailsFew stage first new (AsksOrHolds b.d (chunks_of b.d) others) added
 
 -- ---- whom it dials
 

@@ -15,6 +15,7 @@ use Rattle.pp_holding.specs.Holding.{stock_of}
 use Rattle.pp_holding.specs.Stock.{Stock, Advances}
 use Rattle.pp_peer.specs.Standing.{Beginning, Ledger, StandsFor}
 use Rattle.pp_core.specs.Peers.{PeerState}
+use Rattle.pp_core.specs.Having.{HasHeld}
 use Rattle.pp_core.specs.Keeping.{IsKeeping}
 use Rattle.pp_core.specs.Remembering.{KeepsWrote, StaysUnchoked, KeepsTold, HasNoTicket, KeepsAcks, HasNoRepeat}
 use Rattle.pp_core.specs.Turning.{Closes}
@@ -43,6 +44,7 @@ pub record IsBegun (b : Beginning) (p : Post) : Type 0 where
   pub taken : HasNoTicket p.peer.parts
   pub unrepeated : HasNoRepeat p.peer.parts
   pub acks : (book : LookUp) → KeepsAcks b.d book p.peer.parts []
+  pub held : HasHeld p.peer.parts
 
 -- In so many turns of a peer that had begun the link gained these records, whatever ended the turns. Nothing that was held is lost,
 -- what was announced stands on the disk where the peer kept its disk, and what was sent stands in the ledger.

@@ -13,6 +13,7 @@ returns-in-Ok-open-clause-opened g c = record {
   faults = c.open.ensures.disk.faults;
   hard = c.open.ensures.disk.hard;
   buffer = c.in-Ok.ensures;
+  held = c.in-Ok-open.ensures.had;
 }
 
 pub returns-in_default-clause-lasts : goal.returns-in_default-clause-lasts

@@ -3,7 +3,7 @@ use Rattle.std.proofs.lemmas.Result.{err_from_is_err_and}
 use Rattle.pp_outside.specs.declared.disk.DiskFault.{DiskFault}
 use Rattle.pp_turns.specs.Taking.{TurnsEnd}
 use Rattle.pp_turns.specs.Turning.{Post, post}
-use Rattle.pp_turns.proofs.Loops.{taken_none, taken_more, taken_stops, taken_all}
+use Rattle.pp_turns.proofs.Loops.{taken_none, taken_more, taken_stops, taken_early, taken_all}
 use Rattle.pp_turns.proofs.turning.take_turns.Goals as goal
 
 pub loop-taken-init : goal.loop-taken-init
@@ -16,6 +16,12 @@ loop-taken-preserved g c =
     (post c.loop-taken.peer (g.D.Disk.state c.loop-taken.disk) (g.L.Link.seen c.loop-taken.link)) (length c.loop-taken.buffer) c.loop-taken.invariant
     (post c.take_turn.new.peer (g.D.Disk.state c.take_turn.new.disk) (g.L.Link.seen c.take_turn.new.link)) (length c.take_turn.new.buffer)
     c.loop-taken-test.true c.if-is_done.ensures c.in_ok-take_turn.ensures c.take_turn.auto.buffer
+
+pub returns-then-is_done : goal.returns-then-is_done
+returns-then-is_done g c =
+    taken_early c.loop-taken.taken c.args.turns c.args.fetches (post c.args.peer.now (g.D.Disk.state c.args.disk.now) (g.L.Link.seen c.args.link.now))
+    (post c.loop-taken.peer (g.D.Disk.state c.loop-taken.disk) (g.L.Link.seen c.loop-taken.link)) (length c.loop-taken.buffer) c.loop-taken.invariant
+    c.if-is_done.ensures
 
 pub returns : goal.returns
 returns g c =

@@ -21,7 +21,7 @@ returns-in-Ok g c =
       ledger = c.absorb.ensures.ledger;
       keeps = c.absorb.ensures.keeps;
     }) c.absorb.ensures.exact c.absorb.ensures.stands c.absorb.ensures.proves c.absorb.ensures.wrote c.absorb.ensures.unchoked
-    c.absorb.ensures.told c.absorb.ensures.acks c.absorb.ensures.live c.absorb.ensures.cause
+    c.absorb.ensures.told c.absorb.ensures.acks c.absorb.ensures.offers c.absorb.ensures.live c.absorb.ensures.cause
 
 pub returns-in-Err : goal.returns-in-Err
 returns-in-Err g c =

@@ -8,6 +8,7 @@ use Rattle.pp_core.proofs.Keeping.{kept_on, kept_event, on_ok_both}
 use Rattle.pp_core.proofs.Listing.{lists_requests}
 use Rattle.pp_core.proofs.Firsts.{absorb_acks}
 use Rattle.pp_core.proofs.LatelySent.{awaits_number}
+use Rattle.pp_core.proofs.Offered.{absorbs_offers}
 use Rattle.pp_core.proofs.Remembered.{absorb_keeps}
 use Rattle.pp_core.proofs.Steadily.{promised}
 use Rattle.pp_core.proofs.Storing.{stores_what_fits}
@@ -42,6 +43,11 @@ returns-clause-reads g c = rw (← c.self.view_is) (λ since past k. on_ok_weake
 pub returns-clause-had : goal.returns-clause-had
 returns-clause-had g c = rw (← c.self.view_is) (on_ok_weaker c.absorb.result
     (λ a h. absorbs_held c.args.event.now c.args.bytes.now c.self.inside.parts c.absorb.new.self a h) c.absorb.ensures.exact)
+
+pub returns-clause-offers : goal.returns-clause-offers
+returns-clause-offers g c = rw (← c.self.view_is) (on_ok_weaker c.absorb.result
+    (λ absorbs b most past stands keeps. absorbs_offers b most past c.self.inside.parts c.absorb.new.self stands c.self.invariant
+    c.args.event.now c.args.bytes.now c.requires absorbs keeps) c.absorb.ensures.exact)
 
 pub returns-clause-proves : goal.returns-clause-proves
 returns-clause-proves g c = rw (← c.self.view_is) (on_ok_weaker c.absorb.result

@@ -26,7 +26,7 @@ returns-clause-exact g c = rw (← c.self.view_is) (
       course,
       flush_promises c.flush.result old new
           (g.L.Link.seen c.args.link.now) (g.L.Link.seen c.flush.new.link) (g.D.Disk.state c.args.disk.now) (g.D.Disk.state c.flush.new.disk)
-          course c.store.ensures.tied.waits.committed_size
+          course c.store.ensures.tied.waits
           (let range = c.chunk.ensures.range.0 in
           let is = c.chunk.ensures.chunk ∙ ap (λ (d : Descriptor). d.chunk) swarm in
           omega (arith, range, is)),
