@@ -3,7 +3,7 @@ use crate::{take_turn, take_turns};
 use arrayvec::ArrayVec;
 use pp_avail::Rank;
 use pp_core::Peer;
-use pp_outside::{Event, MemoryDisk, MemoryLink, MemorySource};
+use pp_outside::{Call, Event, MemoryDisk, MemoryLink, MemorySource};
 use pp_store::import;
 use std::alloc::Global;
 use std::test::*;
@@ -60,26 +60,80 @@ impl Side {
     }
 }
 
+// What was counted.
+#[derive(Clone, Copy, Debug, PartialEq)]
+struct Counted {
+    turns: u64,
+    refused_waits: u64,
+}
+
+impl Side {
+    fn counted(&self) -> Counted {
+        let counts = self.peer.counts();
+        Counted {
+            turns: counts.turns,
+            refused_waits: counts.receive_faults,
+        }
+    }
+
+    // Nothing is to come twice.
+    fn expects_nothing_twice(&mut self) -> bool {
+        self.link.add(Event::Quiet { at: 100_000 }, &[]).is_ok()
+            && self.link.add(Event::Quiet { at: 200_000 }, &[]).is_ok()
+    }
+
+    // What is counted after two quiet turns, and after one more, whose wait the link refuses.
+    fn waits(&mut self) -> Option<[Counted; 2]> {
+        if !(self.expects_nothing_twice() && self.turn() && self.turns(1, false)) {
+            return None;
+        }
+        let quiet = self.counted();
+        self.link.fail_next(Call::Next);
+        if !self.turns(1, false) {
+            return None;
+        }
+        Some([quiet, self.counted()])
+    }
+
+    // What is counted where it fetches what it has.
+    fn fetches(&mut self) -> Option<Counted> {
+        if !self.turns(5, true) {
+            return None;
+        }
+        Some(self.counted())
+    }
+}
+
+fn waiting(alloc: Global) -> Result<Option<[Counted; 2]>, Fail> {
+    let mut side = Side::open(alloc, None)?;
+    Ok(side.waits())
+}
+
+fn fetching(alloc: Global) -> Result<Option<Counted>, Fail> {
+    let mut side = Side::open(alloc, Some(Rank::Sequential))?;
+    Ok(side.fetches())
+}
+
 #[test]
 fn each_turn_waits_once(rt: HostRuntime) -> Result<(), Fail> {
-    let mut side = Side::open(rt.alloc(), None)?;
-    assert!(rt; side.link.add(Event::Quiet { at: 100_000 }, &[]).is_ok());
-    assert!(rt; side.link.add(Event::Quiet { at: 200_000 }, &[]).is_ok());
-    assert!(rt; side.turn());
-    assert!(rt; side.turns(1, false));
-    assert_eq!(rt; side.peer.counts().turns, 2);
-    assert_eq!(rt; side.peer.counts().receive_faults, 0);
-    // nothing is left to come, and a wait that is refused is a turn too
-    assert!(rt; side.turns(1, false));
-    assert_eq!(rt; side.peer.counts().turns, 3);
-    assert_eq!(rt; side.peer.counts().receive_faults, 1);
+    let quiet = Counted {
+        turns: 2,
+        refused_waits: 0,
+    };
+    let refused = Counted {
+        turns: 3,
+        refused_waits: 1,
+    };
+    assert_eq!(rt; waiting(rt.alloc())?, Some([quiet, refused]));
     Ok(())
 }
 
 #[test]
 fn a_fetch_that_has_all_takes_no_turn(rt: HostRuntime) -> Result<(), Fail> {
-    let mut side = Side::open(rt.alloc(), Some(Rank::Sequential))?;
-    assert!(rt; side.turns(5, true));
-    assert_eq!(rt; side.peer.counts().turns, 0);
+    let counted = Counted {
+        turns: 0,
+        refused_waits: 0,
+    };
+    assert_eq!(rt; fetching(rt.alloc())?, Some(counted));
     Ok(())
 }
