@@ -14,20 +14,20 @@ use Rattle.pp_traffic.specs.Plain.{IsPlainNow, IsPlainUpTo}
 use Rattle.pp_traffic.specs.Story.{story}
 use Rattle.pp_promises.specs.Announced.{is_data, came_in, is_acknowledged, IsFirst, AcknowledgesFirst}
 use Rattle.pp_promises.specs.LastTurn.{last_event, earlier, is_quiet}
-use Rattle.pp_audit.specs.declared.entry.Entry.{Entry}
+use Rattle.pp_recorded.specs.declared.entry.Entry.{Entry}
 use Rattle.pp_audit.specs.Acknowledgements.{is_excused, is_acked, acks_on, acks_newest, acks_each, acknowledges}
 use Rattle.pp_audit.specs.Channels.{each_plain}
-use Rattle.pp_audit.specs.Contradictions.{contradicts}
+use Rattle.pp_recorded.specs.Contradictions.{contradicts}
 use Rattle.pp_audit.specs.Digests.{is_long, AllAreLong}
-use Rattle.pp_audit.specs.PlainTests.{is_plain_newest}
-use Rattle.pp_audit.specs.Provings.{proves}
+use Rattle.pp_recorded.specs.PlainTests.{is_plain_newest}
+use Rattle.pp_recorded.specs.Provings.{proves}
 use Rattle.pp_audit.specs.Storings.{known_behind, each_stored}
 use Rattle.pp_audit.proofs.ChannelSearch.{search_finds_all}
-use Rattle.pp_audit.proofs.Contradicting.{contradicts_is_tested}
+use Rattle.pp_recorded.proofs.Contradicting.{contradicts_is_tested}
 use Rattle.pp_audit.proofs.LongHashes.{known_digests}
-use Rattle.pp_audit.proofs.Pasts.{first, one_more, entry_at}
-use Rattle.pp_audit.proofs.PlainParts.{plain_is_tested}
-use Rattle.pp_audit.proofs.Provings.{proves_is_tested}
+use Rattle.pp_recorded.proofs.Pasts.{first, one_more, entry_at}
+use Rattle.pp_recorded.proofs.PlainParts.{plain_is_tested}
+use Rattle.pp_recorded.proofs.Provings.{proves_is_tested}
 use Rattle.pp_audit.proofs.StoredTests.{known_is}
 use Rattle.pp_audit.proofs.Storings.{one_of_each, each_of_one}
 

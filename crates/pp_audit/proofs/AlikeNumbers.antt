@@ -15,10 +15,10 @@ use Rattle.pp_promises.specs.OwnSide.{has_in}
 use Rattle.pp_promises.specs.Served.{is_announced, asked_after_heard, asked_after_said, owed_after, is_owed}
 use Rattle.pp_promises.specs.Announced.{is_told_of}
 use Rattle.pp_traffic.specs.Past.{bytes_of}
-use Rattle.pp_audit.specs.declared.entry.Entry.{Entry}
-use Rattle.pp_audit.specs.Entries.{record_of}
-use Rattle.pp_audit.specs.Parts.{all}
-use Rattle.pp_audit.proofs.Pasts.{first, one_more}
+use Rattle.pp_recorded.specs.declared.entry.Entry.{Entry}
+use Rattle.pp_recorded.specs.Entries.{record_of}
+use Rattle.pp_recorded.specs.Parts.{all}
+use Rattle.pp_recorded.proofs.Pasts.{first, one_more}
 use Rattle.pp_audit.specs.Alike.{IsAlike, AreAlikeIn, AreAlike}
 
 -- ---- what is so of the messages of a record is so of those that a channel heard or said

@@ -14,7 +14,7 @@ use Rattle.pp_traffic.specs.Plain.{IsPlainNow}
 use Rattle.pp_promises.specs.OwnSide.{is_choked_by_peer, is_offered, has_old_request, most_outstanding}
 use Rattle.pp_promises.specs.Asked.{named_count, asks_for, MayBeAsked, AsksOffered}
 use Rattle.pp_audit.specs.Channels.{each_plain}
-use Rattle.pp_audit.specs.Offers.{may_be_asked, is_asked_for, asks_offered}
+use Rattle.pp_recorded.specs.Offers.{may_be_asked, is_asked_for, asks_offered}
 use Rattle.pp_audit.proofs.ChannelSearch.{search_finds_all}
 
 -- which chunks of the content are held

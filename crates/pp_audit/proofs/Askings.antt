@@ -10,10 +10,10 @@ use Rattle.pp_traffic.specs.Life.{Life}
 use Rattle.pp_traffic.specs.Story.{Line, Heard, Said, hear, say, heard_in, said_in, told, story}
 use Rattle.pp_traffic.specs.Asking.{asks, asks_in}
 use Rattle.pp_traffic.proofs.OneMore.{before_opening}
-use Rattle.pp_audit.specs.declared.entry.Entry.{Entry}
-use Rattle.pp_audit.specs.Entries.{record_of}
+use Rattle.pp_recorded.specs.declared.entry.Entry.{Entry}
+use Rattle.pp_recorded.specs.Entries.{record_of}
 use Rattle.pp_audit.specs.Asks.{asks_by, asks_at}
-use Rattle.pp_audit.proofs.Pasts.{first, one_more, length_first}
+use Rattle.pp_recorded.proofs.Pasts.{first, one_more, length_first}
 
 one_heard : (b : Bool) (n more : ℕ) → cond b (n + 1) n + more ≡ n + (cond b 1 0 + more)
 one_heard true n more = omega arith

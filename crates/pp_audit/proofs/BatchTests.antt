@@ -6,7 +6,7 @@ use Rattle.std.proofs.Math.Bool.{beq}
 use Rattle.std.specs.List.{list_any, list_all, range_with_len}
 use Rattle.std.proofs.lemmas.Bool.{lt-leb, eq-eqb, ne_eqb, cases_eq, and_parts, and_from}
 use Rattle.pp_promises.specs.Batches.{Pending, Batch, is_same, is_among, most_pending, longest_wait, is_in, is_late, is_full, is_due, with_puts, with_all_pending, CommitsInTime}
-use Rattle.pp_audit.proofs.Sayings.{swap}
+use Rattle.pp_recorded.proofs.Sayings.{swap}
 use Rattle.pp_audit.specs.Batches as tests
 
 abbrev put : ℕ → ℕ → Pending

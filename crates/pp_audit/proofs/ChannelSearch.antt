@@ -13,11 +13,11 @@ use Rattle.pp_traffic.specs.Places.{StandsFrom, StandsAt}
 use Rattle.pp_traffic.specs.Plain.{greets_once, IsPlainAnswer, IsPlainDial, IsPlainNow, IsPlainUpTo}
 use Rattle.pp_traffic.proofs.Standing.{found_at, found_since}
 use Rattle.pp_traffic.proofs.Plains.{first_some}
-use Rattle.pp_audit.specs.Parts.{first_shake}
-use Rattle.pp_audit.specs.PlainTests.{is_plain, is_plain_newest}
+use Rattle.pp_recorded.specs.Parts.{first_shake}
+use Rattle.pp_recorded.specs.PlainTests.{is_plain, is_plain_newest}
 use Rattle.pp_audit.specs.Channels.{answered_at, dialled_at, opened_by, replied_by, passes_reply, passes_replies, passes_opening, passes_openings, SearchFindsAll, NewestFindsAll}
-use Rattle.pp_audit.proofs.Shakes.{begins_as_shake, begins_fitting_shake}
-use Rattle.pp_audit.proofs.PlainParts.{plain_is_tested}
+use Rattle.pp_recorded.proofs.Shakes.{begins_as_shake, begins_fitting_shake}
+use Rattle.pp_recorded.proofs.PlainParts.{plain_is_tested}
 use Rattle.pp_terms.proofs.Addressed.{same_is}
 
 -- ---- what a handshake names

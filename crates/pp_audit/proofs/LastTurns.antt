@@ -11,10 +11,10 @@ use Rattle.pp_traffic.specs.Prompt.{lets_in}
 use Rattle.pp_promises.specs.Answered.{is_newcomer, is_let_in}
 use Rattle.pp_audit.specs.Clauses.{lets_in_last}
 use Rattle.pp_promises.specs.LastTurn.{last_event, sent_since, earlier}
-use Rattle.pp_audit.specs.declared.entry.Entry.{Entry}
-use Rattle.pp_audit.specs.Entries.{record_of, past}
+use Rattle.pp_recorded.specs.declared.entry.Entry.{Entry}
+use Rattle.pp_recorded.specs.Entries.{record_of, past}
 use Rattle.pp_audit.specs.Ends.{turn_start}
-use Rattle.pp_audit.proofs.Pasts.{first, one_more, length_first, length_past}
+use Rattle.pp_recorded.proofs.Pasts.{first, one_more, length_first, length_past}
 
 -- ---- before the first event
 

@@ -13,7 +13,7 @@ use Rattle.pp_traffic.specs.Claims.{named, with_claim, with_claims_of}
 use Rattle.pp_traffic.specs.Life.{Life}
 use Rattle.pp_traffic.specs.Past.{read}
 use Rattle.pp_promises.specs.ReadStory.{is_read}
-use Rattle.pp_audit.specs.Claims.{claims_after, is_proven, proven_claims}
+use Rattle.pp_recorded.specs.Claims.{claims_after, is_proven, proven_claims}
 use Rattle.pp_audit.specs.Digests.{is_long, has_digest, AllAreLong}
 use Rattle.pp_audit.specs.Storings.{known_behind}
 

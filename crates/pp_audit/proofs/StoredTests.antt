@@ -15,19 +15,19 @@ use Rattle.pp_traffic.specs.Past.{now, read}
 use Rattle.pp_traffic.specs.Plain.{IsPlainUpTo}
 use Rattle.pp_promises.specs.Stored.{claimed_before, met_before, BringsChunk, StoresAll}
 use Rattle.pp_audit.specs.Channels.{passes_openings}
-use Rattle.pp_audit.specs.Contradictions.{contradicts}
+use Rattle.pp_recorded.specs.Contradictions.{contradicts}
 use Rattle.pp_audit.specs.Digests.{is_long, AllAreLong}
-use Rattle.pp_audit.specs.PlainTests.{is_plain_newest}
-use Rattle.pp_audit.specs.Provings.{proves}
+use Rattle.pp_recorded.specs.PlainTests.{is_plain_newest}
+use Rattle.pp_recorded.specs.Provings.{proves}
 use Rattle.pp_audit.specs.Stored.{stores_all}
 use Rattle.pp_audit.specs.Storings.{known_behind, is_stored, each_stored, stores_on, stores_newest}
-use Rattle.pp_audit.specs.declared.entry.Entry.{Entry}
-use Rattle.pp_audit.proofs.Pasts.{first, one_more, entry_at}
+use Rattle.pp_recorded.specs.declared.entry.Entry.{Entry}
+use Rattle.pp_recorded.proofs.Pasts.{first, one_more, entry_at}
 use Rattle.pp_audit.proofs.ChannelSearch.{newest_finds_all}
-use Rattle.pp_audit.proofs.Claimings.{claimed_is}
-use Rattle.pp_audit.proofs.Contradicting.{contradicts_is_tested}
+use Rattle.pp_recorded.proofs.Claimings.{claimed_is}
+use Rattle.pp_recorded.proofs.Contradicting.{contradicts_is_tested}
 use Rattle.pp_audit.proofs.LongHashes.{known_digests}
-use Rattle.pp_audit.proofs.Provings.{proves_is_tested}
+use Rattle.pp_recorded.proofs.Provings.{proves_is_tested}
 use Rattle.pp_audit.proofs.Storings.{one_of_each, each_of_one}
 
 -- what is known there, both ways

@@ -10,9 +10,9 @@ use Rattle.pp_traffic.specs.Past.{read}
 use Rattle.pp_traffic.specs.Story.{story}
 use Rattle.pp_promises.specs.Announced.{is_data, came_in, is_acknowledged}
 use Rattle.pp_promises.specs.LastTurn.{last_event, earlier, is_quiet}
-use Rattle.pp_audit.specs.Contradictions.{contradicts}
-use Rattle.pp_audit.specs.PlainTests.{is_plain_newest}
-use Rattle.pp_audit.specs.Provings.{proves}
+use Rattle.pp_recorded.specs.Contradictions.{contradicts}
+use Rattle.pp_recorded.specs.PlainTests.{is_plain_newest}
+use Rattle.pp_recorded.specs.Provings.{proves}
 use Rattle.pp_audit.specs.Storings.{known_behind, each_stored}
 
 -- a chunk isn't proved, contradicts the book, or came before

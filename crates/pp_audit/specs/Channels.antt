@@ -7,8 +7,8 @@ use Rattle.pp_terms.specs.format.Descriptor.{Descriptor}
 use Rattle.pp_traffic.specs.Past.{read}
 use Rattle.pp_traffic.specs.Life.{Life}
 use Rattle.pp_traffic.specs.Plain.{IsPlainNow, IsPlainUpTo}
-use Rattle.pp_audit.specs.Parts.{first_shake}
-use Rattle.pp_audit.specs.PlainTests.{is_plain, is_plain_newest}
+use Rattle.pp_recorded.specs.Parts.{first_shake}
+use Rattle.pp_recorded.specs.PlainTests.{is_plain, is_plain_newest}
 
 -- the channel that a handshake opens at a place, before its reply: it came, or was sent
 abbrev pub answered_at : Address → ℕ → ℕ → Life

@@ -11,8 +11,8 @@ use Rattle.pp_audit.specs.Acknowledgements.{acknowledges}
 use Rattle.pp_audit.specs.Asks.{may_be_served}
 use Rattle.pp_audit.specs.Debts.{leaves_few}
 use Rattle.pp_audit.specs.declared.debts.Debt.TheVariants as debts
-use Rattle.pp_audit.specs.Offers.{may_be_asked, asks_offered}
-use Rattle.pp_audit.specs.PlainTests.{is_plain, is_plain_newest}
+use Rattle.pp_recorded.specs.Offers.{may_be_asked, asks_offered}
+use Rattle.pp_recorded.specs.PlainTests.{is_plain, is_plain_newest}
 use Rattle.pp_audit.specs.Storings.{stores_newest}
 use Rattle.pp_tree.specs.Book.{entry}
 use Rattle.pp_audit.specs.declared.duties.Duty.{Duty}

@@ -4,7 +4,7 @@ use Rattle.pp_terms.specs.format.Descriptor.{Descriptor}
 use Rattle.pp_terms.specs.format.Traffic.{Record}
 use Rattle.pp_terms.specs.tree.Book.{LookUp}
 use Rattle.pp_audit.specs.Channels.{passes_openings}
-use Rattle.pp_audit.specs.PlainTests.{is_plain_newest}
+use Rattle.pp_recorded.specs.PlainTests.{is_plain_newest}
 use Rattle.pp_audit.specs.Storings.{stores_newest}
 
 -- on each channel that is plain up to the newest record; and of the records before it

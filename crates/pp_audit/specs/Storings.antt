@@ -8,9 +8,9 @@ use Rattle.pp_terms.specs.tree.Claims.{latest}
 use Rattle.pp_traffic.specs.Life.{Life, comes_on}
 use Rattle.pp_traffic.specs.Past.{read}
 use Rattle.pp_promises.specs.Answered.{is_of}
-use Rattle.pp_audit.specs.Claims.{claims_after, proven_claims}
-use Rattle.pp_audit.specs.Contradictions.{contradicts}
-use Rattle.pp_audit.specs.Provings.{proves}
+use Rattle.pp_recorded.specs.Claims.{claims_after, proven_claims}
+use Rattle.pp_recorded.specs.Contradictions.{contradicts}
+use Rattle.pp_recorded.specs.Provings.{proves}
 
 -- what the peer of a channel claims behind the first messages of a newer datagram
 abbrev pub known_behind : Descriptor → Life → List Record → List Message → LookUp

@@ -6,29 +6,29 @@ ghost use Rattle.pp_promises.specs.Announced as announced;
 ghost use Rattle.pp_promises.specs.LastTurn.{last_event, is_quiet};
 ghost use Rattle.pp_tree.specs.Book.{entry};
 ghost use Rattle.pp_wire.specs.Views.{message_of};
-ghost use Rattle.pp_audit.specs.Claims.{known_of};
-ghost use Rattle.pp_audit.specs.Entries.{past, life_of, record_of};
-ghost use Rattle.pp_audit.specs.Parts.{all};
+ghost use Rattle.pp_recorded.specs.Claims.{known_of};
+ghost use Rattle.pp_recorded.specs.Entries.{past, life_of, record_of};
+ghost use Rattle.pp_recorded.specs.Parts.{all};
 ghost use Rattle.pp_audit.specs.Storings.{known_behind, each_stored};
 ghost use Rattle.pp_audit.specs.Acknowledgements as terms;
 
-use crate::claims::Claims;
-use crate::contradictions::contradicts;
-use crate::entry::{Entry, Life, bytes_of};
-use crate::marks::{Mark, some_marked};
-use crate::plain::is_plain_newest;
-use crate::proving::proves;
-use crate::reading::{first_place, is_from, message_at};
-use crate::records::comes_on;
-use crate::said::has_said;
-use crate::sorts::{Sort, has_sort_in_front};
 use crate::turns::earlier;
 use pp_options::Options;
+use pp_recorded::claims::Claims;
+use pp_recorded::contradictions::contradicts;
+use pp_recorded::entry::{Entry, Life, bytes_of};
+use pp_recorded::marks::{Mark, some_marked};
+use pp_recorded::plain::is_plain_newest;
+use pp_recorded::proving::proves;
+use pp_recorded::reading::{first_place, is_from, message_at};
+use pp_recorded::records::comes_on;
+use pp_recorded::said::has_said;
+use pp_recorded::sorts::{Sort, has_sort_in_front};
 use pp_tree::{Book, Descriptor};
 use pp_wire::{Message, Span};
 
 // Whether an ACK of the chunk was sent on the channel.
-#[tactic(auto, using(crate::proofs::Sayings::acknowledged_said))]
+#[tactic(auto, using(pp_recorded::proofs::Sayings::acknowledged_said))]
 fn is_acknowledged<'m>(
     descriptor: &Descriptor,
     life: Life,

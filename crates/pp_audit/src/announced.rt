@@ -5,13 +5,13 @@ ghost use Rattle.pp_terms.specs.disk.Disk.{History};
 ghost use Rattle.pp_traffic.specs.Keeping.{StoodThroughout};
 ghost use Rattle.pp_promises.specs.Announced.{AcknowledgesAll, TellsAll};
 ghost use Rattle.pp_tree.specs.Book.{entry};
-ghost use Rattle.pp_audit.specs.Entries.{past};
+ghost use Rattle.pp_recorded.specs.Entries.{past};
 
 use crate::clauses::Clause;
 use crate::digests::all_are_long;
 use crate::duties::Duty;
 use crate::ends::fails_few;
-use crate::entry::Entry;
+use pp_recorded::entry::Entry;
 use pp_tree::{Book, Descriptor};
 
 /// Whether at the end of every quiet turn each chunk that came for the first time in an earlier one, on a channel that was plain

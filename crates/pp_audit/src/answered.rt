@@ -3,13 +3,13 @@
 
 ghost use Rattle.std.specs.Prelude.{◌↔◌, ◌≤◌, ◌+◌, IsTrue};
 ghost use Rattle.pp_promises.specs.Answered.{LetsInBut, ChokesNone, slots, KeepsUpBut};
-ghost use Rattle.pp_audit.specs.Entries.{past};
+ghost use Rattle.pp_recorded.specs.Entries.{past};
 
 use crate::clauses::Clause;
 use crate::duties::Duty;
 use crate::ends::fails_few;
-use crate::entry::Entry;
-use crate::marks::{Mark, openings, some_marked};
+use pp_recorded::entry::Entry;
+use pp_recorded::marks::{Mark, openings, some_marked};
 use pp_tree::Descriptor;
 
 // How many peers may be served at once.

@@ -4,12 +4,12 @@ ghost use Rattle.std.specs.Prelude.{◌≡◌, ◌↔◌, ◌<◌, ℕ, List, fa
 ghost use Rattle.pp_terms.specs.disk.Image.{holds};
 ghost use Rattle.pp_terms.specs.format.Descriptor.{chunks_of};
 ghost use Rattle.pp_promises.specs.Asked.{AsksBut};
-ghost use Rattle.pp_audit.specs.Entries.{past};
+ghost use Rattle.pp_recorded.specs.Entries.{past};
 
 use crate::clauses::Clause;
 use crate::duties::Duty;
 use crate::ends::fails_few;
-use crate::entry::Entry;
+use pp_recorded::entry::Entry;
 use pp_tree::Descriptor;
 
 /// Whether at the end of every turn, but so many, each chunk that a plain channel offers had been asked for on some channel, or is

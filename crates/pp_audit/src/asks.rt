@@ -4,16 +4,16 @@ ghost use Rattle.std.specs.Prelude.{◌≡◌, ◌==◌, ◌≤◌, nat_le, leng
 ghost use Rattle.pp_traffic.specs.Asking as asking;
 ghost use Rattle.pp_traffic.specs.Story.{story};
 ghost use Rattle.pp_wire.specs.Views.{message_of};
-ghost use Rattle.pp_audit.specs.Entries.{past, life_of, record_of};
-ghost use Rattle.pp_audit.specs.Parts.{rest};
+ghost use Rattle.pp_recorded.specs.Entries.{past, life_of, record_of};
+ghost use Rattle.pp_recorded.specs.Parts.{rest};
 ghost use Rattle.pp_audit.specs.Asks as terms;
 
-use crate::asking::{is_choked, is_heard};
-use crate::entry::{Entry, Life, bytes_of};
-use crate::reading::message_at;
-use crate::standing::heard_from;
-use crate::windows::lets_send;
 use pp_options::Options;
+use pp_recorded::asking::{is_choked, is_heard};
+use pp_recorded::entry::{Entry, Life, bytes_of};
+use pp_recorded::reading::message_at;
+use pp_recorded::standing::heard_from;
+use pp_recorded::windows::lets_send;
 use pp_tree::Descriptor;
 use pp_wire::{Message, Span};
 

@@ -1,15 +1,15 @@
 //! The search for plain channels: each handshake opens one, with each handshake as the reply to it (RFC 7574, section 3.1.1).
 
 ghost use Rattle.std.specs.Prelude.{◌≡◌, option_map};
-ghost use Rattle.pp_audit.specs.Entries.{past, life_of, record_of};
+ghost use Rattle.pp_recorded.specs.Entries.{past, life_of, record_of};
 ghost use Rattle.pp_outside.specs.Outside.{address_of};
 ghost use Rattle.pp_audit.specs.Channels as terms;
 ghost use Rattle.pp_audit.specs.Duties.{is_done};
 
 use crate::duties::{Duty, is_done};
-use crate::entry::{Entry, Life, bytes_of};
-use crate::reading::first_shake;
 use pp_outside::Address;
+use pp_recorded::entry::{Entry, Life, bytes_of};
+use pp_recorded::reading::first_shake;
 use pp_tree::Descriptor;
 
 // The channel that a handshake of a source opens at a place, before its reply.

@@ -1,13 +1,13 @@
 //! What is to be so at the ends of turns.
 
 ghost use Rattle.std.specs.Prelude.{◌≡◌};
-ghost use Rattle.pp_audit.specs.Entries.{past};
+ghost use Rattle.pp_recorded.specs.Entries.{past};
 ghost use Rattle.pp_audit.specs.Clauses.{clause_of};
 
 use crate::channels::each_plain;
 use crate::duties::Duty;
-use crate::entry::Entry;
 use crate::newcomers::lets_in_last;
+use pp_recorded::entry::Entry;
 use pp_tree::Descriptor;
 
 /// What is asked of the entries up to the end of a turn.

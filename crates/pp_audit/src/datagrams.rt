@@ -6,14 +6,14 @@ ghost use Rattle.pp_terms.specs.format.Messages as messages;
 ghost use Rattle.pp_traffic.specs.Committed.{RequestsNone};
 ghost use Rattle.pp_traffic.specs.Turns.{ClosesLast};
 ghost use Rattle.pp_promises.specs.Datagrams.{IsWhole};
-ghost use Rattle.pp_audit.specs.Entries.{past, record_of};
-ghost use Rattle.pp_audit.specs.Faults.{fault_from, PassesTo, is_whole};
+ghost use Rattle.pp_recorded.specs.Entries.{past, record_of};
+ghost use Rattle.pp_recorded.specs.Faults.{fault_from, PassesTo, is_whole};
 
-use crate::entry::Entry;
-use crate::marks::{Mark, some_marked};
-use crate::reading::{channel_of, first_place};
 use crate::turns::in_turns;
 use pp_options::Options;
+use pp_recorded::entry::Entry;
+use pp_recorded::marks::{Mark, some_marked};
+use pp_recorded::reading::{channel_of, first_place};
 use pp_tree::Descriptor;
 use pp_wire::{Message, Span, Step, next};
 

@@ -4,17 +4,17 @@
 ghost use Rattle.std.specs.Prelude.{◌≡◌, ℕ, ◌≤◌, ◌<◌, ◌+◌, ◌-◌, false, if◌then◌else◌, slice_index_or, MatchOption};
 ghost use Rattle.pp_promises.specs.Announced as announced;
 ghost use Rattle.pp_traffic.specs.Story.{story};
-ghost use Rattle.pp_audit.specs.Entries.{past, life_of};
+ghost use Rattle.pp_recorded.specs.Entries.{past, life_of};
 ghost use Rattle.pp_audit.specs.Alike.{AreAlike};
 ghost use Rattle.pp_audit.specs.Debts as terms;
 
-use crate::asking::is_asked;
-use crate::entry::{Entry, Life};
-use crate::owing::{is_announced, is_owed};
 use crate::runs::{run_end, top};
-use crate::said::has_said;
-use crate::sorts::Sort;
 use crate::turns::earlier;
+use pp_recorded::asking::is_asked;
+use pp_recorded::entry::{Entry, Life};
+use pp_recorded::owing::{is_announced, is_owed};
+use pp_recorded::said::has_said;
+use pp_recorded::sorts::Sort;
 use pp_tree::Descriptor;
 
 /// What a chunk can be.
@@ -37,7 +37,7 @@ pub(crate) fn stands(stood: &[bool], chunk: u64) -> bool
 }
 
 // Whether a HAVE of the chunk was sent on the channel.
-#[tactic(auto, using(crate::proofs::Sayings::told_of_said))]
+#[tactic(auto, using(pp_recorded::proofs::Sayings::told_of_said))]
 fn is_told_of<'m>(descriptor: &Descriptor, life: Life, entries: &'m [Entry<'m>], chunk: u64) -> bool
     ensures { result ≡ announced.is_told_of chunk (story descriptor.now (life_of life) (past entries.now)) }
 {

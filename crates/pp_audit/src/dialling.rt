@@ -8,15 +8,15 @@ ghost use Rattle.pp_traffic.specs.Past.{is_event};
 ghost use Rattle.pp_promises.specs.LastTurn.{first_turn};
 ghost use Rattle.pp_promises.specs.Asked.{dials, DialsBut};
 ghost use Rattle.pp_outside.specs.Outside.{address_of};
-ghost use Rattle.pp_audit.specs.Entries.{past, record_of};
+ghost use Rattle.pp_recorded.specs.Entries.{past, record_of};
 ghost use Rattle.pp_audit.specs.Dials.{missed, misses};
 
-use crate::entry::{Entry, bytes_of, comes_from, goes_to, is_event};
-use crate::reading::first_place;
-use crate::records::is_for;
-use crate::sorts::{Sort, has_sort};
 use crate::turns::in_turns;
 use pp_outside::Address;
+use pp_recorded::entry::{Entry, bytes_of, comes_from, goes_to, is_event};
+use pp_recorded::reading::first_place;
+use pp_recorded::records::is_for;
+use pp_recorded::sorts::{Sort, has_sort};
 use pp_tree::Descriptor;
 
 // Whether the entry is a handshake for channel 0 that was sent to the address.

@@ -3,13 +3,13 @@
 ghost use Rattle.std.specs.Prelude.{◌≡◌, true};
 ghost use Rattle.std.specs.List.{list_all};
 ghost use Rattle.pp_wire.specs.Views.{message_of};
-ghost use Rattle.pp_audit.specs.Entries.{past, record_of};
-ghost use Rattle.pp_audit.specs.Parts.{all};
+ghost use Rattle.pp_recorded.specs.Entries.{past, record_of};
+ghost use Rattle.pp_recorded.specs.Parts.{all};
 ghost use Rattle.pp_audit.specs.Digests as terms;
 
-use crate::entry::{Entry, bytes_of};
-use crate::reading::{first_place, message_at};
 use pp_options::Options;
+use pp_recorded::entry::{Entry, bytes_of};
+use pp_recorded::reading::{first_place, message_at};
 use pp_tree::Descriptor;
 use pp_wire::{Message, Span};
 

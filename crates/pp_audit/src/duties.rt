@@ -3,23 +3,23 @@
 ghost use Rattle.std.specs.Prelude.{◌≡◌, ◌||◌, not, nat_le};
 ghost use Rattle.pp_traffic.specs.Asking as asking;
 ghost use Rattle.pp_promises.specs.Announced as announced;
-ghost use Rattle.pp_audit.specs.Entries.{past, life_of};
+ghost use Rattle.pp_recorded.specs.Entries.{past, life_of};
 ghost use Rattle.pp_audit.specs.Asks.{may_be_served};
 ghost use Rattle.pp_audit.specs.Debts as terms;
-ghost use Rattle.pp_audit.specs.Offers.{may_be_asked, asks_offered};
+ghost use Rattle.pp_recorded.specs.Offers.{may_be_asked, asks_offered};
 ghost use Rattle.pp_audit.specs.declared.debts.Debt.TheVariants as debts;
 ghost use Rattle.pp_audit.specs.Duties.{is_due, duty_of, is_done};
 
 use crate::acking::acknowledges;
-use crate::asking::is_heard;
 use crate::asks::may_be_served;
 use crate::debts::{Debt, leaves_few};
-use crate::entry::{Entry, Life};
 use crate::offers::{asks_offered, may_be_asked};
-use crate::plain::{is_plain, is_plain_newest};
-use crate::silence::keeps_up;
 use crate::storing::stores_newest;
 use crate::telling::tells_many;
+use pp_recorded::asking::is_heard;
+use pp_recorded::entry::{Entry, Life};
+use pp_recorded::plain::{is_plain, is_plain_newest};
+use pp_recorded::silence::keeps_up;
 use pp_tree::{Book, Descriptor};
 
 /// What is asked of a channel.

@@ -2,13 +2,13 @@
 
 ghost use Rattle.std.specs.Prelude.{◌≡◌, ◌≤◌, length};
 ghost use Rattle.pp_traffic.specs.Turns.{in_turns};
-ghost use Rattle.pp_audit.specs.Entries.{past, record_of};
+ghost use Rattle.pp_recorded.specs.Entries.{past, record_of};
 ghost use Rattle.pp_audit.specs.Ends.{fails_at, failing_before, fails_few};
 ghost use Rattle.pp_audit.specs.Clauses.{clause_of};
 
 use crate::clauses::{Clause, is_kept};
-use crate::entry::{Entry, is_event};
 use crate::turns::in_turns;
+use pp_recorded::entry::{Entry, is_event};
 use pp_tree::Descriptor;
 
 // How many turns, one or none, end before the entry so that it isn't.

@@ -7,23 +7,23 @@ ghost use Rattle.pp_traffic.specs.Plain.{concerns};
 ghost use Rattle.pp_traffic.specs.Prompt.{knocks, first_source, knocks_in, knocks_once, lets_in};
 ghost use Rattle.pp_promises.specs.Answered.{is_newcomer};
 ghost use Rattle.pp_outside.specs.Outside.{address_of};
-ghost use Rattle.pp_audit.specs.Entries.{past, record_of};
-ghost use Rattle.pp_audit.specs.Parts.{all};
+ghost use Rattle.pp_recorded.specs.Entries.{past, record_of};
+ghost use Rattle.pp_recorded.specs.Parts.{all};
 ghost use Rattle.pp_audit.specs.Clauses.{lets_in_last};
 
-use crate::entry::{Entry, bytes_of, comes_from, goes_to};
-use crate::marks::openings;
-use crate::reading::{first_shake, has_handshake};
-use crate::records::{begins, is_fitting, is_for, second_place};
 use crate::turns::turn_start;
 use pp_outside::Address;
+use pp_recorded::entry::{Entry, bytes_of, comes_from, goes_to};
+use pp_recorded::marks::openings;
+use pp_recorded::reading::{first_shake, has_handshake};
+use pp_recorded::records::{begins, is_fitting, is_for, second_place};
 use pp_tree::Descriptor;
 
 // How many channels there are at most.
 const MOST_CHANNELS: usize = 64;
 
 // Whether the first message is a handshake that fits, of a source channel other than 0.
-#[tactic(auto, using(crate::proofs::SortLaws::knocks_shake))]
+#[tactic(auto, using(pp_recorded::proofs::SortLaws::knocks_shake))]
 fn knocks(descriptor: &Descriptor, bytes: &[u8]) -> bool
     ensures { result ≡ knocks descriptor.now (all descriptor.now bytes.now) }
 {
@@ -34,7 +34,7 @@ fn knocks(descriptor: &Descriptor, bytes: &[u8]) -> bool
 }
 
 // The source channel of the handshake with which the datagram begins, or 0.
-#[tactic(auto, using(crate::proofs::SortLaws::first_source_shake))]
+#[tactic(auto, using(pp_recorded::proofs::SortLaws::first_source_shake))]
 fn first_source(descriptor: &Descriptor, bytes: &[u8]) -> u32
     ensures { result ≡ first_source (all descriptor.now bytes.now) }
 {

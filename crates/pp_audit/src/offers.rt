@@ -8,22 +8,22 @@ ghost use Rattle.pp_traffic.specs.Story.{story, said_in};
 ghost use Rattle.pp_promises.specs.OwnSide as own;
 ghost use Rattle.pp_promises.specs.Asked as asked;
 ghost use Rattle.pp_wire.specs.Views.{message_of};
-ghost use Rattle.pp_audit.specs.Entries.{past, life_of, record_of};
-ghost use Rattle.pp_audit.specs.Parts.{rest};
-ghost use Rattle.pp_audit.specs.Sorts.{sort_of, is_request};
-ghost use Rattle.pp_audit.specs.Offers as terms;
+ghost use Rattle.pp_recorded.specs.Entries.{past, life_of, record_of};
+ghost use Rattle.pp_recorded.specs.Parts.{rest};
+ghost use Rattle.pp_recorded.specs.Sorts.{sort_of, is_request};
+ghost use Rattle.pp_recorded.specs.Offers as terms;
 
-use crate::asking::is_heard;
 use crate::debts::stands;
-use crate::entry::{Entry, Life, bytes_of};
-use crate::marks::{Mark, some_marked};
-use crate::reading::{message_at, nowhere};
-use crate::said::{has_said, says};
-use crate::silence::now;
-use crate::sorts::{Sort, has_sort};
-use crate::standing::{choked_by, heard_from};
-use crate::timing::now_after;
 use pp_options::Options;
+use pp_recorded::asking::is_heard;
+use pp_recorded::entry::{Entry, Life, bytes_of};
+use pp_recorded::marks::{Mark, some_marked};
+use pp_recorded::reading::{message_at, nowhere};
+use pp_recorded::said::{has_said, says};
+use pp_recorded::silence::now;
+use pp_recorded::sorts::{Sort, has_sort};
+use pp_recorded::standing::{choked_by, heard_from};
+use pp_recorded::timing::now_after;
 use pp_tree::Descriptor;
 use pp_wire::{Message, Span};
 
@@ -78,7 +78,7 @@ fn has_heard<'m>(sort: Sort, descriptor: &Descriptor, life: Life, entries: &'m [
 }
 
 // Whether the peer has told by HAVE that it has the chunk.
-#[tactic(auto, using(crate::proofs::Offerings::offered_heard))]
+#[tactic(auto, using(pp_recorded::proofs::Offerings::offered_heard))]
 fn is_offered<'m>(descriptor: &Descriptor, life: Life, entries: &'m [Entry<'m>], chunk: u64) -> bool
     ensures { result ≡ own.is_offered chunk (story descriptor.now (life_of life) (past entries.now)) }
 {
@@ -137,7 +137,7 @@ fn chokes_at<'m>(
 }
 
 // Whether the peer sent a CHOKE, and no UNCHOKE since.
-#[tactic(auto, using(crate::proofs::Offerings::chokes_heard))]
+#[tactic(auto, using(pp_recorded::proofs::Offerings::chokes_heard))]
 fn is_choked_by_peer<'m>(descriptor: &Descriptor, life: Life, entries: &'m [Entry<'m>]) -> bool
     ensures { result ≡ own.is_choked_by_peer (story descriptor.now (life_of life) (past entries.now)) }
 {
@@ -167,7 +167,7 @@ fn asks_long<'m>(
 }
 
 // Whether one was sent so long ago.
-#[tactic(auto, using(crate::proofs::Offerings::asked_long_ago))]
+#[tactic(auto, using(pp_recorded::proofs::Offerings::asked_long_ago))]
 fn has_old_request<'m>(descriptor: &Descriptor, life: Life, entries: &'m [Entry<'m>]) -> bool
     ensures { result ≡ own.has_old_request (traffic.now (past entries.now)) (story descriptor.now (life_of life) (past entries.now)) }
 {
@@ -182,7 +182,7 @@ fn has_old_request<'m>(descriptor: &Descriptor, life: Life, entries: &'m [Entry<
 }
 
 // How many chunks, one or none, a REQUEST on the channel names.
-#[tactic(auto, using(crate::proofs::Sayings::named_said))]
+#[tactic(auto, using(pp_recorded::proofs::Sayings::named_said))]
 fn named_at<'m>(descriptor: &Descriptor, life: Life, entries: &'m [Entry<'m>], chunk: u32) -> u32
     ensures count { result ≡ (if own.is_named chunk (story descriptor.now (life_of life) (past entries.now)) then 1 else 0) }
     ensures few { result ≤ 1 }

@@ -4,14 +4,14 @@ ghost use Rattle.std.specs.Prelude.{◌≡◌, ◌==◌, ◌≤◌, ℕ, length,
 ghost use Rattle.std.specs.List.{AllByRecursion};
 ghost use Rattle.pp_terms.specs.tree.Range.{within};
 ghost use Rattle.pp_wire.specs.Views.{span_of, message_of};
-ghost use Rattle.pp_audit.specs.Entries.{past, record_of};
-ghost use Rattle.pp_audit.specs.Parts.{all};
+ghost use Rattle.pp_recorded.specs.Entries.{past, record_of};
+ghost use Rattle.pp_recorded.specs.Parts.{all};
 ghost use Rattle.pp_audit.specs.Alike as terms;
 ghost use Rattle.pp_audit.specs.Alike.{IsAlike, AreAlikeIn, AreAlike};
 
-use crate::entry::{Entry, bytes_of};
-use crate::reading::{first_place, message_at};
 use pp_options::Options;
+use pp_recorded::entry::{Entry, bytes_of};
+use pp_recorded::reading::{first_place, message_at};
 use pp_tree::Descriptor;
 use pp_wire::{Message, Span};
 

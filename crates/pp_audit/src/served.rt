@@ -5,12 +5,12 @@ ghost use Rattle.pp_terms.specs.disk.Disk.{History};
 ghost use Rattle.pp_traffic.specs.Keeping.{StoodThroughout};
 ghost use Rattle.pp_traffic.specs.Meter.{lets_send};
 ghost use Rattle.pp_promises.specs.Served.{ServesBut};
-ghost use Rattle.pp_audit.specs.Entries.{past};
+ghost use Rattle.pp_recorded.specs.Entries.{past};
 
 use crate::clauses::Clause;
 use crate::duties::Duty;
 use crate::ends::fails_few;
-use crate::entry::Entry;
+use pp_recorded::entry::Entry;
 use pp_tree::Descriptor;
 
 /// Whether at the end of every turn, but so many, at most so many chunks were left owed on each plain channel that may be

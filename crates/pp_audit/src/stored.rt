@@ -4,13 +4,13 @@ ghost use Rattle.std.specs.Prelude.{◌≡◌, ◌↔◌, ℕ, List, true, false
 ghost use Rattle.pp_terms.specs.disk.Image.{holds};
 ghost use Rattle.pp_promises.specs.Stored.{StoresAll};
 ghost use Rattle.pp_tree.specs.Book.{entry};
-ghost use Rattle.pp_audit.specs.Entries.{past};
+ghost use Rattle.pp_recorded.specs.Entries.{past};
 ghost use Rattle.pp_audit.specs.Stored as terms;
 
 use crate::channels::each_plain;
 use crate::digests::all_are_long;
 use crate::duties::Duty;
-use crate::entry::Entry;
+use pp_recorded::entry::Entry;
 use pp_tree::{Book, Descriptor};
 
 // Whether it is so of the chunks of each entry.

@@ -3,21 +3,21 @@
 ghost use Rattle.std.specs.Prelude.{◌≡◌, ◌||◌, not, false, [], slice_index_or};
 ghost use Rattle.pp_tree.specs.Book.{entry};
 ghost use Rattle.pp_wire.specs.Views.{message_of};
-ghost use Rattle.pp_audit.specs.Claims.{known_of};
-ghost use Rattle.pp_audit.specs.Contradictions as contradictions;
-ghost use Rattle.pp_audit.specs.Entries.{past, life_of, record_of};
-ghost use Rattle.pp_audit.specs.Parts.{all};
-ghost use Rattle.pp_audit.specs.Provings as provings;
+ghost use Rattle.pp_recorded.specs.Claims.{known_of};
+ghost use Rattle.pp_recorded.specs.Contradictions as contradictions;
+ghost use Rattle.pp_recorded.specs.Entries.{past, life_of, record_of};
+ghost use Rattle.pp_recorded.specs.Parts.{all};
+ghost use Rattle.pp_recorded.specs.Provings as provings;
 ghost use Rattle.pp_audit.specs.Storings as terms;
 
-use crate::claims::Claims;
-use crate::contradictions::contradicts;
 use crate::debts::stands;
-use crate::entry::{Entry, Life, bytes_of};
-use crate::proving::proves;
-use crate::reading::{first_place, is_from, message_at};
-use crate::records::comes_on;
 use pp_options::Options;
+use pp_recorded::claims::Claims;
+use pp_recorded::contradictions::contradicts;
+use pp_recorded::entry::{Entry, Life, bytes_of};
+use pp_recorded::proving::proves;
+use pp_recorded::reading::{first_place, is_from, message_at};
+use pp_recorded::records::comes_on;
 use pp_tree::{Book, Descriptor};
 use pp_wire::{Message, Span};
 

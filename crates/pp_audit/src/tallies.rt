@@ -4,11 +4,11 @@ ghost use Rattle.std.specs.Prelude.{◌≡◌, ◌↔◌, ◌≤◌, IsTrue, len
 ghost use Rattle.pp_terms.specs.Count.{HasRisen, capped};
 ghost use Rattle.pp_traffic.specs.Tallied.{IsTallied, TookTurns};
 ghost use Rattle.pp_counts.specs.Counts.{tally_of};
-ghost use Rattle.pp_audit.specs.Entries.{past, record_of};
+ghost use Rattle.pp_recorded.specs.Entries.{past, record_of};
 ghost use Rattle.pp_audit.specs.Tallies.{is_kind, count_of, link_of, RefusedSome, Waited, CountsTurns, CountsDatagrams};
 
-use crate::entry::Entry;
 use pp_counts::Counts;
+use pp_recorded::entry::Entry;
 
 // How many bytes a channel number has; a datagram of fewer is short.
 const CHANNEL_BYTES: usize = 4;

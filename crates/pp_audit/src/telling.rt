@@ -4,13 +4,13 @@ ghost use Rattle.std.specs.Prelude.{◌≡◌, ◌≤◌, ◌&&◌, nat_le, if�
 ghost use Rattle.pp_traffic.specs.Past.{some_since};
 ghost use Rattle.pp_traffic.specs.Asking as asking;
 ghost use Rattle.pp_promises.specs.Announced as terms;
-ghost use Rattle.pp_audit.specs.Entries.{past, life_of, record_of};
+ghost use Rattle.pp_recorded.specs.Entries.{past, life_of, record_of};
 
-use crate::asking::is_heard;
-use crate::entry::{Entry, Life};
-use crate::said::says;
-use crate::sorts::Sort;
 use crate::turns::{earlier, turn_start};
+use pp_recorded::asking::is_heard;
+use pp_recorded::entry::{Entry, Life};
+use pp_recorded::said::says;
+use pp_recorded::sorts::Sort;
 use pp_tree::Descriptor;
 
 // How many new ones a turn tells of at least, where it doesn't tell of all.

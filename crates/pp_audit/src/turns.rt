@@ -4,11 +4,11 @@ ghost use Rattle.std.specs.Prelude.{◌≡◌, ◌≤◌, length, if◌then◌el
 ghost use Rattle.pp_traffic.specs.Turns.{in_turns, is_closing};
 ghost use Rattle.pp_traffic.specs.Past.{is_event};
 ghost use Rattle.pp_promises.specs.LastTurn.{earlier};
-ghost use Rattle.pp_audit.specs.Entries.{past, record_of};
+ghost use Rattle.pp_recorded.specs.Entries.{past, record_of};
 ghost use Rattle.pp_audit.specs.Ends.{turn_start};
 
-use crate::entry::{Entry, is_event};
-use crate::marks::is_closing;
+use pp_recorded::entry::{Entry, is_event};
+use pp_recorded::marks::is_closing;
 use pp_tree::Descriptor;
 
 // How many entries the turns have, once the entry at a place is read.

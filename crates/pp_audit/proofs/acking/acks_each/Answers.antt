@@ -1,7 +1,7 @@
 use Rattle.pp_traffic.specs.Story.{story}
 use Rattle.pp_promises.specs.Announced.{is_acknowledged}
 use Rattle.pp_tree.specs.Book.{entry}
-use Rattle.pp_audit.specs.Entries.{past, life_of}
+use Rattle.pp_recorded.specs.Entries.{past, life_of}
 use Rattle.pp_audit.proofs.AckedTests.{acks_more}
 use Rattle.pp_audit.proofs.acking.acks_each.Goals as goal
 

@@ -1,13 +1,13 @@
 use Rattle.std.proofs.Common.{◌≡◌, [], take, sym, ◌∙◌, arith}
 use Rattle.pp_tree.specs.Book.{entry}
 use Rattle.pp_wire.specs.Views.{message_of}
-use Rattle.pp_audit.specs.Entries.{past, life_of}
-use Rattle.pp_audit.specs.Parts.{all, rest}
+use Rattle.pp_recorded.specs.Entries.{past, life_of}
+use Rattle.pp_recorded.specs.Parts.{all, rest}
 use Rattle.pp_audit.specs.Storings.{each_stored, known_behind}
 use Rattle.pp_audit.specs.Acknowledgements.{is_acked}
 use Rattle.pp_traffic.specs.Story.{story}
 use Rattle.pp_promises.specs.Announced.{is_acknowledged}
-use Rattle.pp_audit.proofs.Sendings.{on_next}
+use Rattle.pp_recorded.proofs.Sendings.{on_next}
 use Rattle.pp_audit.proofs.Storings.{pass_one}
 use Rattle.pp_audit.proofs.acking.each_acked.Goals as goal
 

@@ -1,12 +1,12 @@
 use Rattle.std.proofs.Common.{◌≡◌, ◌≤◌, ◌-◌, [], length}
 use Rattle.pp_tree.specs.Book.{entry}
-use Rattle.pp_audit.specs.Entries.{past, life_of}
-use Rattle.pp_audit.specs.Parts.{all, rest}
+use Rattle.pp_recorded.specs.Entries.{past, life_of}
+use Rattle.pp_recorded.specs.Parts.{all, rest}
 use Rattle.pp_audit.specs.Storings.{each_stored, known_behind}
 use Rattle.pp_audit.specs.Acknowledgements.{is_acked}
 use Rattle.pp_traffic.specs.Story.{story}
 use Rattle.pp_promises.specs.Announced.{is_acknowledged}
-use Rattle.pp_audit.proofs.Sendings.{IsOn}
+use Rattle.pp_recorded.proofs.Sendings.{IsOn}
 use Rattle.pp_audit.proofs.acking.each_acked.Given as goal
 
 abbrev pub invariant-messages : goal.invariant-messages

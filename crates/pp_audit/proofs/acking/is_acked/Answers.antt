@@ -5,9 +5,9 @@ use Rattle.pp_tree.specs.Book.{entry}
 use Rattle.pp_wire.specs.Views.{message_of}
 use Rattle.pp_wire.specs.declared.message.Message.{Message}
 use Rattle.pp_audit.specs.Acknowledgements.{is_acked}
-use Rattle.pp_audit.specs.Claims.{known_of}
-use Rattle.pp_audit.specs.Entries.{past, life_of}
-use Rattle.pp_audit.specs.Parts.{all}
+use Rattle.pp_recorded.specs.Claims.{known_of}
+use Rattle.pp_recorded.specs.Entries.{past, life_of}
+use Rattle.pp_recorded.specs.Parts.{all}
 use Rattle.pp_audit.proofs.acking.is_acked.Goals as goal
 
 pub returns-in-Data : goal.returns-in-Data

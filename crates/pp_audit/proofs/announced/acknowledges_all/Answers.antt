@@ -4,7 +4,7 @@ use Rattle.pp_tree.specs.Book.{entry}
 use Rattle.pp_audit.specs.Acknowledgements.{acknowledges}
 use Rattle.pp_audit.specs.Channels.{each_plain}
 use Rattle.pp_audit.specs.Digests.{AllAreLong}
-use Rattle.pp_audit.specs.Entries.{past}
+use Rattle.pp_recorded.specs.Entries.{past}
 use Rattle.pp_audit.proofs.AckedTests.{acked_decided}
 use Rattle.pp_audit.proofs.TurnEnds.{ends_decided_of}
 use Rattle.pp_audit.proofs.announced.acknowledges_all.Goals as goal

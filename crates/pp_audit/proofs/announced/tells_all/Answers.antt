@@ -1,7 +1,7 @@
 use Rattle.std.proofs.Common.{leb, not, ◌||◌, sym, ◌∙◌}
 use Rattle.pp_traffic.specs.Asking.{is_heard}
 use Rattle.pp_promises.specs.Announced.{fewest_new, new_count, TellsOfHeld}
-use Rattle.pp_audit.specs.Entries.{past}
+use Rattle.pp_recorded.specs.Entries.{past}
 use Rattle.pp_audit.specs.Channels.{each_plain}
 use Rattle.pp_audit.specs.Debts.{leaves_few}
 use Rattle.pp_audit.specs.declared.debts.Debt.TheVariants as debts

@@ -1,7 +1,7 @@
 use Rattle.std.proofs.Common.{◌∙◌, sym}
 use Rattle.pp_traffic.specs.Past.{now}
 use Rattle.pp_promises.specs.Answered.{wrote_lately, KeepsUp}
-use Rattle.pp_audit.specs.Entries.{past}
+use Rattle.pp_recorded.specs.Entries.{past}
 use Rattle.pp_audit.specs.Channels.{each_plain}
 use Rattle.pp_audit.proofs.ChannelSearch.{search_finds_all}
 use Rattle.pp_audit.proofs.TurnEnds.{ends_decided}

@@ -1,6 +1,6 @@
 use Rattle.std.proofs.Common.{◌∙◌, sym}
 use Rattle.pp_promises.specs.Answered.{LetsIn}
-use Rattle.pp_audit.specs.Entries.{past}
+use Rattle.pp_recorded.specs.Entries.{past}
 use Rattle.pp_audit.specs.Clauses.{lets_in_last}
 use Rattle.pp_audit.proofs.TurnEnds.{ends_decided}
 use Rattle.pp_audit.proofs.answered.lets_in_but.Goals as goal

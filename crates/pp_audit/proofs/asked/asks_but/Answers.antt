@@ -1,9 +1,9 @@
 use Rattle.std.proofs.Common.{not, ◌||◌, sym, ◌∙◌}
 use Rattle.pp_terms.specs.format.Descriptor.{chunks_of}
 use Rattle.pp_promises.specs.Asked.{AsksOffered}
-use Rattle.pp_audit.specs.Entries.{past}
+use Rattle.pp_recorded.specs.Entries.{past}
 use Rattle.pp_audit.specs.Channels.{each_plain}
-use Rattle.pp_audit.specs.Offers.{may_be_asked, asks_offered}
+use Rattle.pp_recorded.specs.Offers.{may_be_asked, asks_offered}
 use Rattle.pp_audit.proofs.AskedTests.{asks_decided}
 use Rattle.pp_audit.proofs.TurnEnds.{ends_decided}
 use Rattle.pp_audit.proofs.asked.asks_but.Goals as goal

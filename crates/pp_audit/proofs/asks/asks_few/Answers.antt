@@ -1,5 +1,5 @@
 use Rattle.std.proofs.lemmas.List.{get_or_default}
-use Rattle.pp_audit.specs.Entries.{life_of}
+use Rattle.pp_recorded.specs.Entries.{life_of}
 use Rattle.pp_audit.proofs.Askings.{count_more}
 use Rattle.pp_audit.proofs.asks.asks_few.Goals as goal
 

@@ -1,8 +1,8 @@
 use Rattle.std.proofs.Common.{◌≡◌, ◌-◌, ◌^◌, min}
 use Rattle.pp_traffic.specs.Asking as asking
 use Rattle.pp_traffic.specs.Story.{story}
-use Rattle.pp_audit.specs.Entries.{life_of}
-use Rattle.pp_audit.proofs.Pasts.{first}
+use Rattle.pp_recorded.specs.Entries.{life_of}
+use Rattle.pp_recorded.proofs.Pasts.{first}
 use Rattle.pp_audit.proofs.asks.asks_few.Given as goal
 
 abbrev pub invariant-loop-place : goal.invariant-loop-place

@@ -1,6 +1,6 @@
 use Rattle.std.proofs.Common.{◌≡◌, ◌≤◌, ◌+◌, ◌-◌, length, count_by}
 use Rattle.pp_traffic.specs.Asking as asking
-use Rattle.pp_audit.specs.Parts.{rest}
+use Rattle.pp_recorded.specs.Parts.{rest}
 use Rattle.pp_audit.proofs.asks.asks_from.Given as goal
 
 abbrev pub invariant-messages : goal.invariant-messages

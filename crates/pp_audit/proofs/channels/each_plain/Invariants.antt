@@ -1,8 +1,8 @@
 use Rattle.std.proofs.Common.{◌≡◌}
-use Rattle.pp_audit.specs.Entries.{past}
+use Rattle.pp_recorded.specs.Entries.{past}
 use Rattle.pp_audit.specs.Channels.{passes_openings}
 use Rattle.pp_audit.specs.Duties.{is_done}
-use Rattle.pp_audit.proofs.Pasts.{first}
+use Rattle.pp_recorded.proofs.Pasts.{first}
 use Rattle.pp_audit.proofs.channels.each_plain.Given as goal
 
 abbrev pub invariant-loop-place : goal.invariant-loop-place

@@ -1,8 +1,8 @@
 use Rattle.std.proofs.Common.{◌≡◌}
-use Rattle.pp_audit.specs.Entries.{past, life_of}
+use Rattle.pp_recorded.specs.Entries.{past, life_of}
 use Rattle.pp_audit.specs.Channels.{passes_replies}
 use Rattle.pp_audit.specs.Duties.{is_done}
-use Rattle.pp_audit.proofs.Pasts.{first}
+use Rattle.pp_recorded.proofs.Pasts.{first}
 use Rattle.pp_audit.proofs.channels.passes_replies.Given as goal
 
 abbrev pub invariant-loop-entry : goal.invariant-loop-entry

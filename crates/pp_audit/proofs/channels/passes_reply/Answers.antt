@@ -2,8 +2,8 @@ use Rattle.std.proofs.Common.{ℕ, true, List, Option, ◌∙◌, ap}
 use Rattle.std.specs.Option.{option_map_or}
 use Rattle.pp_terms.specs.format.Options.{Options}
 use Rattle.pp_traffic.specs.Life as lives
-use Rattle.pp_audit.specs.Entries.{past, life_of}
-use Rattle.pp_audit.specs.Parts.{all, first_shake}
+use Rattle.pp_recorded.specs.Entries.{past, life_of}
+use Rattle.pp_recorded.specs.Parts.{all, first_shake}
 use Rattle.pp_audit.specs.Channels as terms
 use Rattle.pp_audit.specs.Duties.{is_done}
 use Rattle.pp_audit.proofs.channels.passes_reply.Goals as goal

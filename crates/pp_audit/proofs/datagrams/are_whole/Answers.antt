@@ -1,10 +1,10 @@
 use Rattle.std.proofs.Common.{◌∙◌, sym, ap, List}
 use Rattle.std.specs.List.{list_all}
 use Rattle.pp_terms.specs.format.Traffic.{Record}
-use Rattle.pp_audit.specs.Entries.{past}
-use Rattle.pp_audit.specs.Faults.{is_whole}
-use Rattle.pp_audit.proofs.Pasts.{first_all}
-use Rattle.pp_audit.proofs.FaultSteps.{whole_decided}
+use Rattle.pp_recorded.specs.Entries.{past}
+use Rattle.pp_recorded.specs.Faults.{is_whole}
+use Rattle.pp_recorded.proofs.Pasts.{first_all}
+use Rattle.pp_recorded.proofs.FaultSteps.{whole_decided}
 use Rattle.pp_audit.proofs.datagrams.are_whole.Goals as goal
 
 pub returns : goal.returns

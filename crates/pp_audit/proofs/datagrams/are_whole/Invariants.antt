@@ -1,7 +1,7 @@
 use Rattle.std.proofs.Common.{◌≡◌}
 use Rattle.std.specs.List.{list_all}
-use Rattle.pp_audit.specs.Faults.{is_whole}
-use Rattle.pp_audit.proofs.Pasts.{first}
+use Rattle.pp_recorded.specs.Faults.{is_whole}
+use Rattle.pp_recorded.proofs.Pasts.{first}
 use Rattle.pp_audit.proofs.datagrams.are_whole.Given as goal
 
 abbrev pub invariant-loop-entry : goal.invariant-loop-entry

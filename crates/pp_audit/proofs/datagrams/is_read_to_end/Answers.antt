@@ -1,7 +1,7 @@
 use Rattle.std.proofs.Common.{ℕ, Option, sym, ◌∙◌, ap}
 use Rattle.std.specs.Prelude.{is_none}
 use Rattle.pp_terms.specs.format.Messages.{WireKind}
-use Rattle.pp_audit.proofs.FaultSteps.{none_behind, fault_some}
+use Rattle.pp_recorded.proofs.FaultSteps.{none_behind, fault_some}
 use Rattle.pp_audit.proofs.datagrams.is_read_to_end.Goals as goal
 
 pub messages-init : goal.messages-init

@@ -1,6 +1,6 @@
 use Rattle.std.proofs.Common.{◌≡◌, ◌≤◌, ◌-◌, length}
 use Rattle.pp_terms.specs.format.Messages.{datagram}
-use Rattle.pp_audit.specs.Faults.{fault_from}
+use Rattle.pp_recorded.specs.Faults.{fault_from}
 use Rattle.pp_audit.proofs.datagrams.is_read_to_end.Given as goal
 
 abbrev pub invariant-messages : goal.invariant-messages

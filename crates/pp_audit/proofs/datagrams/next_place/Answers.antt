@@ -1,5 +1,5 @@
 use Rattle.std.proofs.Common.{arith}
-use Rattle.pp_audit.proofs.FaultSteps.{passes_to, cut_at}
+use Rattle.pp_recorded.proofs.FaultSteps.{passes_to, cut_at}
 use Rattle.pp_audit.proofs.datagrams.next_place.Goals as goal
 
 pub returns-in-Message : goal.returns-in-Message

@@ -1,6 +1,6 @@
 use Rattle.std.proofs.Common.{◌≡◌, ℕ, suc, ◌+◌, ◌-◌, ◌<◌, max, leb, Bool, cond, length, sym, ◌∙◌, ap, subst, arith}
 use Rattle.std.specs.Prelude.{MatchOption}
-use Rattle.pp_audit.specs.Entries.{past, life_of}
+use Rattle.pp_recorded.specs.Entries.{past, life_of}
 use Rattle.pp_audit.specs.Counted.{counted}
 use Rattle.pp_audit.specs.Debts.{is_left}
 use Rattle.pp_audit.proofs.Countings.{counted-zero, walk_more, walk_stop, walk_done, walk_last}

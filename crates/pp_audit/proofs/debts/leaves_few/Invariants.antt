@@ -1,5 +1,5 @@
 use Rattle.std.proofs.Common.{◌≡◌, ◌≤◌, ◌+◌, ◌-◌}
-use Rattle.pp_audit.specs.Entries.{past, life_of}
+use Rattle.pp_recorded.specs.Entries.{past, life_of}
 use Rattle.pp_audit.specs.Counted.{counted}
 use Rattle.pp_audit.specs.Debts.{is_left}
 use Rattle.pp_audit.proofs.debts.leaves_few.Given as goal

@@ -4,7 +4,7 @@ use Rattle.pp_terms.specs.format.Traffic.{Record}
 use Rattle.pp_traffic.specs.Turns.{in_turns}
 use Rattle.pp_promises.specs.LastTurn.{first_turn}
 use Rattle.pp_outside.specs.Outside.{address_of}
-use Rattle.pp_audit.specs.Entries.{past}
+use Rattle.pp_recorded.specs.Entries.{past}
 use Rattle.pp_audit.specs.Dials.{misses}
 use Rattle.pp_audit.proofs.Misses.{dials_decided}
 use Rattle.pp_audit.proofs.dialling.dials_but.Goals as goal

@@ -1,7 +1,7 @@
 use Rattle.std.proofs.Common.{◌≡◌, ◌≤◌}
 use Rattle.pp_traffic.specs.Turns.{events}
 use Rattle.pp_promises.specs.LastTurn.{first_turn}
-use Rattle.pp_audit.proofs.Pasts.{first}
+use Rattle.pp_recorded.proofs.Pasts.{first}
 use Rattle.pp_audit.proofs.dialling.first_turn.Given as goal
 
 abbrev pub invariant-loop-place : goal.invariant-loop-place

@@ -1,6 +1,6 @@
 use Rattle.std.proofs.Common.{◌≡◌, ◌≤◌, ◌+◌, length, map}
 use Rattle.pp_outside.specs.Outside.{address_of}
-use Rattle.pp_audit.specs.Entries.{past}
+use Rattle.pp_recorded.specs.Entries.{past}
 use Rattle.pp_audit.specs.Dials.{misses}
 use Rattle.pp_audit.proofs.dialling.misses.Given as goal
 

@@ -1,7 +1,7 @@
 use Rattle.std.proofs.Common.{◌≡◌, ◌≤◌, ◌-◌, length}
 use Rattle.std.specs.List.{list_all}
 use Rattle.pp_audit.specs.Digests.{is_long}
-use Rattle.pp_audit.specs.Parts.{all, rest}
+use Rattle.pp_recorded.specs.Parts.{all, rest}
 use Rattle.pp_audit.proofs.digests.are_long.Given as goal
 
 abbrev pub invariant-messages : goal.invariant-messages

@@ -1,7 +1,7 @@
 use Rattle.std.proofs.Common.{◌≡◌, ◌≤◌}
 use Rattle.pp_audit.specs.Ends.{failing_before}
 use Rattle.pp_audit.specs.Clauses.{clause_of}
-use Rattle.pp_audit.proofs.Pasts.{first}
+use Rattle.pp_recorded.proofs.Pasts.{first}
 use Rattle.pp_audit.proofs.ends.failing_before.Given as goal
 
 abbrev pub invariant-loop-place : goal.invariant-loop-place

@@ -1,6 +1,6 @@
 use Rattle.std.proofs.Common.{◌-◌, Bool, not, sym, ◌∙◌, ap, arith}
 use Rattle.std.proofs.lemmas.List.{get_or_default}
-use Rattle.pp_audit.specs.Entries.{past}
+use Rattle.pp_recorded.specs.Entries.{past}
 use Rattle.pp_audit.proofs.LastTurns.{lets_none, lets_other, lets_newcomer}
 use Rattle.pp_audit.proofs.newcomers.lets_in_last.Goals as goal
 

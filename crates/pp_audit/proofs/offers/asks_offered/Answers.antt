@@ -1,5 +1,5 @@
-use Rattle.pp_audit.specs.Entries.{past, life_of}
-use Rattle.pp_audit.specs.Offers.{is_asked_for}
+use Rattle.pp_recorded.specs.Entries.{past, life_of}
+use Rattle.pp_recorded.specs.Offers.{is_asked_for}
 use Rattle.pp_audit.proofs.Countings.{all_more}
 use Rattle.pp_audit.proofs.offers.asks_offered.Goals as goal
 

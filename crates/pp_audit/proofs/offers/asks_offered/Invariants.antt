@@ -1,7 +1,7 @@
 use Rattle.std.proofs.Common.{◌≡◌}
 use Rattle.std.specs.List.{list_all, range_with_len}
-use Rattle.pp_audit.specs.Entries.{past, life_of}
-use Rattle.pp_audit.specs.Offers as terms
+use Rattle.pp_recorded.specs.Entries.{past, life_of}
+use Rattle.pp_recorded.specs.Offers as terms
 use Rattle.pp_audit.proofs.offers.asks_offered.Given as goal
 
 abbrev pub invariant-loop-chunk : goal.invariant-loop-chunk

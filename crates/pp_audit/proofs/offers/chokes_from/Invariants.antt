@@ -1,6 +1,6 @@
 use Rattle.std.proofs.Common.{◌≡◌, ◌≤◌, ◌-◌, length}
-use Rattle.pp_audit.specs.Offers as terms
-use Rattle.pp_audit.specs.Parts.{rest}
+use Rattle.pp_recorded.specs.Offers as terms
+use Rattle.pp_recorded.specs.Parts.{rest}
 use Rattle.pp_audit.proofs.offers.chokes_from.Given as goal
 
 abbrev pub invariant-messages : goal.invariant-messages

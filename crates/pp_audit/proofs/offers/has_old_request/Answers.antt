@@ -1,10 +1,10 @@
 use Rattle.std.proofs.Common.{ℕ, List, sym, ◌∙◌, ap}
 use Rattle.pp_terms.specs.format.Traffic.{Record}
 use Rattle.pp_traffic.specs.Past as traffic
-use Rattle.pp_audit.specs.Entries.{past, life_of}
-use Rattle.pp_audit.specs.Offers.{asked_long}
-use Rattle.pp_audit.proofs.Pasts.{first_all}
-use Rattle.pp_audit.proofs.Offerings.{asked_long_ago}
+use Rattle.pp_recorded.specs.Entries.{past, life_of}
+use Rattle.pp_recorded.specs.Offers.{asked_long}
+use Rattle.pp_recorded.proofs.Pasts.{first_all}
+use Rattle.pp_recorded.proofs.Offerings.{asked_long_ago}
 use Rattle.pp_audit.proofs.offers.has_old_request.Goals as goal
 
 pub returns : goal.returns

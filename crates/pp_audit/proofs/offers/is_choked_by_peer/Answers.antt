@@ -1,9 +1,9 @@
 use Rattle.std.proofs.Common.{List, sym, ◌∙◌, ap}
 use Rattle.pp_terms.specs.format.Traffic.{Record}
-use Rattle.pp_audit.specs.Entries.{past, life_of}
-use Rattle.pp_audit.specs.Offers.{chokes_since}
-use Rattle.pp_audit.proofs.Pasts.{first_all}
-use Rattle.pp_audit.proofs.Offerings.{chokes_heard}
+use Rattle.pp_recorded.specs.Entries.{past, life_of}
+use Rattle.pp_recorded.specs.Offers.{chokes_since}
+use Rattle.pp_recorded.proofs.Pasts.{first_all}
+use Rattle.pp_recorded.proofs.Offerings.{chokes_heard}
 use Rattle.pp_audit.proofs.offers.is_choked_by_peer.Goals as goal
 
 pub returns : goal.returns

@@ -1,7 +1,7 @@
 use Rattle.std.proofs.Common.{arith}
 use Rattle.pp_traffic.specs.Story.{story}
 use Rattle.pp_promises.specs.OwnSide.{is_named}
-use Rattle.pp_audit.specs.Entries.{past, life_of}
+use Rattle.pp_recorded.specs.Entries.{past, life_of}
 use Rattle.pp_audit.proofs.Countings.{count_range}
 use Rattle.pp_audit.proofs.offers.named_count.Goals as goal
 

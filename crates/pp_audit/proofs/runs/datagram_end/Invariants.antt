@@ -1,7 +1,7 @@
 use Rattle.std.proofs.Common.{ℕ, ◌≤◌, ◌-◌, length}
 use Rattle.std.specs.List.{AllByRecursion}
 use Rattle.pp_audit.specs.Alike.{IsAlike}
-use Rattle.pp_audit.specs.Parts.{all, rest}
+use Rattle.pp_recorded.specs.Parts.{all, rest}
 use Rattle.pp_audit.proofs.runs.datagram_end.Given as goal
 
 abbrev pub invariant-messages : goal.invariant-messages

@@ -2,7 +2,7 @@ use Rattle.std.proofs.Common.{List, subst, arith}
 use Rattle.std.proofs.lemmas.List.{get_or_default}
 use Rattle.pp_terms.specs.format.Traffic.{Record}
 use Rattle.pp_audit.specs.Alike.{AreAlike}
-use Rattle.pp_audit.proofs.Pasts.{first_all}
+use Rattle.pp_recorded.proofs.Pasts.{first_all}
 use Rattle.pp_audit.proofs.AlikeNumbers.{alike_more}
 use Rattle.pp_audit.proofs.runs.run_end.Goals as goal
 

@@ -1,6 +1,6 @@
 use Rattle.std.proofs.Common.{ℕ, ◌≤◌}
 use Rattle.pp_audit.specs.Alike.{AreAlike}
-use Rattle.pp_audit.proofs.Pasts.{first}
+use Rattle.pp_recorded.proofs.Pasts.{first}
 use Rattle.pp_audit.proofs.runs.run_end.Given as goal
 
 abbrev pub invariant-loop-entry : goal.invariant-loop-entry

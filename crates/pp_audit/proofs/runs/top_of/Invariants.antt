@@ -1,6 +1,6 @@
 use Rattle.std.proofs.Common.{◌≡◌, ◌≤◌, ◌-◌, max, length}
 use Rattle.pp_audit.specs.Alike as terms
-use Rattle.pp_audit.specs.Parts.{all, rest}
+use Rattle.pp_recorded.specs.Parts.{all, rest}
 use Rattle.pp_audit.proofs.runs.top_of.Given as goal
 
 abbrev pub invariant-messages : goal.invariant-messages

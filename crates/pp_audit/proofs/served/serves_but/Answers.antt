@@ -1,7 +1,7 @@
 use Rattle.std.proofs.Common.{not, ◌||◌, sym, ◌∙◌}
 use Rattle.pp_traffic.specs.Meter.{lets_send}
 use Rattle.pp_promises.specs.Served.{LeavesFew}
-use Rattle.pp_audit.specs.Entries.{past}
+use Rattle.pp_recorded.specs.Entries.{past}
 use Rattle.pp_audit.specs.Asks.{may_be_served}
 use Rattle.pp_audit.specs.Channels.{each_plain}
 use Rattle.pp_audit.specs.Debts.{leaves_few}

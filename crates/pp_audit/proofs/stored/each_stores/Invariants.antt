@@ -1,7 +1,7 @@
 use Rattle.std.proofs.Common.{◌≡◌}
 use Rattle.pp_tree.specs.Book.{entry}
 use Rattle.pp_audit.specs.Stored.{stores_all}
-use Rattle.pp_audit.proofs.Pasts.{first}
+use Rattle.pp_recorded.proofs.Pasts.{first}
 use Rattle.pp_audit.proofs.stored.each_stores.Given as goal
 
 abbrev pub invariant-loop-place : goal.invariant-loop-place

@@ -1,6 +1,6 @@
 use Rattle.std.proofs.Common.{sym, ◌∙◌, arith}
 use Rattle.pp_tree.specs.Book.{entry}
-use Rattle.pp_audit.specs.Entries.{past}
+use Rattle.pp_recorded.specs.Entries.{past}
 use Rattle.pp_audit.proofs.StoredTests.{stored_decided}
 use Rattle.pp_audit.proofs.stored.stores_all.Goals as goal
 

@@ -1,10 +1,10 @@
 use Rattle.std.proofs.Common.{◌≡◌, [], take, sym, ◌∙◌, arith}
 use Rattle.pp_tree.specs.Book.{entry}
 use Rattle.pp_wire.specs.Views.{message_of}
-use Rattle.pp_audit.specs.Entries.{past, life_of}
-use Rattle.pp_audit.specs.Parts.{all, rest}
+use Rattle.pp_recorded.specs.Entries.{past, life_of}
+use Rattle.pp_recorded.specs.Parts.{all, rest}
 use Rattle.pp_audit.specs.Storings.{is_stored, each_stored, known_behind}
-use Rattle.pp_audit.proofs.Sendings.{on_next}
+use Rattle.pp_recorded.proofs.Sendings.{on_next}
 use Rattle.pp_audit.proofs.Storings.{pass_one}
 use Rattle.pp_audit.proofs.storing.each_stored.Goals as goal
 

@@ -1,9 +1,9 @@
 use Rattle.std.proofs.Common.{◌≡◌, ◌≤◌, ◌-◌, [], length}
 use Rattle.pp_tree.specs.Book.{entry}
-use Rattle.pp_audit.specs.Entries.{past, life_of}
-use Rattle.pp_audit.specs.Parts.{all, rest}
+use Rattle.pp_recorded.specs.Entries.{past, life_of}
+use Rattle.pp_recorded.specs.Parts.{all, rest}
 use Rattle.pp_audit.specs.Storings.{is_stored, each_stored, known_behind}
-use Rattle.pp_audit.proofs.Sendings.{IsOn}
+use Rattle.pp_recorded.proofs.Sendings.{IsOn}
 use Rattle.pp_audit.proofs.storing.each_stored.Given as goal
 
 abbrev pub invariant-messages : goal.invariant-messages

@@ -1,5 +1,5 @@
 use Rattle.std.proofs.Common.{arith}
-use Rattle.pp_audit.specs.Entries.{past}
+use Rattle.pp_recorded.specs.Entries.{past}
 use Rattle.pp_audit.proofs.TallyCounts.{counted_capped}
 use Rattle.pp_audit.proofs.tallies.count_of.Goals as goal
 

@@ -1,6 +1,6 @@
 use Rattle.std.proofs.lemmas.Bool.{both_ways}
 use Rattle.pp_counts.specs.Counts.{tally_of}
-use Rattle.pp_audit.specs.Entries.{past}
+use Rattle.pp_recorded.specs.Entries.{past}
 use Rattle.pp_audit.proofs.TallyCounts.{tallied, turns_of, datagrams_of}
 use Rattle.pp_audit.proofs.tallies.is_tallied.Goals as goal
 

@@ -1,6 +1,6 @@
 use Rattle.std.proofs.Common.{◌≡◌, ◌≤◌, count_by}
 use Rattle.pp_audit.specs.Tallies.{is_kind}
-use Rattle.pp_audit.proofs.Pasts.{first}
+use Rattle.pp_recorded.proofs.Pasts.{first}
 use Rattle.pp_audit.proofs.tallies.number_of.Given as goal
 
 abbrev pub invariant-loop-entry : goal.invariant-loop-entry

@@ -1,7 +1,7 @@
 use Rattle.std.proofs.Common.{◌≡◌, ◌<◌, ◌≤◌, refl, arith}
 use Rattle.std.proofs.lemmas.Bool.{ltb-true}
 use Rattle.pp_traffic.specs.Turns.{events}
-use Rattle.pp_audit.specs.Entries.{past}
+use Rattle.pp_recorded.specs.Entries.{past}
 use Rattle.pp_audit.proofs.TallyCounts.{events_counted, none_refused, some_refused, risen_of, few_of}
 use Rattle.pp_audit.proofs.tallies.refused_some.Goals as goal
 

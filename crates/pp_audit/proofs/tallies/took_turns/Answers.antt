@@ -1,5 +1,5 @@
 use Rattle.std.proofs.lemmas.Bool.{both_ways}
-use Rattle.pp_audit.specs.Entries.{past}
+use Rattle.pp_recorded.specs.Entries.{past}
 use Rattle.pp_audit.specs.Tallies.{link_of}
 use Rattle.pp_audit.proofs.TallyCounts.{turns_taken, waited_of, refused_of}
 use Rattle.pp_audit.proofs.tallies.took_turns.Goals as goal

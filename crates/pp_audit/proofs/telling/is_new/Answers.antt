@@ -4,7 +4,7 @@ use Rattle.pp_terms.specs.format.Traffic.{Record}
 use Rattle.pp_traffic.specs.Past.{some_since}
 use Rattle.pp_promises.specs.LastTurn.{earlier, sent_since}
 use Rattle.pp_promises.specs.Announced.{tells_of, was_told_of}
-use Rattle.pp_audit.specs.Entries.{past, life_of}
+use Rattle.pp_recorded.specs.Entries.{past, life_of}
 use Rattle.pp_audit.proofs.LastTurns.{since_start}
 use Rattle.pp_audit.proofs.telling.is_new.Goals as goal
 

@@ -1,6 +1,6 @@
 use Rattle.std.proofs.Common.{arith}
 use Rattle.pp_promises.specs.Announced.{is_new}
-use Rattle.pp_audit.specs.Entries.{past, life_of}
+use Rattle.pp_recorded.specs.Entries.{past, life_of}
 use Rattle.pp_audit.proofs.Countings.{count_range}
 use Rattle.pp_audit.proofs.telling.new_count.Goals as goal
 

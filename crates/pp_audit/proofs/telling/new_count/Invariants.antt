@@ -1,7 +1,7 @@
 use Rattle.std.proofs.Common.{◌≡◌, ◌≤◌, count_by}
 use Rattle.std.specs.List.{range_with_len}
 use Rattle.pp_promises.specs.Announced.{is_new}
-use Rattle.pp_audit.specs.Entries.{past, life_of}
+use Rattle.pp_recorded.specs.Entries.{past, life_of}
 use Rattle.pp_audit.proofs.telling.new_count.Given as goal
 
 abbrev pub invariant-loop-chunk : goal.invariant-loop-chunk

@@ -1,8 +1,0 @@
-use Rattle.std.proofs.Common.{[], ◌∷◌, sym, ◌∙◌}
-use Rattle.pp_terms.specs.format.Traffic.{Quiet}
-use Rattle.pp_audit.specs.Entries.{record_of}
-use Rattle.pp_audit.proofs.Actings.{at_least, now_more}
-use Rattle.pp_audit.proofs.acts.later.Goals as goal
-
-pub returns : goal.returns
-returns c = c.now_after.ensures (Quiet c.args.before ∷ []) (sym (at_least c.args.before)) ∙ now_more c.args.before (record_of c.args.entry.now)

@@ -1,0 +1,14 @@
+use Rattle.std.proofs.Common.{List, ◌∙◌, ap}
+use Rattle.pp_terms.specs.format.Descriptor.{chunks_of}
+use Rattle.pp_traffic.specs.Hashes as hashes
+use Rattle.pp_traffic.specs.Story.{Line}
+use Rattle.pp_tree.specs.Node.{node_of}
+use Rattle.pp_recorded.specs.declared.standing.Standing.{Standing}
+use Rattle.pp_recorded.specs.Entries.{past, life_of}
+use Rattle.pp_recorded.proofs.Standings.{since_opening}
+use Rattle.pp_recorded.proofs.asking.is_told.Goals as goal
+
+pub returns : goal.returns
+returns c =
+    ap (λ (s : Standing). s.found) c.standing_since.ensures
+    ∙ ap (λ (lines : List Line). hashes.is_told (chunks_of c.args.descriptor.now) lines (node_of c.args.node)) (since_opening c.args.descriptor.now (life_of c.args.life) (past c.args.entries.now))
