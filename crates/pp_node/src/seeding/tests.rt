@@ -2,7 +2,7 @@
 // test vector of ChaCha20 (RFC 8439, appendix A.1) the first is ade0b876. What the link carried is audited each time.
 use crate::run;
 use crate::tests::{DESCRIPTOR_OF_ABC, store_of_abc, words_of};
-use pp_audit::{Entry, serves};
+use pp_audit::{Entry, are_whole, plans_all, requests_none, serves};
 use pp_outside::{Address, Disk, Event, Mark, MemoryDisk, MemoryLink, MemorySink, MemorySource};
 use pp_tree::{Book, Descriptor, Digest, Method, Node};
 use std::alloc::{AllocError, Global};
@@ -165,7 +165,7 @@ struct Ran {
     status: u8,
     link: MemoryLink,
     sink: MemorySink,
-    // Whether each chunk that was sent was served, by the book at the return; None where that knows no node.
+    // Whether what was sent is as a seeding promises, by the book at the return; None where that knows no node.
     serves: Option<bool>,
 }
 
@@ -238,8 +238,9 @@ fn entries_of<'m>(alloc: Global, link: &'m MemoryLink) -> Result<Vec<Entry<'m>>,
     Ok(entries)
 }
 
-// Whether each chunk that was sent was served, by the book; None where that doesn't know the root. The tree of one chunk has
-// no other node, so a book that was prepared anew stands for it.
+// Whether each chunk that was sent was served, by the book, behind its plan, in datagrams that are whole, and nothing was asked
+// for; None where the book doesn't know the root. The tree of one chunk has no other node, so a book that was prepared anew
+// stands for it.
 fn audit_entries<'m>(
     alloc: Global,
     descriptor: &Descriptor,
@@ -253,7 +254,12 @@ fn audit_entries<'m>(
     if layer != 0 || book.get(Node { layer, offset }) != prepared.get(Node { layer, offset }) {
         return Ok(None);
     }
-    Ok(Some(serves(descriptor, &prepared, entries)))
+    Ok(Some(
+        serves(descriptor, &prepared, entries)
+            && plans_all(descriptor, entries)
+            && are_whole(descriptor, entries)
+            && requests_none(descriptor, entries),
+    ))
 }
 
 fn audit(
