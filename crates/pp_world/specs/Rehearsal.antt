@@ -1,0 +1,45 @@
+-- Rehearsals: schedules that are made of random words (ChaCha8).
+use Rattle.std.specs.Prelude.{ℕ, ◌+◌, ◌/◌, ◌%◌, ◌==◌, ◌&&◌, if◌then◌else◌, List, [], ◌∷◌, ◌++◌, replicate, slice_index, drop}
+use Rattle.std.specs.Int.{w64, to_be_bytes}
+use Rattle.pp_terms.specs.command.Commands.{Rarest}
+use Rattle.pp_world.specs.Schedule.{Role, Seeds, Fetches, Lose, Repeat, Later, Crash, Start, Step, Once, Run, Schedule, schedule_text}
+
+-- the key of a rehearsal's generator, of which the words are those of stream 0 from the first on
+abbrev pub rehearsal_key : ℕ → List ℕ
+rehearsal_key number = to_be_bytes w64 number ++ replicate 24 0
+
+-- how many words a rehearsal takes
+abbrev pub rehearsal_words : ℕ
+rehearsal_words = 2002
+
+-- what a word does to one of the peers that fetch
+abbrev pub trouble : ℕ → List Step
+trouble w =
+    let p = 1 + (w / 256) % 3 in
+    let kind = w % 16 in
+    if kind == 0 then Once (Lose p) ∷ []
+    else (if kind == 1 then Once (Repeat p) ∷ []
+    else (if kind == 2 then Once (Later p) ∷ []
+    else (if kind == 3 && (w / 16) % 8 == 0 then Once (Crash p ((w / 65536) % 16)) ∷ Once (Start p) ∷ []
+    else [])))
+
+-- that, and a round of 20 milliseconds, for each word; and many rounds at last
+abbrev pub rehearsal_steps : List ℕ → List Step
+rehearsal_steps [] = Run 4000 20000 ∷ []
+rehearsal_steps (w ∷ ws) = trouble w ++ Run 1 20000 ∷ rehearsal_steps ws
+
+abbrev pub rehearsal_roles : List Role
+rehearsal_roles = Seeds ∷ Fetches Rarest (0 ∷ []) ∷ Fetches Rarest (0 ∷ 1 ∷ []) ∷ Fetches Rarest (0 ∷ 1 ∷ 2 ∷ []) ∷ []
+
+-- the rehearsal that these words make
+abbrev pub rehearsal_of : List ℕ → Schedule
+rehearsal_of ws = record {
+  chunk = 1024;
+  size = 131072 + slice_index ws 0 % 131072;
+  shift = slice_index ws 1 % 256;
+  roles = rehearsal_roles;
+  steps = rehearsal_steps (drop 2 ws);
+}
+
+unfoldable pub rehearsal_text : List ℕ → List ℕ
+rehearsal_text ws = schedule_text (rehearsal_of ws)
