@@ -1,1 +1,4 @@
 pub mod WorkedSchedules
+pub mod Lines
+pub mod Numbers
+pub mod Steps
