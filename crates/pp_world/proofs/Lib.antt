@@ -2,3 +2,5 @@ pub mod WorkedSchedules
 pub mod Lines
 pub mod Numbers
 pub mod Steps
+pub mod Roles
+pub mod Contents

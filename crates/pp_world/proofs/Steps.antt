@@ -164,7 +164,7 @@ read_one_peer peers act p few lt =
     ∙ ap (λ (r : Result ℕ ScheduleKind). r >>= λ who. just (Once (act who))) (read_one peers p lt)
 
 -- both words
-two_same : (a b : List ℕ) (c d : List (List ℕ)) → a ≡ b → c ≡ d → a ∷ c ≡ b ∷ d
+pub two_same : (a b : List ℕ) (c d : List (List ℕ)) → a ≡ b → c ≡ d → a ∷ c ≡ b ∷ d
 two_same a b c d first rest = ap (λ (x : List ℕ). x ∷ c) first ∙ ap (λ (xs : List (List ℕ)). b ∷ xs) rest
 
 -- of a step that is an act of one peer
