@@ -4,3 +4,4 @@ pub mod Numbers
 pub mod Steps
 pub mod Roles
 pub mod Contents
+pub mod Texts

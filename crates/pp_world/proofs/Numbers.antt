@@ -15,7 +15,7 @@ use Rattle.pp_world.proofs.Lines.{Lacks}
 
 -- ---- what was read
 
-abbrev value_or : {A E : Type 0} → A → Result A E → A
+abbrev pub value_or : {A E : Type 0} → A → Result A E → A
 value_or x (Ok z) = z
 value_or x (Err e) = x
 

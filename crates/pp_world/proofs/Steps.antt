@@ -84,7 +84,7 @@ bytes_read (high ∷ low ∷ rest) bytes h = of (bytes_of rest) (λ more is. byt
     of None before h = absurd (let never : None ≡ Some bytes = h in cc)
     of (Some more) before h = with_byte (is_lower_hex high && is_lower_hex low) more refl (before more refl) h
 
-are_bytes : (bytes : List ℕ) → AllByRecursion (λ b. b < 256) bytes → IsBytes bytes
+pub are_bytes : (bytes : List ℕ) → AllByRecursion (λ b. b < 256) bytes → IsBytes bytes
 are_bytes [] all i = omega arith
 are_bytes (b ∷ bs) all zero = all.0
 are_bytes (b ∷ bs) all (suc i) = are_bytes bs all.1 i
