@@ -1,16 +1,16 @@
 -- The first two lines are read as those of a schedule, and no others are.
-use Rattle.std.proofs.Common.{◌≡◌, ◌⊎◌, inl, inr, ⊎_elim, ℕ, zero, suc, ◌+◌, ◌^◌, ◌<◌, ◌≤◌, ◌==◌, nat_le, Bool, true, false, ◌&&◌, ◌||◌, List, [], ◌∷◌, codes, decimal, Result, Ok, Err, refl, sym, ◌∙◌, ap, subst, arith}
+use Rattle.std.proofs.Common.{◌≡◌, ◌⊎◌, inl, inr, ⊎_elim, ℕ, zero, suc, ◌^◌, ◌<◌, ◌≤◌, ◌==◌, nat_le, Bool, true, false, ◌&&◌, ◌||◌, List, [], ◌∷◌, codes, decimal, Result, Ok, Err, refl, sym, ◌∙◌, ap, subst, arith}
 use Rattle.std.specs.List.{list_any}
 use Rattle.std.specs.Str.{bytes_eq}
 use Rattle.std.specs.Cmp.Lexicographic.{same_text}
-use Rattle.std.proofs.lemmas.Bool.{and_parts, and_from, cases_Bool, eqb-true, leb-true, le-leb, false≢true}
+use Rattle.std.proofs.lemmas.Bool.{and_parts, and_from, eqb-true, leb-true, le-leb, false≢true}
 use Rattle.pp_terms.specs.tree.Content.{IsChunkSize}
 use Rattle.pp_terms.specs.format.DescriptorRead.{number_of}
 use Rattle.pp_tree.proofs.Sizes.{chunk_size_range}
 use Rattle.pp_world.specs.ScheduleFault.{ScheduleKind}
 use Rattle.pp_world.specs.ScheduleFault as wrong
 use Rattle.pp_world.specs.Schedule.{Schedule}
-use Rattle.pp_world.specs.ScheduleRead.{where_true, is_number, number_in, is_chunk_size, content_with, content_in}
+use Rattle.pp_world.specs.ScheduleRead.{is_number, is_chunk_size, content_with, content_in}
 use Rattle.pp_world.proofs.Numbers.{where_ok, ok_where, number_read, read_number}
 use Rattle.pp_world.proofs.Steps.{never_ok, two_same}
 
@@ -134,9 +134,11 @@ read_is : (least most n : ℕ) → most < 2 ^ 64 → least ≤ n → n ≤ most
     → (is_number (decimal n) ≡ true) × (number_of (decimal n) ≡ n)
 read_is least most n low above below =
     let it = where_ok (is_number (decimal n) && nat_le least (number_of (decimal n)) && nat_le (number_of (decimal n)) most) wrong.Number
-    (number_of (decimal n)) n (read_number least most n low above below) in
-    ((and_parts (is_number (decimal n)) (nat_le least (number_of (decimal n)))
-    (and_parts (is_number (decimal n) && nat_le least (number_of (decimal n))) (nat_le (number_of (decimal n)) most) it.0).0).0, it.1)
+    (number_of (decimal n)) n (read_number least most n low above below) in (
+      (and_parts (is_number (decimal n)) (nat_le least (number_of (decimal n)))
+          (and_parts (is_number (decimal n) && nat_le least (number_of (decimal n))) (nat_le (number_of (decimal n)) most) it.0).0).0,
+      it.1,
+    )
 
 pub read_content : (chunk size shift : ℕ) → IsChunkSize chunk → 1 ≤ size → size ≤ 2 ^ 20 → shift ≤ 255
     → content_in (codes "content" ∷ decimal chunk ∷ decimal size ∷ decimal shift ∷ [])

@@ -1,16 +1,15 @@
 -- What is read of numbers, step by step.
-use Rattle.std.proofs.Common.{◌≡◌, ◌⊎◌, inl, inr, ⊎_elim, ℕ, zero, suc, ◌+◌, ◌^◌, ◌<◌, ◌≤◌, ◌==◌, eqb, nat_lt, nat_le, Bool, true, false, cond, not, ◌&&◌, Option, Some, None, List, [], ◌∷◌, ◌++◌, length, decimal, Result, Ok, Err, refl, sym, ◌∙◌, ap, subst, arith}
+use Rattle.std.proofs.Common.{◌≡◌, ◌⊎◌, inl, inr, ℕ, zero, suc, ◌^◌, ◌<◌, ◌≤◌, ◌==◌, nat_lt, nat_le, Bool, true, false, cond, not, ◌&&◌, Option, Some, None, List, [], ◌∷◌, length, decimal, Result, Ok, Err, refl, sym, ◌∙◌, ap, subst, arith}
 use Rattle.std.specs.Prelude.{slice_index}
-use Rattle.std.specs.List.{AllByRecursion, list_all}
+use Rattle.std.specs.List.{list_all}
 use Rattle.std.specs.Str.{bytes_eq}
 use Rattle.std.specs.Cmp.Lexicographic.{same_text}
-use Rattle.std.proofs.lemmas.Bool.{cases_Bool, and_parts, and_from, false≢true, leb-true, le-leb, ne_eqb, both_ways}
-use Rattle.std.proofs.lemmas.Option.{same_Some}
+use Rattle.std.proofs.lemmas.Bool.{and_parts, and_from, false≢true, leb-true, le-leb, ne_eqb, both_ways}
 use Rattle.pp_terms.specs.format.DescriptorRead.{is_digit, IsNumber, number_of}
 use Rattle.pp_tree.proofs.Readings.{decimal_of_number, number_of_decimal, decimal_is_number}
 use Rattle.pp_world.specs.ScheduleFault.{ScheduleKind}
 use Rattle.pp_world.specs.ScheduleFault as wrong
-use Rattle.pp_world.specs.ScheduleRead.{◌>>=◌, where_true, wants, found, is_number, number_in, peer_in, peers_in, one_of}
+use Rattle.pp_world.specs.ScheduleRead.{◌>>=◌, where_true, wants, found, is_number, number_in, one_of}
 use Rattle.pp_world.proofs.Lines.{Lacks}
 
 -- ---- what was read

@@ -1,6 +1,6 @@
 -- The words of a `peer` line are read as the role that has them, and no other words are read.
-use Rattle.std.proofs.Common.{◌≡◌, ◌≢◌, ◌⊎◌, inl, inr, ⊎_elim, ℕ, zero, suc, ◌+◌, ◌<◌, ◌≤◌, ◌==◌, eqb, nat_lt, nat_le, Bool, true, false, cond, not, ◌&&◌, ◌||◌, Option, Some, None, List, [], ◌∷◌, ◌++◌, length, map, codes, decimal, Result, Ok, Err, refl, sym, ◌∙◌, ap, subst, arith}
-use Rattle.std.specs.List.{AllByRecursion, list_any, list_all}
+use Rattle.std.proofs.Common.{◌≡◌, ◌≢◌, ⊎_elim, ℕ, ◌≤◌, ◌==◌, nat_le, Bool, true, false, not, ◌&&◌, ◌||◌, Some, None, List, [], ◌∷◌, length, map, codes, decimal, Result, Ok, Err, refl, sym, ◌∙◌, ap, subst, arith}
+use Rattle.std.specs.List.{AllByRecursion, list_any}
 use Rattle.std.specs.Str.{bytes_eq}
 use Rattle.std.specs.Cmp.Lexicographic.{same_text}
 use Rattle.std.proofs.lemmas.Bool.{and_parts, and_from, or_parts, leb-true, le-leb, eqb-true, eq-eqb, ne_eqb, both_ways, cases_Bool}
@@ -9,8 +9,8 @@ use Rattle.pp_terms.specs.command.Commands.{Order, Sequential, Rarest, order_tex
 use Rattle.pp_world.specs.ScheduleFault.{ScheduleKind}
 use Rattle.pp_world.specs.ScheduleFault as wrong
 use Rattle.pp_world.specs.Schedule.{Role, Seeds, Fetches, role_words}
-use Rattle.pp_world.specs.ScheduleRead.{◌>>=◌, where_true, wants, found, peer_in, peers_in, order_of, next_peer, seed_in, fetch_in, role_of}
-use Rattle.pp_world.proofs.Numbers.{bind_ok, where_ok, ok_where, wants_ok, ok_wants, found_ok, number_read, read_number}
+use Rattle.pp_world.specs.ScheduleRead.{◌>>=◌, wants, found, peer_in, peers_in, order_of, next_peer, seed_in, fetch_in, role_of}
+use Rattle.pp_world.proofs.Numbers.{bind_ok, where_ok, ok_where, wants_ok, found_ok, number_read, read_number}
 use Rattle.pp_world.proofs.Steps.{never_ok, some_if, two_same}
 
 -- Peer n seeds; or it dials 1 to 15 others, with numbers that a peer can have.

@@ -12,7 +12,7 @@ use Rattle.pp_tree.proofs.HexDigits as digits
 use Rattle.pp_world.specs.ScheduleFault.{ScheduleKind}
 use Rattle.pp_world.specs.ScheduleFault as wrong
 use Rattle.pp_world.specs.Schedule.{Device, Read, Write, Sync, Send, Receive, Act, Turn, Lose, Repeat, Later, Forge, Fail, Crash, Stop, Start, Step, Once, Run, IsStep, device_text, step_words}
-use Rattle.pp_world.specs.ScheduleRead.{◌>>=◌, where_true, found, number_in, peer_in, one_of, nibble, byte_before, bytes_of, datagram_in, device_of, one_peer, run_in, forge_in, fail_in, crash_in, step_of, step_in}
+use Rattle.pp_world.specs.ScheduleRead.{◌>>=◌, where_true, found, number_in, peer_in, one_of, nibble, byte_before, bytes_of, datagram_in, device_of, one_peer, run_in, forge_in, fail_in, crash_in, step_in}
 use Rattle.pp_world.proofs.Numbers.{bind_ok, where_ok, ok_where, found_ok, if_ok, number_read, read_number, one_read, read_one}
 
 pub never_ok : {A E : Type 0} (e : E) (x : A) → Err e ≡ Ok x → ⊥

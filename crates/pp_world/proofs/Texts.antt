@@ -1,5 +1,5 @@
 -- A text is read as a schedule exactly where it is that schedule's text.
-use Rattle.std.proofs.Common.{◌≡◌, ◌≢◌, ◌↔◌, ◌⊎◌, inl, inr, ⊎_elim, ℕ, zero, suc, ◌+◌, ◌^◌, ◌<◌, ◌≤◌, ◌==◌, nat_lt, nat_le, Bool, true, false, cond, not, ◌&&◌, List, [], ◌∷◌, ◌++◌, length, codes, decimal, get_or, map, ◌/◌, ◌%◌, Result, Ok, Err, refl, sym, ◌∙◌, ap, subst, arith, append_assoc}
+use Rattle.std.proofs.Common.{◌≡◌, ◌≢◌, ℕ, suc, ◌+◌, ◌^◌, ◌<◌, ◌≤◌, ◌==◌, nat_lt, nat_le, Bool, true, false, cond, not, ◌&&◌, List, [], ◌∷◌, ◌++◌, length, codes, decimal, get_or, map, ◌/◌, ◌%◌, Result, Ok, Err, refl, sym, ◌∙◌, ap, subst, arith, append_assoc}
 use Rattle.std.specs.List.{AllByRecursion, list_all}
 use Rattle.std.specs.Str.{bytes_eq}
 use Rattle.std.specs.Cmp.Lexicographic.{same_text}
@@ -10,11 +10,12 @@ use Rattle.pp_terms.specs.tree.Content.{IsChunkSize}
 use Rattle.pp_terms.specs.command.Report.{line}
 use Rattle.pp_terms.specs.format.DescriptorRead.{is_lower_hex}
 use Rattle.pp_tree.proofs.HexDigits.{encoded_lower}
+use Rattle.pp_tree.proofs.Sizes.{chunk_size_range}
 use Rattle.pp_world.specs.ScheduleFault.{ScheduleKind, ScheduleFault, fault}
 use Rattle.pp_world.specs.ScheduleFault as wrong
 use Rattle.pp_world.specs.Schedule.{Role, Seeds, Fetches, Turn, Lose, Repeat, Later, Forge, Fail, Crash, Stop, Start, Read, Write, Sync, Send, Receive, Device, Step, Once, Run, Schedule, IsSchedule, IsRole, AreRoles, IsStep, words, device_text, role_words, step_words, role_lines, step_lines, header, schedule_text, most_text, most_lines}
-use Rattle.pp_world.specs.ScheduleRead.{◌>>=◌, wants, Row, rows_of, words_of, step_in, step_at, role_of, role_in, role_at, names_peer, on_line, Declared, peers_with, peers_declared, dials_declared, all_declared, steps_in, peers_end, header_at, content_in, content_at, read_rest, read_second, read_first, read_schedule}
-use Rattle.pp_world.proofs.Lines.{Lacks, ended, unrow, unrow_rows, line_rows, words_back, words_forth, spaced}
+use Rattle.pp_world.specs.ScheduleRead.{◌>>=◌, wants, Row, rows_of, words_of, step_in, step_at, role_in, role_at, names_peer, on_line, Declared, peers_with, peers_declared, dials_declared, all_declared, steps_in, peers_end, header_at, content_in, content_at, read_rest, read_second, read_first, read_schedule, SchedulesRead}
+use Rattle.pp_world.proofs.Lines.{Lacks, ended, unrow, unrow_rows, line_rows, words_back, words_forth}
 use Rattle.pp_world.proofs.Numbers.{value_or, bind_ok, wants_ok, ok_wants, decimal_lacks}
 use Rattle.pp_world.proofs.Steps.{never_ok, step_read, read_step, are_bytes}
 use Rattle.pp_world.proofs.Roles.{IsAlone, role_read, read_role}
@@ -513,3 +514,92 @@ read_steps peers n (step ∷ steps) fits few are =
     ap (λ (r : Result Step ScheduleKind). on_line n r >>= λ x. steps_in peers (n + 1) (step_rows steps) >>= λ xs. Ok (x ∷ xs))
     (read_step_row peers n step (omega (arith, fits)) few are.0)
     ∙ ap (λ (r : Result (List Step) ScheduleFault). r >>= λ xs. Ok (step ∷ xs)) (read_steps peers (n + 1) steps (omega (arith, fits)) few are.1)
+
+-- ---- a schedule's text
+
+lacks_true : (w : List ℕ) → list_all (λ c. not (c == 10)) w ≡ true → Lacks 10 w
+lacks_true [] all = tt
+lacks_true (c ∷ cs) all =
+    let both = and_parts (not (c == 10)) (list_all (λ c. not (c == 10)) cs) all in (un (c == 10) both.0, lacks_true cs both.1)
+  where
+    un : (b : Bool) → not b ≡ true → b ≡ false
+    un true h = absurd (false≢true h)
+    un false h = refl
+
+role_lines_are : (peers n : ℕ) (roles : List Role) (steps : List Step) → peers ≤ 16 → AllAlone n roles → AllByRecursion (IsStep peers) steps
+    → AllByRecursion IsLine (role_rows n roles ++ step_rows steps)
+role_lines_are peers n [] [] few alone are = tt
+role_lines_are peers n [] (step ∷ steps) few alone are =
+    ((refl, words_lack (step_words step) (step_clean peers step few are.0)), role_lines_are peers n [] steps few tt are.1)
+role_lines_are peers n (role ∷ roles) steps few alone are = (
+  (refl, words_lack (codes "peer" ∷ decimal n ∷ role_words role) (role_clean n role alone.0 alone.1)),
+  role_lines_are peers (n + 1) roles steps few alone.2 are,
+)
+
+rest_with : Schedule → Declared → Result Schedule ScheduleFault
+rest_with begun d = all_declared (length d.roles) 3 d.roles >>= λ right. peers_end (length d.roles) d.behind >>= λ end.
+    steps_in (length d.roles) (length d.roles + 3) d.behind >>= λ steps. Ok (record begun { roles = d.roles; steps = steps })
+
+module _ (s : Schedule) (is : IsSchedule s) where
+  abbrev peers : ℕ
+  peers = length s.roles
+
+  abbrev begun : Schedule
+  begun = record { chunk = s.chunk; size = s.size; shift = s.shift; roles = []; steps = [] }
+
+  abbrev rows : List Row
+  rows = role_rows 0 s.roles ++ step_rows s.steps
+
+  alone : AllAlone 0 s.roles
+  alone = all_alone peers 0 s.roles is.few (omega arith) is.roles_are
+
+  content_words : AllByRecursion Clean (codes "content" ∷ decimal s.chunk ∷ decimal s.size ∷ decimal s.shift ∷ [])
+  content_words = (
+    clean_true (codes "content") refl,
+    (
+      clean_number s.chunk (let low = (chunk_size_range s.chunk is.chunk_size).1 in omega (arith, low)),
+      (clean_number s.size (let low = is.most in omega (arith, low)), (clean_number s.shift (let low = is.byte in omega (arith, low)), tt)),
+    ),
+  )
+
+  all_lines : AllByRecursion IsLine (schedule_rows s)
+  all_lines = (
+    (refl, lacks_true header refl),
+    (
+      (refl, words_lack (codes "content" ∷ decimal s.chunk ∷ decimal s.size ∷ decimal s.shift ∷ []) content_words),
+      role_lines_are peers 0 s.roles s.steps is.few alone is.steps_are,
+    ),
+  )
+
+  rest_forth : read_rest begun rows ≡ Ok s
+  unfolding rest_with
+  rest_forth =
+      ap (rest_with begun) (declared_forth peers 0 s.roles s.steps is.few alone is.steps_are)
+      ∙ ap (λ (r : Result (Unit {0}) ScheduleFault). r >>= λ right. peers_end peers (step_rows s.steps) >>= λ end.
+      steps_in peers (peers + 3) (step_rows s.steps) >>= λ steps. Ok (record begun { roles = s.roles; steps = steps }))
+      (all_declared_forth peers 0 3 s.roles is.roles_are)
+      ∙ ap (λ (r : Result (Unit {0}) ScheduleFault). r >>= λ end.
+      steps_in peers (peers + 3) (step_rows s.steps) >>= λ steps. Ok (record begun { roles = s.roles; steps = steps }))
+      (peers_end_forth peers s.steps is.peers is.few is.steps_are)
+      ∙ ap (λ (r : Result (List Step) ScheduleFault). r >>= λ steps. Ok (record begun { roles = s.roles; steps = steps }))
+      (read_steps peers (peers + 3) s.steps (let fit = is.lines_fit in omega (arith, fit)) is.few is.steps_are)
+
+  second_forth : read_second (ended (content_line s) ∷ rows) ≡ Ok s
+  second_forth =
+      ap (λ (ws : List (List ℕ)). on_line 2 (content_in ws >>= λ b. wants true wrong.Line >>= λ end. Ok b) >>= λ b. read_rest b rows)
+      (words_forth (codes "content") (decimal s.chunk ∷ decimal s.size ∷ decimal s.shift ∷ [])
+      (no_space (codes "content" ∷ decimal s.chunk ∷ decimal s.size ∷ decimal s.shift ∷ []) content_words))
+      ∙ ap (λ (r : Result Schedule ScheduleKind). on_line 2 (r >>= λ b. wants true wrong.Line >>= λ end. Ok b) >>= λ b. read_rest b rows)
+      (read_content s.chunk s.size s.shift is.chunk_size is.some is.most is.byte)
+      ∙ rest_forth
+
+  pub read_text : read_schedule (schedule_text s) ≡ Ok s
+  unfolding read_schedule
+  read_text =
+      ap (λ (r : Result (Unit {0}) ScheduleFault). r >>= λ fits. read_first (rows_of (schedule_text s)))
+      (ok_wants (nat_le (length (schedule_text s)) most_text) (fault 0 wrong.Long) (le-leb (length (schedule_text s)) most_text is.text_fits))
+      ∙ ap read_first (ap rows_of (sym (text_of s)) ∙ rows_forth (schedule_rows s) all_lines)
+      ∙ second_forth
+
+pub schedules_read_back : SchedulesRead
+schedules_read_back = record { exact = λ text s. (text_read text s, λ both. ap read_schedule both.0 ∙ read_text s both.1) }

@@ -1,12 +1,12 @@
 -- Reading the text of a schedule: the schedule that it spells, or its first faulty line and what is wrong with it.
-use Rattle.std.specs.Prelude.{ℕ, ◌+◌, ◌-◌, ◌*◌, ◌^◌, ◌==◌, nat_lt, nat_le, Bool, true, false, not, ◌&&◌, if◌then◌else◌, Option, Some, None, List, [], ◌∷◌, length, codes, Result, Ok, Err}
+use Rattle.std.specs.Prelude.{◌≡◌, ◌↔◌, ℕ, ◌+◌, ◌-◌, ◌*◌, ◌^◌, ◌==◌, nat_lt, nat_le, Bool, true, false, not, ◌&&◌, if◌then◌else◌, Option, Some, None, List, [], ◌∷◌, length, codes, Result, Ok, Err}
 use Rattle.std.specs.List.{list_all, list_any}
 use Rattle.std.specs.Str.{bytes_eq}
 use Rattle.pp_terms.specs.command.Commands.{Order, Sequential, Rarest, order_text}
 use Rattle.pp_terms.specs.format.DescriptorRead.{is_digit, is_lower_hex, number_of}
 use Rattle.pp_world.specs.ScheduleFault as wrong
 use Rattle.pp_world.specs.ScheduleFault.{ScheduleKind, ScheduleFault, fault}
-use Rattle.pp_world.specs.Schedule.{Role, Seeds, Fetches, Device, Read, Write, Sync, Send, Receive, Act, Turn, Lose, Repeat, Later, Forge, Fail, Crash, Stop, Start, Step, Once, Run, Schedule, device_text, header, most_text, most_lines}
+use Rattle.pp_world.specs.Schedule.{Role, Seeds, Fetches, Device, Read, Write, Sync, Send, Receive, Act, Turn, Lose, Repeat, Later, Forge, Fail, Crash, Stop, Start, Step, Once, Run, Schedule, IsSchedule, schedule_text, device_text, header, most_text, most_lines}
 
 -- what is read, and then what is read on; or the first fault
 infixl 10 ◌>>=◌
@@ -341,3 +341,7 @@ read_first (row ∷ rows) = on_line 1 (header_at row) >>= λ right. read_second 
 
 unfoldable pub read_schedule : List ℕ → Result Schedule ScheduleFault
 read_schedule text = wants (nat_le (length text) most_text) (fault 0 wrong.Long) >>= λ fits. read_first (rows_of text)
+
+-- The texts that are read are exactly those that a schedule has, each of one.
+pub record SchedulesRead : Type 0 where
+  pub exact : (text : List ℕ) (s : Schedule) → read_schedule text ≡ Ok s ↔ ((text ≡ schedule_text s) × IsSchedule s)

@@ -1,10 +1,16 @@
 //! What is to happen to several peers that share a content: schedules, how they are written and read, and rehearsals, which are
 //! schedules made of random words.
 //!
-//! Its function does nothing. Its contract is worked examples of the definitions.
+//! Its functions do nothing. Their contracts are a law of the definitions, and worked examples of them.
 #![tactic(auto)]
 
 ghost use Rattle.pp_world.specs.ScheduleExamples.{SchedulesThatRead, SchedulesThatDont, Rehearses};
+ghost use Rattle.pp_world.specs.ScheduleRead.{SchedulesRead};
+
+/// A text is read as a schedule exactly where it is the text of that schedule, which keeps the limits.
+pub fn laws_of_schedules()
+    ensures { SchedulesRead }
+{}
 
 /// Texts of schedules: those that are read, those that aren't, each with its first faulty line and what is wrong there; and a rehearsal.
 pub fn worked_schedules()
