@@ -1,12 +1,18 @@
 -- Rehearsals: schedules that are made of random words (ChaCha8).
 use Rattle.std.specs.Prelude.{ℕ, ◌+◌, ◌/◌, ◌%◌, ◌==◌, ◌&&◌, if◌then◌else◌, List, [], ◌∷◌, ◌++◌, replicate, slice_index, drop}
 use Rattle.std.specs.Int.{w64, to_be_bytes}
+use Rattle.rand_core.specs.Steps as steps
+use Rattle.rand_chacha.specs.ChaCha.{of_seed, next_word}
 use Rattle.pp_terms.specs.command.Commands.{Rarest}
 use Rattle.pp_world.specs.Schedule.{Role, Seeds, Fetches, Lose, Repeat, Later, Crash, Start, Step, Once, Run, Schedule, schedule_text}
 
 -- the key of a rehearsal's generator, of which the words are those of stream 0 from the first on
 abbrev pub rehearsal_key : ℕ → List ℕ
 rehearsal_key number = to_be_bytes w64 number ++ replicate 24 0
+
+-- the first so many words of ChaCha8 (four double rounds) with a key: those of stream 0, from place 0 on
+abbrev pub first_words : ℕ → List ℕ → List ℕ
+first_words count key = steps.first_words (next_word 4) count (of_seed key)
 
 -- how many words a rehearsal takes
 abbrev pub rehearsal_words : ℕ
