@@ -21,8 +21,11 @@ struct Swarm {
 
 // byte j of each content: 5, 12, 19 .., with a step more at each 256th
 fn byte(j: u32) -> u8 {
-    let j = u64::from(j);
-    ((5 + 7 * j + j / 256 + j / 65_536) % 256) as u8
+    let [_, high, middle, low] = j.to_be_bytes();
+    low.wrapping_mul(7)
+        .wrapping_add(5)
+        .wrapping_add(middle)
+        .wrapping_add(high)
 }
 
 fn prepared(alloc: Global, descriptor: &Descriptor) -> Result<Book, Fail>
@@ -275,25 +278,33 @@ fn bytes_that_nothing_proves_are_refused(rt: HostRuntime) -> Result<(), Fail> {
     Ok(())
 }
 
-#[test]
-fn other_bytes_are_refused(rt: HostRuntime) -> Result<(), Fail> {
-    let alloc = rt.alloc();
-    let swarm = seven_chunks(alloc)?;
+// Nothing was written behind the header.
+fn is_blank(bytes: &[u8]) -> bool {
+    bytes.iter().skip(64).all(|byte| *byte == 0)
+}
+
+// What comes of chunk 0 with its first bit changed, whether nothing is written, and how many chunks wait.
+fn put_changed(alloc: Global, swarm: &Swarm) -> Result<(Option<Put>, bool, u32), Fail> {
     let mut bytes = bytes_of(1024, 0);
     bytes[0] ^= 1;
-    let claims = claims_of(alloc, &swarm, 0)?;
-    let mut fresh = Fresh::of(alloc, &swarm)?;
-    let put = fresh.put(&swarm, 0, &bytes, &claims)?;
-    let node = Node {
-        layer: 2,
-        offset: 0,
+    let claims = claims_of(alloc, swarm, 0)?;
+    let mut fresh = Fresh::of(alloc, swarm)?;
+    let put = fresh.put(swarm, 0, &bytes, &claims)?;
+    Ok((put, is_blank(fresh.disk.bytes()), fresh.store.pending()))
+}
+
+#[test]
+fn other_bytes_are_refused(rt: HostRuntime) -> Result<(), Fail> {
+    let swarm = seven_chunks(rt.alloc())?;
+    let put = Put::Wrong {
+        node: Node {
+            layer: 2,
+            offset: 0,
+        },
+        found: Digest::new(<[u8; 32]>::from_hex(CHANGED)?),
+        kept: Digest::new(<[u8; 32]>::from_hex(PEAK)?),
     };
-    let found = Digest::new(<[u8; 32]>::from_hex(CHANGED)?);
-    let kept = Digest::new(<[u8; 32]>::from_hex(PEAK)?);
-    assert_eq!(rt; put, Some(Put::Wrong { node, found, kept }));
-    // Nothing was written behind the header.
-    assert!(rt; fresh.disk.bytes().iter().skip(64).all(|byte| *byte == 0));
-    assert_eq!(rt; fresh.store.pending(), 0);
+    assert_eq!(rt; put_changed(rt.alloc(), &swarm)?, (Some(put), true, 0));
     Ok(())
 }
 
@@ -324,29 +335,46 @@ fn put_first(
     Ok((committed, put))
 }
 
-// Refuses the call after so many, crashes with the pick and opens again: answers whether all was put. What was committed
-// is to be held.
-fn survives(alloc: Global, swarm: &Swarm, calls: u32, pick: u64) -> Result<bool, Fail> {
-    let mut disk = MemoryDisk::new(alloc, &[])?;
+// Puts all seven on a disk that refuses the call after so many. The store, and whether all was put.
+fn put_some(alloc: Global, swarm: &Swarm, disk: &mut StoppingDisk) -> Result<(Store, bool), Fail> {
     let mut book = prepared(alloc, &swarm.descriptor)?;
-    let mut store = opened(alloc, &swarm.descriptor, &mut disk, &mut book)?;
-    let mut disk = StoppingDisk {
-        inner: disk,
-        left: calls,
-    };
-    let done = put_all(alloc, swarm, 7, true, &mut store, &mut book, &mut disk)?;
-    if store.is_live() != done {
-        return Err("live after a refusal".into());
-    }
-    disk.inner.crash(pick);
+    let mut store = opened(alloc, &swarm.descriptor, &mut disk.inner, &mut book)?;
+    let done = put_all(alloc, swarm, 7, true, &mut store, &mut book, disk)?;
+    Ok((store, done))
+}
+
+fn open_again(alloc: Global, swarm: &Swarm, disk: &mut MemoryDisk) -> Result<Store, Fail> {
     let mut book = prepared(alloc, &swarm.descriptor)?;
-    let again = opened(alloc, &swarm.descriptor, &mut disk.inner, &mut book)?;
+    opened(alloc, &swarm.descriptor, disk, &mut book)
+}
+
+// Whether the second store lacks one of seven chunks that the first committed.
+fn lacks_some(store: &Store, again: &Store) -> bool {
     for i in 0..7 {
         if store.committed().first_from(i) == Some(i)
             && again.committed().first_from(i) != Some(i)
         {
-            return Err("a chunk that was committed is lost".into());
+            return true;
         }
+    }
+    false
+}
+
+// Refuses the call after so many, crashes with the pick and opens again: answers whether all was put. What was committed
+// is to be held.
+fn survives(alloc: Global, swarm: &Swarm, calls: u32, pick: u64) -> Result<bool, Fail> {
+    let mut disk = StoppingDisk {
+        inner: MemoryDisk::new(alloc, &[])?,
+        left: calls,
+    };
+    let (store, done) = put_some(alloc, swarm, &mut disk)?;
+    disk.inner.crash(pick);
+    let again = open_again(alloc, swarm, &mut disk.inner)?;
+    if store.is_live() != done {
+        return Err("live after a refusal".into());
+    }
+    if lacks_some(&store, &again) {
+        return Err("a chunk that was committed is lost".into());
     }
     Ok(done)
 }
