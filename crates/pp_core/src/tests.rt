@@ -16,11 +16,19 @@ pub(crate) const ROOT: [u8; 32] = [
     0x77, 0xf6, 0xcd, 0xfe, 0xaa, 0xa0, 0xac, 0xb3, 0x39, 0x9a, 0xc8, 0xd8, 0x7b, 0x4d, 0x8f, 0x73,
 ];
 
-// 5, 12, 19 .., with a step more at each 256th.
+// Byte j of the content: 5, 12, 19 .., with a step more at each 256th.
+fn byte(j: u32) -> u8 {
+    let [_, high, middle, low] = j.to_be_bytes();
+    low.wrapping_mul(7)
+        .wrapping_add(5)
+        .wrapping_add(middle)
+        .wrapping_add(high)
+}
+
 fn content() -> [u8; 7000] {
     let mut bytes = [0u8; 7000];
-    for (j, byte) in bytes.iter_mut().enumerate() {
-        *byte = ((5 + 7 * j + j / 256 + j / 65_536) % 256) as u8;
+    for (j, byte_j) in bytes.iter_mut().enumerate() {
+        *byte_j = byte(j as u32);
     }
     bytes
 }
