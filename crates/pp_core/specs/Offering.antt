@@ -32,11 +32,13 @@ IsOpen d life past = IsPlainNow d life past ⊎ ((life.is_dialled ≡ false) × 
 
 -- A fetching peer has each chunk that a story offers among those that a seat offers.
 abbrev pub OffersAll : ℕ → Parts → (seat : ℕ) → List Line → Type 0
-OffersAll chunks p seat story = is_some p.fetching ≡ true → (i : ℕ) → i < chunks → is_offered i story ≡ true → offers_of p.fetching seat i ≡ true
+OffersAll chunks p seat story =
+    is_some p.fetching ≡ true → (i : ℕ) → i < chunks → is_offered i story ≡ true → offers_of p.fetching seat i ≡ true
 
--- So it is of each such channel.
+-- On each open channel whose other peer's number is known what that peer offers stands among the offers of its seat.
 abbrev pub OffersHeard : Descriptor → Parts → List Record → Type 0
-OffersHeard d p past = (life : Life) → IsOpen d life past → (seat : ℕ) (c : Channel) → channel_at p.seats.table seat ≡ Some c → IsOfLife c life
+OffersHeard d p past = (life : Life) → IsOpen d life past
+    → (seat : ℕ) (c : Channel) → channel_at p.seats.table seat ≡ Some c → IsOfLife c life
     → OffersAll (chunks_of d) p seat (read_story d life past)
 
 -- below which number a peer asks for chunks; none where it doesn't fetch

@@ -59,7 +59,8 @@ WritesLately old later added = (b : Beginning) (most : ℕ) (past before : List 
 
 -- The newcomer that came last was let in, unless the link refused a datagram.
 abbrev pub LetsNewcomerIn : Scene → LinkState → List Record → Type 0
-LetsNewcomerIn old later added = (event : Event) (bytes : List ℕ) (start : Parts) → Absorbs event bytes start old.parts → IsEvent event bytes
+LetsNewcomerIn old later added =
+    (event : Event) (bytes : List ℕ) (start : Parts) → Absorbs event bytes start old.parts → IsEvent event bytes
     → (b : Beginning) (most still : ℕ) (past before : List Record) → StandsFor b most start past
     → StandsFor b still old.parts (record_of event bytes ∷ past) → old.link.traffic ≡ Some before
     → LetsIn b.d (added ++ record_of event bytes ∷ past) ⊎ HasRisen old.link.faults later.faults
@@ -122,7 +123,8 @@ AsksAll old new later added = (b : Beginning) (most : ℕ) (past : List Record) 
     → AsksOrHolds b.d (chunks_of b.d) others (added ++ past) ⊎ HasRisen old.link.faults later.faults
 
 -- What a flush promises in which so many calls were given up, and these records went.
-pub record Promises (refused : ℕ) (old new : PeerState) (link later : LinkState) (disk left : DiskState) (added : List Record) : Type 0 where
+pub record Promises (refused : ℕ) (old new : PeerState) (link later : LinkState) (disk left : DiskState)
+    (added : List Record) : Type 0 where
   pub closes_none : ClosesNone (scene old.parts link disk) added
   pub serves : ServesOwed refused (scene old.parts link disk) later added
   pub lost : AreRefused refused (scene old.parts link disk) (scene new.parts later left)

@@ -116,7 +116,7 @@ AwaitsFor d book p whole before r = (n i : ℕ) (c : Channel) (life : Life) (byt
     → IsPlainNow d life whole → life.address ≡ address_of c.address → life.local ≡ c.local → IsFirst d book life before r i bytes
     → (is_acknowledged i (story d life whole) ≡ true) ⊎ AwaitsTicket n i p.holding.queue
 
--- So it is with each record.
+-- Of each chunk that came first an ACK went, or its ticket waits.
 abbrev pub AwaitsAck : Descriptor → LookUp → Parts → List Record → Type 0
 AwaitsAck d book p past = EachRecord (AwaitsFor d book p past) past
 

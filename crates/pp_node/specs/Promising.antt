@@ -149,13 +149,14 @@ Binds _ listen old new = GainsAddress old.bound listen new.bound
 abbrev pub devices_of : Outside → Devices
 devices_of o = record { disk = o.disk; link = o.link; sink = o.sink }
 
--- What a run promises of the ends of its turns, while the disk, which is honest and tells, refuses nothing but readings. Where every image was
--- sound at the attachment, what comes on a plain channel and is proved by what its peer claims is held, or the book contradicts it. Of a link
--- that tells, at the end of every turn but so many as something was refused: of the channels that may be served none is left more chunks that
--- it was told of, and asked for, than something was refused; a datagram went on each plain channel in the last 120 seconds; a newcomer that
--- began the turn was let in. Nobody was choked while there were slots for all. Where the link refused nothing, each plain channel was told of
--- what was announced before, or stood in every image at the attachment, or of 64 new chunks in the turn; and a chunk that came first, and is
--- proved and agrees with the book, was acknowledged on its channel by the end of the next turn in which nothing came.
+-- What a run promises of the ends of its turns, while the disk, which is honest and tells, refuses nothing but readings. Where every
+-- image was sound at the attachment, what comes on a plain channel and is proved by what its peer claims is held, or the book
+-- contradicts it. Of a link that tells, at the end of every turn but so many as something was refused: of the channels that may be
+-- served none is left more chunks that it was told of, and asked for, than something was refused; a datagram went on each plain
+-- channel in the last 120 seconds; a newcomer that began the turn was let in. Nobody was choked while there were slots for all. Where
+-- the link refused nothing, each plain channel was told of what was announced before, or stood in every image at the attachment, or
+-- of 64 new chunks in the turn; and a chunk that came first, and is proved and agrees with the book, was acknowledged on its channel
+-- by the end of the next turn in which nothing came.
 pub record IsKeptTo (d : Descriptor) (old new : Outside) (added : List Record) : Type 0 where
   pub stores : IsSteady d old.disk new.disk → StoresAll d (entry new.book) new.disk.history.reads added
   pub serves_owed : (before : List Record) → old.link.traffic ≡ Some before → IsSteady d old.disk new.disk → CountsTell (devices_of new)
@@ -201,17 +202,19 @@ pub record SeedEnds (result : ℕ) (w : PeerWords) (old new : Outside) : Type 0 
   pub asks_none : RequestsNone w.descriptor run.added
   pub ends : SeedsIn run.status w old new run.added
 
--- Where a turn was taken, each of at most 16 addresses was dialled in the first, but that of a datagram that came in it, and but for as many
--- as something was refused.
+-- Where a turn was taken, each of at most 16 addresses was dialled in the first, but that of a datagram that came in it, and but for
+-- as many as something was refused.
 abbrev pub DialsAsTold : Descriptor → List Address → Outside → Outside → List Record → Type 0
 DialsAsTold d dial old new added = length dial ≤ 16 → old.link.nexts < new.link.nexts → (before : List Record)
     → old.link.traffic ≡ Some before → IsWilling old.disk new.disk → CountsTell (devices_of new)
     → DialsBut (refusals (devices_of old) (devices_of new)) d dial added
 
--- While the disk, which is honest and tells, refuses nothing but readings, and every image was sound at the attachment: at the end of every turn
--- but so many as something was refused, each chunk was asked for that a channel offers which may be asked, or is held at the end.
+-- While the disk, which is honest and tells, refuses nothing but readings, and every image was sound at the attachment: at the end of
+-- every turn but so many as something was refused, each chunk was asked for that a channel offers which may be asked, or is held at
+-- the end.
 abbrev pub AsksAsOffered : Descriptor → Outside → Outside → List Record → Type 0
-AsksAsOffered d old new added = (before : List Record) → old.link.traffic ≡ Some before → IsSteady d old.disk new.disk → CountsTell (devices_of new)
+AsksAsOffered d old new added = (before : List Record) → old.link.traffic ≡ Some before
+    → IsSteady d old.disk new.disk → CountsTell (devices_of new)
     → AsksBut (refusals (devices_of old) (devices_of new)) d new.disk.history.reads added
 
 -- A run of `fetch`, which is to dial these addresses.
