@@ -20,7 +20,7 @@ use Rattle.pp_traffic.specs.Tallied.{IsTallied}
 use Rattle.pp_traffic.specs.Turns.{is_closing, in_turns}
 use Rattle.pp_promises.specs.LastTurn.{last_event, sent_since, earlier, is_quiet, first_turn}
 use Rattle.pp_promises.specs.ReadStory.{read_story, proven_story}
-use Rattle.pp_promises.specs.OwnSide.{is_choked_by_peer, is_offered, has_old_request, asking, may_ask}
+use Rattle.pp_promises.specs.OwnSide.{is_choked_by_peer, is_offered, has_old_request, Asking, asking, may_ask}
 use Rattle.pp_promises.specs.Stored.{claimed_before, met_before}
 use Rattle.pp_promises.specs.Served.{is_announced, is_owed}
 use Rattle.pp_promises.specs.Announced.{is_acknowledged, is_told_of, new_count}
@@ -186,16 +186,37 @@ pub record FetchingExamples : Type 0 where
 
 -- ---- this peer's own side
 
+abbrev pub alices : List Record → Asking
+alices records = asking hundred (dialled 1) (past records)
+
+-- the chunks of the requests that are outstanding
+abbrev pub asked_of_alice : List Record → List ℕ
+asked_of_alice records = map (λ q. q.chunk) (alices records).requests
+
 pub record OwnExamples : Type 0 where
-  pub outstanding : asking hundred (dialled 1) (past run.own_asking)
-      ≡ record { requests = record { chunk = 0; asked_at = 1100000 } ∷ record { chunk = 2; asked_at = 1100000 } ∷ []; is_choked = false; is_stopped = false }
-  pub waiting : length (asking hundred (dialled 1) (past run.own_waiting)).requests ≡ 2
-  pub expired : asking hundred (dialled 1) (past run.own_expired) ≡ record { requests = []; is_choked = false; is_stopped = true }
-  pub again : asking hundred (dialled 1) (past run.own_again) ≡ record { requests = []; is_choked = false; is_stopped = false }
-  pub choked : asking hundred (dialled 1) (past run.own_choked) ≡ record { requests = []; is_choked = true; is_stopped = false }
+  -- the second overtook the first
+  pub outstanding : alices run.own_asking ≡ record {
+    requests = record { chunk = 0; asked_at = 1100000; overtaken = 1 } ∷ record { chunk = 2; asked_at = 1100000; overtaken = 0 } ∷ [];
+    is_choked = false;
+    is_stopped = false;
+  }
+  pub waiting : asked_of_alice run.own_waiting ≡ 0 ∷ 2 ∷ []
+  pub expired : alices run.own_expired ≡ record { requests = []; is_choked = false; is_stopped = true }
+  pub again : alices run.own_again ≡ record { requests = []; is_choked = false; is_stopped = false }
+  pub choked : alices run.own_choked ≡ record { requests = []; is_choked = true; is_stopped = false }
+  -- three overtook the fifth, and it is lost; two are too few; it is asked for again like any other
+  pub lost : asked_of_alice run.own_overtaken ≡ 8 ∷ 9 ∷ []
+  pub overtaken_twice : asked_of_alice run.own_overtaken_twice ≡ 4 ∷ 7 ∷ 8 ∷ 9 ∷ []
+  pub asked_again : (alices run.own_asked_again).requests ≡ record { chunk = 4; asked_at = 1200000; overtaken = 0 }
+      ∷ record { chunk = 8; asked_at = 1100000; overtaken = 0 } ∷ record { chunk = 9; asked_at = 1100000; overtaken = 0 } ∷ []
+  -- earlier ones overtake nothing, and lesser ones neither
+  pub passed_by_earlier : (alices run.own_passed_by_earlier).requests ≡ record { chunk = 3; asked_at = 1150000; overtaken = 0 } ∷ []
+  pub passed_by_lesser : (alices run.own_passed_by_lesser).requests ≡ record { chunk = 9; asked_at = 1100000; overtaken = 0 } ∷ []
+  -- where asking stopped one chunk may be asked for, and no second; its answer ends the stop
+  pub probed : (may_ask (alices run.own_expired) ≡ true) × (may_ask (alices run.own_probed) ≡ false)
+      × ((alices run.own_probed).is_stopped ≡ true) × (alices run.own_answered ≡ record { requests = []; is_choked = false; is_stopped = false })
   pub offered : is_offered 99 (story hundred (dialled 1) (past run.own_asking)) ≡ true
-  pub asked_next : (may_ask (asking hundred (dialled 1) (past run.own_asking)) ≡ true) × (may_ask (asking hundred (dialled 1) (past run.own_expired)) ≡ false)
-      × (may_ask (asking hundred (dialled 1) (past run.own_again)) ≡ true) × (may_ask (asking hundred (dialled 1) (past run.own_choked)) ≡ false)
+  pub asked_next : (may_ask (alices run.own_asking) ≡ true) × (may_ask (alices run.own_again) ≡ true) × (may_ask (alices run.own_choked) ≡ false)
   -- 31 may be outstanding and one more asked, but not 32
   pub full : (may_ask (asking hundred to_bob (past run.asks_too_few)) ≡ true)
       × (may_ask (asking hundred to_bob (past (run.dials_both ++ run.bob_replies ++ run.asks_bob 0 31))) ≡ false)

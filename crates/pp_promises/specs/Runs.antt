@@ -340,10 +340,12 @@ asked_long_ago = asks_too_few ++ Received 10000000 bob (for 8 []) ∷ Quiet 1110
 
 -- ---- this peer's own side
 
--- three chunks are asked of alice, and one comes
+abbrev pub dials_alice : List Record
+dials_alice = Quiet 1000000 ∷ Sent 1 alice (shake 0 7 []) ∷ Received 1100000 alice (shake 7 9 (have 0 99 ∷ [])) ∷ []
+
+-- three chunks are asked of alice, and the second comes
 abbrev pub own_asking : List Record
-own_asking = Quiet 1000000 ∷ Sent 1 alice (shake 0 7 []) ∷ Received 1100000 alice (shake 7 9 (have 0 99 ∷ [])) ∷ Sent 1 alice (for 9 (request 0 2 ∷ []))
-    ∷ Received 1200000 alice (for 7 (chunk 1 ∷ [])) ∷ []
+own_asking = dials_alice ++ Sent 1 alice (for 9 (request 0 2 ∷ [])) ∷ Received 1200000 alice (for 7 (chunk 1 ∷ [])) ∷ []
 
 abbrev pub own_waiting : List Record
 own_waiting = own_asking ++ Quiet 11099999 ∷ []
@@ -356,6 +358,40 @@ own_again = own_expired ++ Received 11200000 alice (for 7 []) ∷ []
 
 abbrev pub own_choked : List Record
 own_choked = own_asking ++ Received 1300000 alice (for 7 (Choke ∷ [])) ∷ []
+
+-- ten chunks are asked for, and all but the fifth of the first eight come
+abbrev pub answers : ℕ → List ℕ → List Record
+answers at chunks = map (λ i. Received at alice (for 7 (chunk i ∷ []))) chunks
+
+abbrev pub asks_ten : List Record
+asks_ten = dials_alice ++ Sent 1 alice (for 9 (request 0 9 ∷ [])) ∷ []
+
+abbrev pub own_overtaken : List Record
+own_overtaken = asks_ten ++ answers 1200000 (0 ∷ 1 ∷ 2 ∷ 3 ∷ 5 ∷ 6 ∷ 7 ∷ [])
+
+-- two of these overtook it; it is asked for again; and comes then
+abbrev pub own_overtaken_twice : List Record
+own_overtaken_twice = asks_ten ++ answers 1200000 (0 ∷ 1 ∷ 2 ∷ 3 ∷ 5 ∷ 6 ∷ [])
+
+abbrev pub own_asked_again : List Record
+own_asked_again = own_overtaken ++ Sent 1 alice (for 9 (request 4 4 ∷ [])) ∷ []
+
+-- the chunks that come are greater ones that were asked for earlier
+abbrev pub own_passed_by_earlier : List Record
+own_passed_by_earlier = dials_alice ++ Sent 1 alice (for 9 (request 10 12 ∷ [])) ∷ Quiet 1150000 ∷ Sent 1 alice (for 9 (request 3 3 ∷ [])) ∷ []
+    ++ answers 1200000 (10 ∷ 11 ∷ 12 ∷ [])
+
+-- and lesser ones that were asked for later
+abbrev pub own_passed_by_lesser : List Record
+own_passed_by_lesser = dials_alice ++ Sent 1 alice (for 9 (request 9 9 ∷ [])) ∷ Quiet 1150000 ∷ Sent 1 alice (for 9 (request 4 6 ∷ [])) ∷ []
+    ++ answers 1200000 (4 ∷ 5 ∷ 6 ∷ [])
+
+-- where asking stopped one chunk is asked for, and it comes
+abbrev pub own_probed : List Record
+own_probed = own_expired ++ Sent 1 alice (for 9 (request 0 0 ∷ [])) ∷ []
+
+abbrev pub own_answered : List Record
+own_answered = own_probed ++ answers 11200000 (0 ∷ [])
 
 -- what comes before alice's reply is left unread
 abbrev pub before_reply : List Record

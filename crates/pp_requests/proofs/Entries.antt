@@ -7,7 +7,7 @@ use Rattle.std.proofs.lemmas.Bool.Decides.{nat_tests}
 use Rattle.std.proofs.lemmas.List.Quantifiers.{position-Some}
 use Rattle.std.proofs.lemmas.List.Sums.{fails_before_first}
 use Rattle.pp_requests.specs.declared.asking.Asking.{Asking}
-use Rattle.pp_requests.specs.Moments.{asked_at, IsRisingFrom, Changes, IsLeastAsked, IsLeastExpired, NoneExpired}
+use Rattle.pp_requests.specs.Moments.{asked_at, IsRisingFrom, IsLeastExpired, NoneExpired}
 
 pub rising_weaken : (low high : ℕ) (xs : List Asking) → low ≤ high → IsRisingFrom high xs → IsRisingFrom low xs
 rising_weaken low high [] le rising = tt
@@ -25,14 +25,14 @@ at_least (x ∷ xs) low j m rising is = elim (cases_eq x.chunk j) [
       omega (arith, rising.0)
 ]
 
-none_below : (xs : List Asking) (low j : ℕ) → IsRisingFrom low xs → j < low → asked_at xs j ≡ None
+pub none_below : (xs : List Asking) (low j : ℕ) → IsRisingFrom low xs → j < low → asked_at xs j ≡ None
 none_below [] low j rising lt = refl
 none_below (x ∷ xs) low j rising lt =
     let up = rising.0 in
     let test : (x.chunk == j) ≡ false = grind (arith, nat_tests) in
     ap (λ b. cond b (Some x.moment) (asked_at xs j)) test ∙ none_below xs (x.chunk + 1) j rising.1 (omega arith)
 
-member_least : (xs : List Asking) (low k : ℕ) (x : Asking) → IsRisingFrom low xs → k < length xs → x ≡ get_or xs k x → low ≤ x.chunk
+pub member_least : (xs : List Asking) (low k : ℕ) (x : Asking) → IsRisingFrom low xs → k < length xs → x ≡ get_or xs k x → low ≤ x.chunk
 member_least [] low k x rising lt at = absurd (omega arith)
 member_least (y ∷ ys) low zero x rising lt at = omega (arith, ap (λ z. z.chunk) at, rising.0)
 member_least (y ∷ ys) low (suc k) x rising lt at =
@@ -56,37 +56,8 @@ removed_rising [] low (suc k) rising = tt
 removed_rising (y ∷ ys) low zero rising = rising_weaken low (y.chunk + 1) ys (omega (arith, rising.0)) rising.1
 removed_rising (y ∷ ys) low (suc k) rising = (rising.0, removed_rising ys (y.chunk + 1) k rising.1)
 
-pub removed_asked : (xs : List Asking) (low k : ℕ) (x : Asking) → IsRisingFrom low xs → k < length xs → x ≡ get_or xs k x
-    → Changes x.chunk None xs (remove xs k)
-removed_asked [] low k x rising lt at j = absurd (omega arith)
-removed_asked (y ∷ ys) low zero x rising lt at j =
-    let same = ap (λ z. z.chunk) at in
-    elim (cases_eq x.chunk j) [
-      | inl e ↦
-          let test : (x.chunk == j) ≡ true = grind (arith, nat_tests) in
-          none_below ys (y.chunk + 1) j rising.1 (omega arith) ∙ sym (ap (λ b. cond b None (asked_at (y ∷ ys) j)) test)
-      | inr ne ↦
-          let test : (x.chunk == j) ≡ false = grind (arith, nat_tests) in
-          let test' : (y.chunk == j) ≡ false = grind (arith, nat_tests) in
-          sym (ap (λ b. cond b None (asked_at (y ∷ ys) j)) test ∙ ap (λ b. cond b (Some y.moment) (asked_at ys j)) test')
-    ]
-removed_asked (y ∷ ys) low (suc k) x rising lt at j =
-    let rest = removed_asked ys (y.chunk + 1) k x rising.1 (omega arith) at j in
-    let above = member_least ys (y.chunk + 1) k x rising.1 (omega arith) at in
-    elim (cases_eq y.chunk j) [
-      | inl e ↦
-          let test : (x.chunk == j) ≡ false = grind (arith, nat_tests) in
-          let test' : (y.chunk == j) ≡ true = grind (arith, nat_tests) in
-          ap (λ b. cond b (Some y.moment) (asked_at (remove ys k) j)) test'
-          ∙ sym (ap (λ b. cond b None (asked_at (y ∷ ys) j)) test ∙ ap (λ b. cond b (Some y.moment) (asked_at ys j)) test')
-      | inr ne ↦
-          let test' : (y.chunk == j) ≡ false = grind (arith, nat_tests) in
-          ap (λ b. cond b (Some y.moment) (asked_at (remove ys k) j)) test' ∙ rest
-          ∙ ap (λ o. cond (x.chunk == j) None o) (sym (ap (λ b. cond b (Some y.moment) (asked_at ys j)) test'))
-    ]
-
 -- where nothing passes, each place is before the first that does
-all_before : (p : Asking → Bool) (xs : List Asking) (k : ℕ) → position p xs ≡ None → k < length xs → k < position_or_len p xs
+pub all_before : (p : Asking → Bool) (xs : List Asking) (k : ℕ) → position p xs ≡ None → k < length xs → k < position_or_len p xs
 all_before p xs k none lt =
     let first = position_or_len p xs in
     elim (cases_Bool (nat_lt first (length xs))) [
@@ -107,7 +78,7 @@ pub is_place : (xs : List Asking) (i n : ℕ) (o : Option ℕ) → o ≡ positio
 is_place xs i n (Some k) is n_is =
     let at = λ (d : Asking). position-Some (λ x. nat_le i x.chunk) xs k d (sym is) in
     record {
-      within = (let any : Asking = record { chunk = 0; moment = 0 } in omega (arith, n_is, (at any).0));
+      within = (let any : Asking = record { chunk = 0; moment = 0; overtaken = 0 } in omega (arith, n_is, (at any).0));
       before = λ l d lt. (at d).2 l (omega (arith, n_is));
       after = λ lt d. ap (λ m. nat_le i (get_or xs m d).chunk) n_is ∙ (at d).1;
     }
@@ -117,58 +88,30 @@ is_place xs i n None is n_is = record {
   after = λ lt d. absurd (omega (arith, n_is));
 }
 
-pub inserted_rising : (xs : List Asking) (low n i m : ℕ) (e : Asking) → e ≡ record { chunk = i; moment = m } → IsRisingFrom low xs → low ≤ i
+pub inserted_rising : (xs : List Asking) (low n i : ℕ) (e : Asking) → e.chunk ≡ i → IsRisingFrom low xs → low ≤ i
     → asked_at xs i ≡ None → IsPlace xs i n → IsRisingFrom low (insert xs n e)
-inserted_rising [] low zero i m e is rising least absent place = (omega (arith, ap (λ z. z.chunk) is), tt)
-inserted_rising [] low (suc n) i m e is rising least absent place = let within = place.within in absurd (omega arith)
-inserted_rising (y ∷ ys) low zero i m e is rising least absent place =
+inserted_rising [] low zero i e is rising least absent place = (omega arith, tt)
+inserted_rising [] low (suc n) i e is rising least absent place = let within = place.within in absurd (omega arith)
+inserted_rising (y ∷ ys) low zero i e is rising least absent place =
     let after : nat_le i y.chunk ≡ true = place.after (omega arith) y in
     let le : i ≤ y.chunk = grind (arith, nat_tests) in
     let apart : y.chunk ≡ i → ⊥ = λ same.
     let test : (y.chunk == i) ≡ true = grind (arith, nat_tests) in
     let there : asked_at (y ∷ ys) i ≡ Some y.moment = ap (λ b. cond b (Some y.moment) (asked_at ys i)) test in cc in
-    let chunk = ap (λ z. z.chunk) is in
     (omega arith, (omega arith, rising.1))
-inserted_rising (y ∷ ys) low (suc n) i m e is rising least absent place =
+inserted_rising (y ∷ ys) low (suc n) i e is rising least absent place =
     let before : nat_le i y.chunk ≡ false = place.before 0 y (omega arith) in
     let lt : y.chunk < i = grind (arith, nat_tests) in
     let test : (y.chunk == i) ≡ false = grind (arith, nat_tests) in
     let absent' : asked_at ys i ≡ None = sym (ap (λ b. cond b (Some y.moment) (asked_at ys i)) test) ∙ absent in
     let within = place.within in (
       rising.0,
-      inserted_rising ys (y.chunk + 1) n i m e is rising.1 (omega arith) absent' (record {
+      inserted_rising ys (y.chunk + 1) n i e is rising.1 (omega arith) absent' (record {
         within = omega arith;
         before = λ k d less. place.before (suc k) d (omega arith);
         after = λ less d. place.after (omega arith) d;
       }),
     )
-
-pub inserted_asked : (xs : List Asking) (n i m : ℕ) (e : Asking) → e ≡ record { chunk = i; moment = m } → asked_at xs i ≡ None
-    → n ≤ length xs → Changes i (Some m) xs (insert xs n e)
-inserted_asked xs zero i m e is absent within j = ap (λ z. cond (z.chunk == j) (Some z.moment) (asked_at xs j)) is
-inserted_asked [] (suc n) i m e is absent within j = absurd (omega arith)
-inserted_asked (y ∷ ys) (suc n) i m e is absent within j =
-    elim (cases_eq y.chunk i) [
-      | inl same ↦
-          let test : (y.chunk == i) ≡ true = grind (arith, nat_tests) in
-          let there : asked_at (y ∷ ys) i ≡ Some y.moment = ap (λ b. cond b (Some y.moment) (asked_at ys i)) test in
-          cc
-      | inr apart ↦
-          let test : (y.chunk == i) ≡ false = grind (arith, nat_tests) in
-          let absent' : asked_at ys i ≡ None = sym (ap (λ b. cond b (Some y.moment) (asked_at ys i)) test) ∙ absent in
-          let rest = inserted_asked ys n i m e is absent' (omega arith) j in
-          elim (cases_eq y.chunk j) [
-            | inl here ↦
-                let test' : (y.chunk == j) ≡ true = grind (arith, nat_tests) in
-                let other : (i == j) ≡ false = grind (arith, nat_tests) in
-                ap (λ b. cond b (Some y.moment) (asked_at (insert ys n e) j)) test'
-                ∙ sym (ap (λ b. cond b (Some m) (asked_at (y ∷ ys) j)) other ∙ ap (λ b. cond b (Some y.moment) (asked_at ys j)) test')
-            | inr past ↦
-                let test' : (y.chunk == j) ≡ false = grind (arith, nat_tests) in
-                ap (λ b. cond b (Some y.moment) (asked_at (insert ys n e) j)) test' ∙ rest
-                ∙ ap (λ o. cond (i == j) (Some m) o) (sym (ap (λ b. cond b (Some y.moment) (asked_at ys j)) test'))
-          ]
-    ]
 
 -- whether a chunk was asked for
 pub any_asked : (xs : List Asking) (i : ℕ) → list_any (λ x. x.chunk == i) xs ≡ is_some (asked_at xs i)
@@ -242,14 +185,6 @@ none_expired xs now none j m asked =
       | inr ge ↦ (let test : nat_le 10_000_000 (now - m) ≡ true = grind (arith, nat_tests) in cc)
     ]
 
--- the first of all is the least
-pub first_least : (xs : List Asking) (x : Asking) → IsRisingFrom 0 xs → 0 < length xs → x ≡ get_or xs 0 x → IsLeastAsked xs x.chunk
-first_least xs x rising some at = record {
-  moment = x.moment;
-  asked = member_asked xs 0 0 x rising some at;
-  least = λ j m asked. least_passes (λ n. true) xs 0 0 x rising some at (λ l d lt. absurd (omega arith)) j m asked refl;
-}
-
 -- an entry found by its chunk, and none
 pub found_chunk : (xs : List Asking) (i k : ℕ) (x : Asking) → Some k ≡ position (λ y. y.chunk == i) xs → x ≡ get_or xs k x
     → (k < length xs) × (x.chunk ≡ i)
@@ -257,29 +192,6 @@ found_chunk xs i k x is at =
     let found = position-Some (λ y. y.chunk == i) xs k x (sym is) in
     let same : (x.chunk == i) ≡ true = ap (λ y. y.chunk == i) at ∙ found.1 in
     (found.0, grind (arith, nat_tests))
-
-pub found_none : (xs : List Asking) (i : ℕ) → position (λ y. y.chunk == i) xs ≡ None → asked_at xs i ≡ None
-found_none xs i none = absent xs (λ k d lt. fails_before_first (λ y. y.chunk == i) xs k d (all_before (λ y. y.chunk == i) xs k none lt))
-  where
-    absent : (ys : List Asking) → ((k : ℕ) (d : Asking) → k < length ys → ((get_or ys k d).chunk == i) ≡ false) → asked_at ys i ≡ None
-    absent [] fails = refl
-    absent (y ∷ ys) fails =
-        ap (λ b. cond b (Some y.moment) (asked_at ys i)) (fails 0 y (omega arith))
-        ∙ absent ys (λ k d lt. fails (suc k) d (omega arith))
-
--- nothing changes where nothing was asked for
-pub unchanged : (xs : List Asking) (i : ℕ) → asked_at xs i ≡ None → Changes i None xs xs
-unchanged xs i none j = elim (cases_eq i j) [
-  | inl e ↦
-      let test : (i == j) ≡ true = grind (arith, nat_tests) in
-      ap (λ k. asked_at xs k) (sym e) ∙ none ∙ sym (ap (λ b. cond b None (asked_at xs j)) test)
-  | inr ne ↦
-      let test : (i == j) ≡ false = grind (arith, nat_tests) in
-      sym (ap (λ b. cond b None (asked_at xs j)) test)
-]
-
-pub some_by : (b : Bool) (xs : List Asking) → b ≡ (length xs == 0) → b ≡ false → 0 < length xs
-some_by b xs is false_is = let test : (length xs == 0) ≡ false = sym is ∙ false_is in grind (arith, nat_tests)
 
 -- nothing expired, as the code says it
 pub match_none : (o : Option ℕ) (xs : List Asking) (now : ℕ) → o ≡ None → NoneExpired xs now

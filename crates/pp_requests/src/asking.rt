@@ -1,7 +1,7 @@
 // This peer's own requests on one channel.
-ghost use Rattle.std.specs.Prelude.{◌≡◌, ℕ, ◌+◌, ◌==◌, ◌<◌, ◌≤◌, None, Some, is_some, [], length, MatchOption, if◌then◌else◌, position, nat_le, ◌-◌};
+ghost use Rattle.std.specs.Prelude.{◌≡◌, ℕ, ◌+◌, ◌==◌, ◌<◌, ◌≤◌, None, Some, is_some, [], length, MatchOption, if◌then◌else◌, position, nat_le, ◌-◌, map};
 ghost use Rattle.std.specs.List.{list_any};
-ghost use Rattle.pp_requests.specs.Moments.{asked_at, IsRisingFrom, Changes, IsLeastAsked, IsLeastExpired, NoneExpired};
+ghost use Rattle.pp_requests.specs.Moments.{asked_at, entry_of, IsRisingFrom, Changes, ChangesEntry, IsLeastExpired, NoneExpired, is_lost, is_timely, overtaken_by, Answers, IsLeastLost, NoneLost};
 
 use arrayvec::ArrayVec;
 use std::marker::Model;
@@ -12,11 +12,36 @@ const MOST_ASKED: usize = 32;
 // How long an answer may take, in microseconds.
 const PATIENCE: u64 = 10_000_000;
 
-/// A chunk that was asked for, and the moment in microseconds.
+// How many requests have to overtake one to show that it, or its answer, was lost.
+const LOSING: u8 = 3;
+
+/// A chunk that was asked for, the moment in microseconds, and how many requests of greater chunks that were sent no earlier were
+/// answered since: 0 to 3, where 3 may be more.
 #[derive(Clone, Copy, Default)]
 pub struct Asking {
     pub chunk: u32,
     pub moment: u64,
+    pub overtaken: u8,
+}
+
+impl Asking {
+    // whether an answer that comes now counts: it is asked for since less than 10 seconds, and not taken for lost
+    fn is_timely(&self, now: u64) -> bool
+        ensures { result ≡ is_timely now self.now }
+    {
+        now.saturating_sub(self.moment) < PATIENCE && self.overtaken < LOSING
+    }
+
+    // with one more that overtook it, if the answered one did
+    fn overtaken_by(self, answered: &Asking) -> Asking
+        ensures { result ≡ overtaken_by answered.now self }
+    {
+        if self.chunk < answered.chunk && self.moment <= answered.moment {
+            let overtaken = self.overtaken.saturating_add(1).min(LOSING);
+            return Asking { overtaken, ..self };
+        }
+        self
+    }
 }
 
 /// At most 32 chunks that this peer asked for on a channel and that have not come yet, each with the moment of asking,
@@ -71,6 +96,7 @@ impl Asked {
         requires room { length self.old < 32 }
         requires absent { asked_at self.old i ≡ None }
         ensures asked { Changes i (Some now) self.old self.new }
+        ensures entered { ChangesEntry i (Some (record { chunk = i; moment = now; overtaken = 0 })) self.old self.new }
         ensures len { length self.new ≡ length self.old + 1 }
     {
         let at = not_below(&self.entries, i).unwrap_or(self.entries.len());
@@ -79,6 +105,7 @@ impl Asked {
             Asking {
                 chunk: i,
                 moment: now,
+                overtaken: 0,
             },
         );
     }
@@ -90,25 +117,59 @@ impl Asked {
         holds(&self.entries, i)
     }
 
-    /// Takes out a chunk that came, and says whether it was asked for. No number above the greatest chunk's ever was.
-    pub fn answered(&mut self, i: u64) -> bool
+    /// Takes out a chunk, and answers its entry, if it was asked for. No number above the greatest chunk's ever was.
+    fn take_out(&mut self, i: u64) -> Option<Asking>
+        ensures entry { result ≡ entry_of self.old i }
+        ensures taken { ChangesEntry i None self.old self.new }
+        ensures len { length self.new + (if is_some result then 1 else 0) ≡ length self.old }
+    {
+        let at = find(&self.entries, i)?;
+        Some(self.entries.remove(at))
+    }
+
+    /// Takes out a chunk that is not asked for any more, and says whether it was.
+    pub fn withdraw(&mut self, i: u64) -> bool
         ensures was { result ≡ is_some (asked_at self.old i) }
         ensures taken { Changes i None self.old self.new }
+        ensures entries { ChangesEntry i None self.old self.new }
         ensures len { length self.new + (if result then 1 else 0) ≡ length self.old }
     {
-        match find(&self.entries, i) {
-            Some(at) => {
-                self.entries.remove(at);
-                true
-            }
-            None => false,
+        self.take_out(i).is_some()
+    }
+
+    /// Takes out a chunk that came, and says whether it was asked for. Where its request was in time, it overtook those of lesser
+    /// chunks that were sent no later.
+    pub fn came(&mut self, i: u64, now: u64) -> bool
+        ensures was { result ≡ is_some (asked_at self.old i) }
+        ensures taken { Changes i None self.old self.new }
+        ensures answers { Answers now i self.old self.new }
+        ensures len { length self.new + (if result then 1 else 0) ≡ length self.old }
+    {
+        let Some(answered) = self.take_out(i) else {
+            return false;
+        };
+        if answered.is_timely(now) {
+            overtake(&mut self.entries, &answered);
         }
+        true
+    }
+
+    /// Takes out the least chunk whose request, or its answer, was lost: three others overtook it.
+    pub fn lost(&mut self) -> Option<u32>
+        ensures least { MatchOption result (NoneLost self.old) (IsLeastLost self.old) }
+        ensures taken { MatchOption result (self.new ≡ self.old) (λ i. Changes i None self.old self.new) }
+        ensures entries { MatchOption result (self.new ≡ self.old) (λ i. ChangesEntry i None self.old self.new) }
+        ensures len { length self.new + (if is_some result then 1 else 0) ≡ length self.old }
+    {
+        let at = first_lost(&self.entries)?;
+        Some(self.entries.remove(at).chunk)
     }
 
     /// Takes out the least chunk that was asked for 10 seconds ago or longer.
     pub fn expired(&mut self, now: u64) -> Option<u32>
         ensures least { MatchOption result (NoneExpired self.old now) (IsLeastExpired self.old now) }
         ensures taken { MatchOption result (self.new ≡ self.old) (λ i. Changes i None self.old self.new) }
+        ensures entries { MatchOption result (self.new ≡ self.old) (λ i. ChangesEntry i None self.old self.new) }
         ensures len { length self.new + (if is_some result then 1 else 0) ≡ length self.old }
     {
         let at = first_expired(&self.entries, now)?;
@@ -120,18 +181,6 @@ impl Asked {
         ensures { self.new ≡ [] }
     {
         self.entries.clear();
-    }
-
-    /// Takes out the least chunk.
-    pub fn drop_one(&mut self) -> Option<u32>
-        ensures least { MatchOption result (self.old ≡ []) (IsLeastAsked self.old) }
-        ensures taken { MatchOption result (self.new ≡ self.old) (λ i. Changes i None self.old self.new) }
-        ensures len { length self.new + (if is_some result then 1 else 0) ≡ length self.old }
-    {
-        if self.entries.is_empty() {
-            return None;
-        }
-        Some(self.entries.remove(0).chunk)
     }
 }
 
@@ -163,6 +212,22 @@ fn first_expired(entries: &[Asking], now: u64) -> Option<usize>
         .position(|x| PATIENCE <= now.saturating_sub(x.moment))
 }
 
+// the first that three others overtook
+fn first_lost(entries: &[Asking]) -> Option<usize>
+    ensures { result ≡ position is_lost entries.now }
+{
+    entries.iter().position(|x| LOSING <= x.overtaken)
+}
+
+// An answered one overtook others.
+fn overtake(entries: &mut [Asking], answered: &Asking)
+    ensures { entries.new ≡ map (overtaken_by answered.now) entries.old }
+{
+    for entry in entries.iter_mut() {
+        *entry = entry.overtaken_by(answered);
+    }
+}
+
 #[cfg(test)]
 mod tests {
     use super::*;
@@ -182,18 +247,68 @@ mod tests {
         assert_eq!(rt; asked.expired(10_000_000), Some(70));
         assert_eq!(rt; asked.expired(10_000_000), Some(72));
         assert_eq!(rt; asked.expired(10_000_001), Some(69));
-        assert_eq!(rt; asked.drop_one(), Some(71));
-        assert!(rt; asked.answered(100) && !asked.answered(100) && !asked.contains(100));
-        assert_eq!(rt; asked.room(), 5);
-        for _ in 0..27 {
-            assert!(rt; asked.drop_one().is_some());
-        }
-        assert_eq!(rt; asked.drop_one(), None);
-        if asked.room() > 0 && !asked.contains(7) {
-            asked.ask(7, 0);
-        }
-        assert_eq!(rt; asked.room(), 31);
+        assert!(rt; asked.withdraw(100) && !asked.withdraw(100) && !asked.contains(100));
+        assert_eq!(rt; asked.room(), 4);
         asked.clear();
-        assert_eq!(rt; (asked.room(), asked.contains(7)), (32, false));
+        assert_eq!(rt; (asked.room(), asked.contains(71)), (32, false));
+    }
+    // So many chunks from one on are asked for at a moment.
+    fn ask_row(asked: &mut Asked, first: u32, count: u32, moment: u64) {
+        for i in 0..count {
+            if let Some(chunk) = first.checked_add(i)
+                && asked.room() > 0
+                && !asked.contains(chunk)
+            {
+                asked.ask(chunk, moment);
+            }
+        }
+    }
+
+    // All but the fifth come. Once three of greater numbers did it is lost, and once.
+    #[test]
+    fn three_overtake(rt: HostRuntime) {
+        let mut asked = Asked::new();
+        ask_row(&mut asked, 0, 32, 5);
+        for i in [0, 1, 2, 3, 5, 6] {
+            assert!(rt; asked.came(i, 7));
+        }
+        assert_eq!(rt; asked.lost(), None);
+        assert!(rt; asked.came(7, 7));
+        assert_eq!(rt; (asked.lost(), asked.lost()), (Some(4), None));
+        assert!(rt; !asked.came(4, 8));
+    }
+
+    // Chunks 4 to 6 were asked for later than chunk 9, and chunks 20 to 22 later than those.
+    #[test]
+    fn lesser_and_earlier_ones_overtake_nothing(rt: HostRuntime) {
+        let mut asked = Asked::new();
+        ask_row(&mut asked, 9, 1, 5);
+        ask_row(&mut asked, 4, 3, 6);
+        for i in [4, 5, 6, 9] {
+            assert!(rt; asked.came(i, 7));
+        }
+        ask_row(&mut asked, 20, 3, 8);
+        ask_row(&mut asked, 2, 1, 9);
+        for i in 20..23 {
+            assert!(rt; asked.came(i, 10));
+        }
+        assert_eq!(rt; (asked.lost(), asked.contains(2)), (None, true));
+    }
+
+    // Answers after ten seconds, and such as come when their requests were taken for lost, overtake nothing.
+    #[test]
+    fn late_ones_overtake_nothing(rt: HostRuntime) {
+        let mut asked = Asked::new();
+        ask_row(&mut asked, 0, 6, 5);
+        for i in 3..6 {
+            assert!(rt; asked.came(i, 10_000_005));
+        }
+        assert_eq!(rt; asked.lost(), None);
+        ask_row(&mut asked, 10, 4, 10_000_005);
+        for i in 11..14 {
+            assert!(rt; asked.came(i, 10_000_006));
+        }
+        assert!(rt; asked.came(10, 10_000_006));
+        assert_eq!(rt; asked.lost(), Some(0));
     }
 }

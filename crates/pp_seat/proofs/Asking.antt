@@ -4,48 +4,62 @@ use Rattle.pp_seat.specs.Follows.{Frame, Lost, Follows}
 use Rattle.pp_seat.specs.Seats.{SeatState}
 use Rattle.pp_seat.specs.Lines.{names_at, is_named_at, Tale}
 use Rattle.pp_promises.specs.Asked.{named_count}
-use Rattle.pp_promises.specs.OwnSide.{names_in, is_named}
+use Rattle.pp_promises.specs.OwnSide.{names_in, is_named, has_old_request}
+use Rattle.pp_traffic.specs.Fates.{clock}
 use Rattle.pp_terms.specs.format.Messages.{Message, Request}
 use Rattle.pp_traffic.specs.Story.{Line, Heard, Said, Taken}
 use Rattle.std.specs.List.{count_by, range_with_len}
 use Rattle.std.proofs.lemmas.List.Sums.{sum_by-cons}
 use Rattle.std.proofs.Common.{◌≡◌, ◌⊎◌, inl, inr, ⊎_elim, ℕ, ◌+◌, ◌-◌, ◌<◌, ◌≤◌, nat_le, nat_lt, eqb, Bool, true, false, cond, ◌&&◌, Option, Some, None, List, length, refl, sym, ◌∙◌, ap, arith, zero, suc, [], ◌∷◌, subst}
-use Rattle.std.proofs.lemmas.Bool.{and_from, le-leb, and_parts, or_left, or_right, or_cases, false≢true, eq-eqb, ltb-true, cases_lt}
+use Rattle.std.proofs.lemmas.Bool.{and_from, le-leb, and_parts, or_left, or_right, or_cases, false≢true, eq-eqb, ltb-true, cases_lt, cases_eq}
 use Rattle.std.proofs.lemmas.Bool.Decides.{nat_tests}
 use Rattle.pp_terms.specs.tree.Range.{Span, within}
 use Rattle.pp_requests.specs.declared.asking.Asking.{Asking}
-use Rattle.pp_requests.specs.Moments.{asked_at, Changes, IsRisingFrom}
-use Rattle.pp_seat.specs.Own.{HasAsked, CanAsk, AsksAll}
+use Rattle.pp_requests.specs.Moments.{asked_at, entry_of, IsRisingFrom}
+use Rattle.pp_seat.specs.Own.{asked_now, HasAsked, CanAsk, AsksAll, room_of}
 
 -- those from the first up to another were
 pub record AskedTo (first n now : ℕ) (old new : List Asking) : Type 0 where
   pub low : first ≤ n
   pub asked : (j : ℕ) → asked_at new j ≡ cond (nat_le first j && nat_lt j n) (Some now) (asked_at old j)
+  pub entered : (j : ℕ) → entry_of new j ≡ cond (nat_le first j && nat_lt j n) (Some (asked_now j now)) (entry_of old j)
   pub len : length new ≡ length old + (n - first)
 
 pub begins : (first n now : ℕ) (own : List Asking) → n ≡ first → AskedTo first n now own own
 begins first n now own e = record {
   low = omega arith;
   asked = λ j. let none : (nat_le first j && nat_lt j n) ≡ false = grind (arith, nat_tests) in sym (ap (λ (b : Bool). cond b (Some now) (asked_at own j)) none);
+  entered = λ j. let none : (nat_le first j && nat_lt j n) ≡ false = grind (arith, nat_tests) in
+      sym (ap (λ (b : Bool). cond b (Some (asked_now j now)) (entry_of own j)) none);
   len = omega arith;
 }
 
-choose : (now : ℕ) (b c d : Bool) (o : Option ℕ) → (b ≡ true → d ≡ true) → (b ≡ false → d ≡ c) → cond b (Some now) (cond c (Some now) o) ≡ cond d (Some now) o
-choose now true c d o p q = sym (ap (λ (t : Bool). cond t (Some now) o) (p refl))
-choose now false c d o p q = sym (ap (λ (t : Bool). cond t (Some now) o) (q refl))
+choose : {A : Type 0} (x : A) (b c d : Bool) (o : Option A) → (b ≡ true → d ≡ true) → (b ≡ false → d ≡ c) → cond b (Some x) (cond c (Some x) o) ≡ cond d (Some x) o
+choose x true c d o p q = sym (ap (λ (t : Bool). cond t (Some x) o) (p refl))
+choose x false c d o p q = sym (ap (λ (t : Bool). cond t (Some x) o) (q refl))
 
-pub one_more : (first n now : ℕ) (old mid new : List Asking) → AskedTo first n now old mid → Changes n (Some now) mid new → length new ≡ length mid + 1 → AskedTo first (n + 1) now old new
-one_more first n now old mid new a is len =
+pub one_more : (first n now : ℕ) (old mid new : List Asking) → AskedTo first n now old mid → HasAsked n now mid new → AskedTo first (n + 1) now old new
+one_more first n now old mid new a asks =
     let low = a.low in
     let before = a.len in
+    let len = asks.len in
     record {
       low = omega arith;
-      asked = λ j. is j ∙ ap (λ (o : Option ℕ). cond (eqb n j) (Some now) o) (a.asked j) ∙ either j (asked_at old j) low;
+      asked = λ j. asks.asked j ∙ ap (λ (o : Option ℕ). cond (eqb n j) (Some now) o) (a.asked j) ∙ either j now (asked_at old j) low;
+      entered = λ j. asks.entered j ∙ ap (λ (o : Option Asking). cond (eqb n j) (Some (asked_now n now)) o) (a.entered j) ∙ at j (cases_eq n j)
+          ∙ either j (asked_now j now) (entry_of old j) low;
       len = omega arith;
     }
   where
-    either : (j : ℕ) (o : Option ℕ) → first ≤ n → cond (eqb n j) (Some now) (cond (nat_le first j && nat_lt j n) (Some now) o) ≡ cond (nat_le first j && nat_lt j (n + 1)) (Some now) o
-    either j o low = choose now (eqb n j) (nat_le first j && nat_lt j n) (nat_le first j && nat_lt j (n + 1)) o (λ same. grind (arith, nat_tests)) (λ other. grind (arith, nat_tests))
+    at : (j : ℕ) → (n ≡ j) ⊎ (n ≡ j → ⊥) → cond (eqb n j) (Some (asked_now n now)) (cond (nat_le first j && nat_lt j n) (Some (asked_now j now)) (entry_of old j))
+        ≡ cond (eqb n j) (Some (asked_now j now)) (cond (nat_le first j && nat_lt j n) (Some (asked_now j now)) (entry_of old j))
+    at j (inl is) = ap (λ (k : ℕ). cond (eqb n j) (Some (asked_now k now)) (cond (nat_le first j && nat_lt j n) (Some (asked_now j now)) (entry_of old j))) is
+    at j (inr ne) = let other : eqb n j ≡ false = grind (arith, nat_tests) in
+        ap (λ (b : Bool). cond b (Some (asked_now n now)) (cond (nat_le first j && nat_lt j n) (Some (asked_now j now)) (entry_of old j))) other
+        ∙ sym (ap (λ (b : Bool). cond b (Some (asked_now j now)) (cond (nat_le first j && nat_lt j n) (Some (asked_now j now)) (entry_of old j))) other)
+
+    either : {A : Type 0} (j : ℕ) (x : A) (o : Option A) → first ≤ n → cond (eqb n j) (Some x) (cond (nat_le first j && nat_lt j n) (Some x) o) ≡ cond (nat_le first j && nat_lt j (n + 1)) (Some x) o
+    either j x o low = choose x (eqb n j) (nat_le first j && nat_lt j n) (nat_le first j && nat_lt j (n + 1)) o (λ same. grind (arith, nat_tests)) (λ other. grind (arith, nat_tests))
 
 -- ---- with or without room
 
@@ -73,7 +87,7 @@ some_more part n now old mid new a lt named exact =
           let len = to.len in
           let room = can.room in
           let asks = exact (omega arith) (not_yet part n now old mid to lt can.absent) in
-          one_more part.first n now old mid new to asks.asked asks.len;
+          one_more part.first n now old mid new to asks;
     }
   where
     not_yet : (part : Span) (n now : ℕ) (old mid : List Asking) → AskedTo part.first n now old mid → n < part.last + 1 → ((i : ℕ) → within part i ≡ true → asked_at old i ≡ None) → asked_at mid n ≡ None
@@ -86,6 +100,8 @@ some_more part n now old mid new a lt named exact =
 pub all_asked : (part : Span) (n now : ℕ) (old new : List Asking) → AskedTo part.first n now old new → n ≡ part.last + 1 → AsksAll part now old new
 all_asked part n now old new a e = record {
   asked = λ i. let same : (nat_le part.first i && nat_lt i n) ≡ within part i = grind (arith, nat_tests) in a.asked i ∙ ap (λ (b : Bool). cond b (Some now) (asked_at old i)) same;
+  entered = λ i. let same : (nat_le part.first i && nat_lt i n) ≡ within part i = grind (arith, nat_tests) in
+      a.entered i ∙ ap (λ (b : Bool). cond b (Some (asked_now i now)) (entry_of old i)) same;
   len = (let len = a.len in omega arith);
 }
 
@@ -144,10 +160,14 @@ named_then i moment (Said now m ∷ story) e = ⊎_elim
     of _ here = absurd (false≢true here)
 named_then i moment (Taken now ∷ story) e = named_then i moment story e
 
-pub room_left : (f : Frame) (lost : Lost) (s : SeatState) (t : Tale) (room : ℕ) → room + length s.own ≡ 32 → IsRisingFrom 0 s.own → Follows f lost s t
-    → named_count f.chunks t.story < 32 → 0 < room
-room_left f lost s t room is rising h few =
+pub room_left : (f : Frame) (lost : Lost) (s : SeatState) (t : Tale) → length s.own ≤ 32 → IsRisingFrom 0 s.own → Follows f lost s t
+    → has_old_request (clock t.story) t.story ≡ false → named_count f.chunks t.story < 32 → 0 < room_of s.stopped s.own
+room_left f lost s t most_32 rising h fresh few =
     let most = few_pass (λ i. is_named i t.story) s.own 0 f.chunks rising (λ i m e.
     let p = and_parts (nat_lt i f.chunks) (is_named_at i m t.story) (h.own.named i m e) in
     (let lt : i < f.chunks = ltb-true i f.chunks p.0 in omega arith, named_then i m t.story p.1)) in
-    omega arith
+    of s.stopped refl (omega arith)
+  where
+    of : (b : Bool) → s.stopped ≡ b → length s.own < 32 → 0 < room_of s.stopped s.own
+    of true is less = absurd (false≢true (sym fresh ∙ h.own.expired is))
+    of false is less = subst (λ (b : Bool). 0 < room_of b s.own) (sym is) (omega arith)

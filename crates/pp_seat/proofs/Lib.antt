@@ -11,6 +11,7 @@ pub mod Answering
 pub mod Asking
 pub mod Framing
 pub mod News
+pub mod OwnRequests
 pub mod Awaited
 pub mod Outstanding
 pub mod Stops

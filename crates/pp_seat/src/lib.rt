@@ -3,7 +3,7 @@
 #![tactic(auto)]
 
 ghost use Rattle.pp_seat.specs.Frames.{SameTales, TalesGrow, NoneBegins, OwedIsKept, OwedIsGiven, FramesGrow, ReadsComeToNow, NewsAreCounted};
-ghost use Rattle.pp_seat.specs.Awaited.{LinesKeepAwaited, NoneAwaited, AskingIsAwaited, AskingIsChoked, OwnIsAsking, StopsAreTold};
+ghost use Rattle.pp_seat.specs.Awaited.{LinesKeepAwaited, NoneAwaited, OwnIsAsking, StopsAreTold};
 ghost use Rattle.pp_seat.specs.Laws.{IdleStays, IdleSays, CutsNameAlike, OffersGrow, AnnouncedStays, KnownStays, NoneLeft, ChokesAreDue};
 
 mod cursor;
@@ -47,8 +47,6 @@ pub fn laws_of_frames()
 pub fn laws_of_own()
     ensures lines { LinesKeepAwaited }
     ensures begins { NoneAwaited }
-    ensures asking { AskingIsAwaited }
-    ensures choked { AskingIsChoked }
     ensures own { OwnIsAsking }
     ensures stops { StopsAreTold }
 {}

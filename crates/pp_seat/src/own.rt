@@ -4,9 +4,9 @@ ghost use Rattle.std.specs.Prelude.{◌≡◌, ◌↔◌, ◌⊎◌, IsTrue, ◌
 ghost use Rattle.pp_terms.specs.tree.Range.{Span, within};
 ghost use Rattle.pp_terms.specs.format.Messages.{Data, Request, Cancel, Choke, Unchoke};
 ghost use Rattle.pp_traffic.specs.Story.{Line, Heard, Said};
-ghost use Rattle.pp_requests.specs.Moments.{asked_at, IsRisingFrom, Changes, IsLeastAsked, IsLeastExpired, NoneExpired};
+ghost use Rattle.pp_requests.specs.Moments.{asked_at, IsRisingFrom, Changes, IsLeastExpired, NoneExpired, IsLeastLost, NoneLost};
 ghost use Rattle.pp_traffic.specs.Fates.{clock};
-ghost use Rattle.pp_promises.specs.OwnSide.{most_outstanding, is_choked_by_peer, has_old_request, asking};
+ghost use Rattle.pp_promises.specs.OwnSide.{most_outstanding, is_choked_by_peer, has_old_request, is_stopped, asking, most_asked, may_ask};
 ghost use Rattle.pp_terms.specs.format.Traffic.{Record};
 ghost use Rattle.pp_terms.specs.format.Descriptor.{Descriptor, chunks_of};
 ghost use Rattle.pp_traffic.specs.Life.{Life};
@@ -14,7 +14,7 @@ ghost use Rattle.pp_traffic.specs.Past as moments;
 ghost use Rattle.pp_promises.specs.ReadStory.{read_story};
 ghost use Rattle.pp_promises.specs.Asked.{named_count};
 ghost use Rattle.pp_seat.specs.Lines.{Tale};
-ghost use Rattle.pp_seat.specs.Own.{IsSplit, HasAsked, CanAsk, AsksAll};
+ghost use Rattle.pp_seat.specs.Own.{IsSplit, HasAsked, CanAsk, AsksAll, room_of};
 ghost use Rattle.pp_seat.specs.Awaited.{AreAwaited, KeepsAwaited, AllKeepAwaited};
 ghost use Rattle.pp_seat.specs.Follows.{Frame, Lost, Follows, Goes, Stays, Says, Always, HasCome};
 
@@ -27,7 +27,7 @@ impl Seat {
     pub fn heard_choke(&mut self)
         ensures exact { self.new ≡ record self.old { chokes = true; own = [] } }
         ensures goes { (now : ℕ) → Goes Always (Heard now Choke) self.old self.new }
-        ensures awaits { (chunks now : ℕ) (story : List Line) → AreAwaited chunks self.new.own (Heard now Choke ∷ story) }
+        ensures awaits { (now : ℕ) (story : List Line) → AreAwaited self.new.own (Heard now Choke ∷ story) }
     {
         self.chokes = true;
         self.own.clear();
@@ -42,15 +42,16 @@ impl Seat {
         self.chokes = false;
     }
 
-    /// A chunk came, whatever it is worth and whether or not it is one of the content. It answers whether this peer waited for it.
-    pub fn heard_data(&mut self, i: u64) -> bool
+    /// A chunk came now, whatever it is worth and whether or not it is one of the content. It answers whether this peer waited for it.
+    /// Its request may have overtaken others.
+    pub fn heard_data(&mut self, i: u64, now: u64) -> bool
         ensures was { result ≡ is_some (asked_at self.old.own i) }
         ensures rest { self.new ≡ record self.old { own = self.new.own } }
         ensures taken { Changes i None self.old.own self.new.own }
-        ensures goes { (now sent_at : ℕ) (bytes : List ℕ) → Goes Always (Heard now (Data i sent_at bytes)) self.old self.new }
-        ensures awaits { (now sent_at : ℕ) (bytes : List ℕ) → KeepsAwaited (Heard now (Data i sent_at bytes)) self.old.own self.new.own }
+        ensures goes { (at sent_at : ℕ) (bytes : List ℕ) → Goes Always (Heard at (Data i sent_at bytes)) self.old self.new }
+        ensures awaits { (sent_at : ℕ) (bytes : List ℕ) → KeepsAwaited (Heard now (Data i sent_at bytes)) self.old.own self.new.own }
     {
-        self.own.answered(i)
+        self.own.came(i, now)
     }
 
     /// A REQUEST was sent. A chunk of it that this peer waits for already, or for which there is no room, isn't noted.
@@ -71,28 +72,30 @@ impl Seat {
         ensures goes { (now : ℕ) (span : Span) → Goes Always (Said now (Cancel span)) self.old self.new }
         ensures awaits { (now : ℕ) (span : Span) → ((j : ℕ) → within span j ≡ (i == j)) → KeepsAwaited (Said now (Cancel span)) self.old.own self.new.own }
     {
-        self.own.answered(u64::from(i));
+        self.own.withdraw(u64::from(i));
     }
 
-    /// How many chunks more this peer may ask for.
+    /// How many chunks more this peer may ask for: as many as make 32, and where a request expired since a datagram came, one
+    /// chunk that is the only one.
     pub fn room(&self) -> u32
-        ensures room { result + length self.now.own ≡ 32 }
+        ensures room { result ≡ room_of self.now.stopped self.now.own }
+        ensures few { length self.now.own ≤ 32 }
         ensures rising { IsRisingFrom 0 self.now.own }
         ensures some { (f : Frame) (lost : Lost) (t : Tale) → Follows f lost self.now t
-            → named_count f.chunks t.story < most_outstanding → 0 < result }
-        ensures outstanding { (d : Descriptor) (life : Life) (past : List Record) → AreAwaited (chunks_of d) self.now.own (read_story d life past)
-            → NoneExpired self.now.own (moments.now past) → length (asking d life past).requests < most_outstanding → 0 < result }
+            → has_old_request (clock t.story) t.story ≡ false → named_count f.chunks t.story < most_outstanding → 0 < result }
+        ensures outstanding { (d : Descriptor) (life : Life) (past : List Record) → AreAwaited self.now.own (read_story d life past)
+            → NoneExpired self.now.own (moments.now past) → NoneLost self.now.own → self.now.stopped ≡ is_stopped d life past
+            → may_ask (asking d life past) ≡ true → 0 < result }
     {
-        self.own.room()
+        most_asked(self.stopped).saturating_sub(self.own.entries().len() as u32)
     }
 
-    /// Whether the other peer may be asked: it doesn't choke, and no request expired since a datagram came.
+    /// Whether the other peer may be asked: it doesn't choke.
     pub fn may_ask(&self) -> bool
-        ensures exact { IsTrue result ↔ (self.now.chokes ≡ false) × (self.now.stopped ≡ false) }
-        ensures asks { (f : Frame) (lost : Lost) (t : Tale) → Follows f lost self.now t → is_choked_by_peer t.story ≡ false
-            → has_old_request (clock t.story) t.story ≡ false → IsTrue result }
+        ensures exact { IsTrue result ↔ (self.now.chokes ≡ false) }
+        ensures asks { (f : Frame) (lost : Lost) (t : Tale) → Follows f lost self.now t → is_choked_by_peer t.story ≡ false → IsTrue result }
     {
-        !self.chokes && !self.stopped
+        !self.chokes
     }
 
     /// Whether this peer waits for the chunk.
@@ -110,17 +113,29 @@ impl Seat {
         self.own.entries()
     }
 
-    /// Takes out the least chunk that this peer asked for 10 seconds ago or longer, and stops asking.
+    /// Takes out the least chunk that this peer asked for 10 seconds ago or longer. From then on the channel is only probed.
     pub fn expired(&mut self, now: u64) -> Option<u32>
         ensures least { MatchOption result (NoneExpired self.old.own now) (IsLeastExpired self.old.own now) }
         ensures taken { MatchOption result (self.new ≡ self.old)
             (λ i. (self.new ≡ record self.old { own = self.new.own; stopped = true }) × Changes i None self.old.own self.new.own) }
         ensures stays { Stays (HasCome now) self.old self.new }
-        ensures awaits { (chunks : ℕ) (story : List Line) → now ≤ clock story → AreAwaited chunks self.old.own story → AreAwaited chunks self.new.own story }
+        ensures awaits { (story : List Line) → now ≤ clock story → AreAwaited self.old.own story → AreAwaited self.new.own story }
     {
         let i = self.own.expired(now)?;
         self.stopped = true;
         Some(i)
+    }
+
+    /// Takes out the least chunk whose request was lost, or its answer: requests of three greater chunks that were sent no earlier
+    /// were answered since.
+    pub fn lost(&mut self) -> Option<u32>
+        ensures least { MatchOption result (NoneLost self.old.own) (IsLeastLost self.old.own) }
+        ensures taken { MatchOption result (self.new ≡ self.old)
+            (λ i. (self.new ≡ record self.old { own = self.new.own }) × Changes i None self.old.own self.new.own) }
+        ensures stays { Stays Always self.old self.new }
+        ensures awaits { (story : List Line) → AreAwaited self.old.own story → AreAwaited self.new.own story }
+    {
+        self.own.lost()
     }
 
     /// This peer waits for nothing here any more: its requests will be made of other peers. They are no longer those of the channel's
@@ -132,13 +147,20 @@ impl Seat {
         self.own.clear();
     }
 
-    /// A datagram came on the channel: this peer may ask again.
+    /// A datagram came on the channel: this peer asks there again as before.
     pub fn resume(&mut self)
         ensures exact { self.new ≡ record self.old { stopped = false } }
         ensures stays { Stays Always self.old self.new }
     {
         self.stopped = false;
     }
+}
+
+// How many chunks may be asked for at once on a channel: one where a request expired since a datagram came.
+fn most_asked(stopped: bool) -> u32
+    ensures { result ≡ most_asked stopped }
+{
+    if stopped { 1 } else { 32 }
 }
 
 // Notes that a chunk was asked for, where there is room and this peer doesn't wait for it yet.

@@ -234,19 +234,38 @@ fn asked(seat: &mut Seat, first: u32, last: u32, now: u64) {
 }
 
 #[test]
-fn asks_no_more_after_an_expiry(rt: HostRuntime) -> Result<(), Fail> {
+fn asks_for_one_chunk_after_an_expiry(rt: HostRuntime) -> Result<(), Fail> {
     let mut seat = Seat::new(rt.alloc(), 70, 1024)?;
     asked(&mut seat, 3, 5, 5);
     assert_eq!(rt; seat.room(), 29);
-    assert_eq!(rt; (seat.heard_data(4), seat.heard_data(4)), (true, false));
-    assert_eq!(rt; seat.expired(10_000_004), None);
-    assert!(rt; seat.may_ask());
-    assert_eq!(rt; seat.expired(10_000_005), Some(3));
-    assert_eq!(rt; seat.expired(10_000_005), Some(5));
+    assert_eq!(rt;
+        (seat.heard_data(4, 6), seat.heard_data(4, 6)),
+        (true, false)
+    );
+    assert_eq!(rt; (seat.expired(10_000_004), seat.room()), (None, 30));
+    // One is outstanding still, and then none.
+    assert_eq!(rt; (seat.expired(10_000_005), seat.room()), (Some(3), 0));
+    assert_eq!(rt; (seat.expired(10_000_005), seat.room()), (Some(5), 1));
     assert_eq!(rt; seat.expired(10_000_005), None);
-    assert!(rt; !seat.may_ask());
+    asked(&mut seat, 7, 7, 10_000_005);
+    assert_eq!(rt; seat.room(), 0);
+    assert_eq!(rt; (seat.heard_data(7, 10_000_006), seat.room()), (true, 1));
     seat.resume();
-    assert!(rt; seat.may_ask());
+    assert_eq!(rt; seat.room(), 32);
+    Ok(())
+}
+
+// The fifth of 32 never comes.
+#[test]
+fn a_lost_chunk_stops_nothing(rt: HostRuntime) -> Result<(), Fail> {
+    let mut seat = Seat::new(rt.alloc(), 70, 1024)?;
+    asked(&mut seat, 0, 31, 5);
+    for i in [0, 1, 2, 3, 5, 6] {
+        assert!(rt; seat.heard_data(i, 6));
+    }
+    assert_eq!(rt; (seat.lost(), seat.room()), (None, 6));
+    assert!(rt; seat.heard_data(7, 6));
+    assert_eq!(rt; (seat.lost(), seat.lost(), seat.room()), (Some(4), None, 8));
     Ok(())
 }
 

@@ -1,7 +1,7 @@
 use Rattle.pp_seat.proofs.Awaited.{lines_keep_awaited, none_awaited}
-use Rattle.pp_seat.proofs.Outstanding.{asking_is_awaited, asking_is_choked, own_is_asking}
+use Rattle.pp_seat.proofs.Outstanding.{own_is_asking}
 use Rattle.pp_seat.proofs.Stops.{stops_are_told}
 use Rattle.pp_seat.proofs.laws_of_own.Goals as goal
 
 pub returns : goal.returns
-returns c = record { lines = lines_keep_awaited; begins = none_awaited; asking = asking_is_awaited; choked = asking_is_choked; own = own_is_asking; stops = stops_are_told }
+returns c = record { lines = lines_keep_awaited; begins = none_awaited; own = own_is_asking; stops = stops_are_told }

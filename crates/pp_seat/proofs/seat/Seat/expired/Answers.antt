@@ -6,5 +6,5 @@ pub returns-clause-stays : goal.returns-clause-stays
 returns-clause-stays c = rw (← c.self.view_is) (expired_stays _ c.in_ok-i.i c.args.now c.expired.new.self c.in_ok-i.ensures.least c.in_ok-i.ensures.taken)
 
 pub returns-clause-awaits : goal.returns-clause-awaits
-returns-clause-awaits c chunks story come =
-    rw (← c.self.view_is) (expired_keeps_awaited chunks c.args.now c.in_ok-i.i story _ c.expired.new.self c.in_ok-i.ensures.least c.in_ok-i.ensures.taken come)
+returns-clause-awaits c story come =
+    rw (← c.self.view_is) (expired_keeps_awaited c.args.now c.in_ok-i.i story _ c.expired.new.self c.in_ok-i.ensures.least c.in_ok-i.ensures.entries come)

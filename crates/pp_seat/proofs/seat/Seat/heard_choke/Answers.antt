@@ -10,4 +10,4 @@ pub returns-clause-goes : goal.returns-clause-goes
 returns-clause-goes c now = rw (← c.self.view_is) (choke_goes _ c.clear.new.self now c.clear.ensures)
 
 pub returns-clause-awaits : goal.returns-clause-awaits
-returns-clause-awaits c chunks now story = subst (λ xs. AreAwaited chunks xs (Heard now Choke ∷ story)) (sym c.clear.ensures) (choke_keeps_awaited chunks now story)
+returns-clause-awaits c now story = subst (λ xs. AreAwaited xs (Heard now Choke ∷ story)) (sym c.clear.ensures) (choke_keeps_awaited now story)
