@@ -146,7 +146,7 @@ module _ (now : ℕ) (back : Bool) (more : List Note) where
         asked = λ i e c. rest.asked i e (or_parts (within range i) (are_cancelling notes i) c).1;
         kept = λ i e c.
             let parts = or_parts (within range i) (are_cancelling notes i) c in
-            rest.kept i (spared_one i (within range i) old.own h.0.own parts.0 (h.1.1 i) e) parts.1;
+            rest.kept i (spared_one i (within range i) old.own h.0.own parts.0 (asked_spared (within range i) i old.own h.0.own (h.1.1 i)) e) parts.1;
         many = λ none. absurd (false≢true (sym none));
         may = rest.may ∙ ap may_ask h.1.0;
         first = rest.first;

@@ -6,7 +6,9 @@ use Rattle.pp_terms.specs.format.Messages as plain
 use Rattle.pp_terms.specs.format.Messages.{Message}
 use Rattle.pp_terms.specs.tree.Range.{Span, within}
 use Rattle.pp_traffic.specs.Story.{Said}
-use Rattle.pp_requests.specs.Moments.{asked_at, Changes}
+use Rattle.pp_requests.specs.declared.asking.Asking.{Asking}
+use Rattle.pp_requests.specs.Moments.{asked_at, entry_of, ChangesEntry}
+use Rattle.pp_requests.proofs.Chunks.{asked_spared}
 use Rattle.pp_draft.specs.declared.note.Note.{Note}
 use Rattle.pp_draft.specs.declared.note.Note.TheVariants.{KeepAlive, Handshake, Close, Choke, Unchoke, Ack, Have, Request, Cancel, PexReq, Pex4, Pex6}
 use Rattle.pp_draft.specs.Notes.{Says, SayAll}
@@ -222,7 +224,7 @@ have_again now range s = one_said now true (Have range) s s refl (λ d ms names 
 
 -- CANCELs of a range that this peer waits for no longer
 pub cancel_said : (now : ℕ) (back : Bool) (range : Span) (old new : SeatState) → new ≡ record old { own = new.own }
-    → ((i : ℕ) → asked_at new.own i ≡ cond (within range i) None (asked_at old.own i)) → AreSaid now back (Cancel range ∷ []) old new
+    → ((i : ℕ) → entry_of new.own i ≡ cond (within range i) None (entry_of old.own i)) → AreSaid now back (Cancel range ∷ []) old new
 cancel_said now back range old new rest gone = freely_said now back (Cancel range) old new (rest, gone) (λ d ms names. record {
   follows = λ f lost t so h.
       subst (λ (x : List Message). Follows f lost new (with_said now x f.proven t)) (sym names.messages)
@@ -235,7 +237,7 @@ cancel_said now back range old new rest gone = freely_said now back (Cancel rang
         told = h.told;
         claims = h.claims;
         proven = h.proven;
-        own = record { named = λ i m e. h.own.named i m (fewer i m (within range i) (sym (gone i) ∙ e)); expired = h.own.expired; choked = h.own.choked };
+        own = record { named = λ i m e. h.own.named i m (fewer i m (within range i) (sym (asked_spared (within range i) i old.own new.own (gone i)) ∙ e)); expired = h.own.expired; choked = h.own.choked };
         haves = h.haves;
         fresh = h.fresh;
         exchange = h.exchange;
@@ -259,29 +261,29 @@ address_said now back n m old new after is address says = freely_said now back n
 pub record IsGone (range : Span) (at : ℕ) (old new : SeatState) : Type 0 where
   pub low : range.first ≤ at
   pub rest : new ≡ record old { own = new.own }
-  pub gone : (i : ℕ) → asked_at new.own i ≡ cond (nat_le range.first i && nat_lt i at) None (asked_at old.own i)
+  pub gone : (i : ℕ) → entry_of new.own i ≡ cond (nat_le range.first i && nat_lt i at) None (entry_of old.own i)
 
 pub gone_none : (range : Span) (at : ℕ) (s : SeatState) → at ≡ range.first → IsGone range at s s
 gone_none range at s is = record {
   low = omega arith;
   rest = refl;
-  gone = λ i. ap (λ (b : Bool). cond b None (asked_at s.own i)) (none i);
+  gone = λ i. ap (λ (b : Bool). cond b None (entry_of s.own i)) (none i);
 }
   where
     none : (i : ℕ) → false ≡ (nat_le range.first i && nat_lt i at)
     none i = grind (arith, nat_tests)
 
-pub gone_more : (range : Span) (at : ℕ) (old mid new : SeatState) → IsGone range at old mid → new ≡ record mid { own = new.own } → Changes at None mid.own new.own
+pub gone_more : (range : Span) (at : ℕ) (old mid new : SeatState) → IsGone range at old mid → new ≡ record mid { own = new.own } → ChangesEntry at None mid.own new.own
     → IsGone range (at + 1) old new
 gone_more range at old mid new g rest taken = record {
   low = (let low = g.low in omega arith);
   rest = rest ∙ ap (λ (s : SeatState). let x : SeatState = record s { own = new.own } in x) g.rest;
-  gone = λ i. taken i ∙ ap (λ (o : Option ℕ). cond (eqb at i) None o) (g.gone i)
-      ∙ by (eqb at i) (nat_le range.first i && nat_lt i at) (asked_at old.own i)
-      ∙ ap (λ (b : Bool). cond b None (asked_at old.own i)) (joined i g.low);
+  gone = λ i. taken i ∙ ap (λ (o : Option Asking). cond (eqb at i) None o) (g.gone i)
+      ∙ by (eqb at i) (nat_le range.first i && nat_lt i at) (entry_of old.own i)
+      ∙ ap (λ (b : Bool). cond b None (entry_of old.own i)) (joined i g.low);
 }
   where
-    by : (a b : Bool) (o : Option ℕ) → cond a None (cond b None o) ≡ cond (a || b) None o
+    by : (a b : Bool) (o : Option Asking) → cond a None (cond b None o) ≡ cond (a || b) None o
     by true b o = refl
     by false b o = refl
 
@@ -289,8 +291,8 @@ gone_more range at old mid new g rest taken = record {
     joined i low = grind (arith, nat_tests)
 
 pub gone_all : (range : Span) (at : ℕ) (old new : SeatState) → IsGone range at old new → at ≡ range.last + 1
-    → (i : ℕ) → asked_at new.own i ≡ cond (within range i) None (asked_at old.own i)
-gone_all range at old new g is i = g.gone i ∙ ap (λ (b : Bool). cond b None (asked_at old.own i)) same
+    → (i : ℕ) → entry_of new.own i ≡ cond (within range i) None (entry_of old.own i)
+gone_all range at old new g is i = g.gone i ∙ ap (λ (b : Bool). cond b None (entry_of old.own i)) same
   where
     same : (nat_le range.first i && nat_lt i at) ≡ within range i
     same = grind (arith, nat_tests)

@@ -4,7 +4,7 @@ use Rattle.std.specs.List.{list_any}
 use Rattle.pp_terms.specs.tree.Range.{within}
 use Rattle.pp_terms.specs.format.Descriptor.{Descriptor}
 use Rattle.pp_terms.specs.format.Messages.{Message}
-use Rattle.pp_requests.specs.Moments.{asked_at}
+use Rattle.pp_requests.specs.Moments.{entry_of}
 use Rattle.pp_draft.specs.declared.note.Note.{Note}
 use Rattle.pp_draft.specs.declared.note.Note.TheVariants.{Handshake, Close, Choke, Unchoke, Ack, Have, Request, Cancel, PexReq, Pex4, Pex6}
 use Rattle.pp_draft.specs.Notes.{SayAll}
@@ -59,7 +59,7 @@ IsAfter now back (Have range) old new = Moves back (range.last + 1) old new
 IsAfter now back (Request range) old new =
     (new ≡ record old { own = new.own }) × (CanAsk range old.own → AsksAll range now old.own new.own)
 IsAfter now back (Cancel range) old new =
-    (new ≡ record old { own = new.own }) × ((i : ℕ) → asked_at new.own i ≡ (if within range i then None else asked_at old.own i))
+    (new ≡ record old { own = new.own }) × ((i : ℕ) → entry_of new.own i ≡ (if within range i then None else entry_of old.own i))
 IsAfter now back PexReq old new = new ≡ record old { question = Some now }
 IsAfter now back (Pex4 address port) old new = new ≡ record old { answer = Some now }
 IsAfter now back (Pex6 address port) old new = new ≡ record old { answer = Some now }

@@ -3,7 +3,7 @@
 ghost use Rattle.std.specs.Prelude.{◌≡◌, ◌+◌, ◌^◌, ◌<◌, ℕ, None, [], ◌∷◌, if◌then◌else◌};
 ghost use Rattle.std.specs.List.{AllByRecursion};
 ghost use Rattle.pp_terms.specs.tree.Range.{within};
-ghost use Rattle.pp_requests.specs.Moments.{asked_at};
+ghost use Rattle.pp_requests.specs.Moments.{entry_of};
 ghost use Rattle.pp_draft.specs.declared.note.Note.TheVariants.{Have};
 ghost use Rattle.pp_desk.specs.Steps.{IsPlain, IsBelow, is_have, has_have, cursor_refused, AreSaid, AreRefused, Follow};
 ghost use Rattle.pp_desk.specs.Delivers.{counted};
@@ -24,7 +24,7 @@ pub struct Delivered {
 // CANCELs of a range were sent.
 fn said_cancel(seat: &mut Seat, range: ChunkRange)
     ensures rest { seat.new ≡ record seat.old { own = seat.new.own } }
-    ensures gone { (i : ℕ) → asked_at seat.new.own i ≡ (if within range i then None else asked_at seat.old.own i) }
+    ensures gone { (i : ℕ) → entry_of seat.new.own i ≡ (if within range i then None else entry_of seat.old.own i) }
 {
     for i in u64::from(range.first())..u64::from(range.last()) + 1 {
         seat.said_cancel(i as u32);

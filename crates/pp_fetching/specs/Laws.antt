@@ -95,7 +95,7 @@ pub record AreFit (ranges : List Span) (own : List Asking) : Type 0 where
   pub absent : (i : ℕ) → has ranges i ≡ true → asked_at own i ≡ None
   pub apart : AreApart ranges
 
--- What was picked for as much room as a seat has may be asked for there.
+-- What was picked for no more room than a seat has may be asked for there.
 abbrev pub PicksFit : Type 0
 PicksFit = (seat room : ℕ) (old new : FetchState) (picks : List Span) (own_of : ℕ → List Asking) → AreOwned old.want.asked own_of
-    → ArePicked seat room old picks new → room + length (own_of seat) ≡ 32 → AreFit picks (own_of seat)
+    → ArePicked seat room old picks new → room + length (own_of seat) ≤ 32 → AreFit picks (own_of seat)

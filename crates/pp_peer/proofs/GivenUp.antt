@@ -1,5 +1,5 @@
--- Own requests that expired.
-use Rattle.std.proofs.Common.{◌≡◌, ◌≢◌, ◌⊎◌, inl, inr, ℕ, zero, suc, ◌+◌, ◌^◌, ◌<◌, ◌≤◌, eqb, Bool, true, false, cond, Option, Some, None, List, [], refl, sym, ◌∙◌, ap, subst, arith}
+-- Own requests that expired, or were lost.
+use Rattle.std.proofs.Common.{◌≡◌, ◌≢◌, ◌⊎◌, ⊎_elim, inl, inr, ℕ, zero, suc, ◌+◌, ◌^◌, ◌<◌, ◌≤◌, eqb, Bool, true, false, cond, Option, Some, None, List, [], refl, sym, ◌∙◌, ap, subst, arith}
 use Rattle.std.specs.Prelude.{is_some, option_map}
 use Rattle.std.specs.List.{slice_get}
 use Rattle.std.proofs.Math.ListN.{set}
@@ -7,7 +7,8 @@ use Rattle.std.proofs.lemmas.Bool.{cases_eq, eq-eqb}
 use Rattle.std.proofs.lemmas.Bool.Decides.{nat_tests}
 use Rattle.std.proofs.lemmas.Option.{same_Some}
 use Rattle.pp_requests.specs.declared.asking.Asking.{Asking}
-use Rattle.pp_requests.specs.Moments.{asked_at, Changes, NoneExpired}
+use Rattle.pp_requests.specs.Moments.{asked_at, entry_of, Changes, ChangesEntry, NoneExpired, NoneLost}
+use Rattle.pp_requests.proofs.Chunks.{asked_entry, changed_moment}
 use Rattle.pp_channels.specs.Seats.{channel_at}
 use Rattle.pp_lives.specs.Fars.{far_of}
 use Rattle.pp_fetching.specs.Fetching.{FetchState, without_request}
@@ -15,12 +16,15 @@ use Rattle.pp_fetching.specs.Owners.{awaits, AreOwned}
 use Rattle.pp_fetching.proofs.Owners.{tie_stays}
 use Rattle.pp_seat.specs.Seats.{SeatState}
 use Rattle.pp_seats.specs.Standing.{SeatsState}
-use Rattle.pp_seats.specs.Turning.{GivesUpRequest}
+use Rattle.pp_terms.specs.format.Traffic.{Record}
+use Rattle.pp_seats.specs.Standing.{Setting}
+use Rattle.pp_seats.specs.Standing as seats
+use Rattle.pp_seats.specs.Turning.{GivesUpRequest, GivesUpLost}
 use Rattle.pp_seats.specs.Turning as turning
 use Rattle.pp_seats.proofs.Lists.{get_set_there, get_set_other}
 use Rattle.pp_peer.specs.declared.parts.Parts.{Parts}
 use Rattle.pp_peer.specs.Standing.{asked_of, own_at, own_in, Fetches}
-use Rattle.pp_peer.specs.Greeting.{offers_of, wanted_of, IsExpired, LetsGo, LetsGoAt, GivesUp, GivesUpAt, HasNoneExpired, open_below, open_at}
+use Rattle.pp_peer.specs.Greeting.{offers_of, wanted_of, IsExpired, LetsGo, LetsGoAt, GivesUp, GivesUpAt, IsSpent, HasNoneSpent, open_below, open_at}
 use Rattle.pp_peer.proofs.Ending.{stands_same}
 
 -- ---- how many are asked for
@@ -79,10 +83,65 @@ lets_none_at now (Some s) p e = (s, e, lets_none now s)
 some_expired : (now m : ℕ) (o : Option ℕ) → o ≡ Some m → m + 10_000_000 ≤ now → IsExpired now o
 some_expired now m o is le = subst (λ (e : Option ℕ). IsExpired now e) (sym is) le
 
+-- One request of a seat that expired or was lost was taken out.
+record GivesOne (k i : ℕ) (p q : SeatsState) : Type 0 where
+  before : SeatState
+  after : SeatState
+  there : slice_get p.seats k ≡ Some before
+  entry : Asking
+  entered : entry_of before.own i ≡ Some entry
+  spent : IsSpent p.moment (Some entry)
+  taken : ChangesEntry i None before.own after.own
+  rest : after ≡ record before { own = after.own; stopped = after.stopped }
+  stopped : (after.stopped ≡ before.stopped) ⊎ (IsExpired p.moment (asked_at before.own i) × (after.stopped ≡ true))
+  is : q ≡ record p { seats = set p.seats k after }
+  stands : (x : Setting) (most : ℕ) (past : List Record) → seats.StandsFor x most p past → seats.StandsFor x most q past
+
+entry_asked : (own : List Asking) (i m : ℕ) → asked_at own i ≡ Some m → (x : Asking) × (entry_of own i ≡ Some x) × (x.moment ≡ m)
+entry_asked own i m is = of (entry_of own i) refl (sym (asked_entry own i) ∙ is)
+  where
+    of : (o : Option Asking) → entry_of own i ≡ o → option_map (λ (x : Asking). x.moment) o ≡ Some m → (x : Asking) × (entry_of own i ≡ Some x) × (x.moment ≡ m)
+    of None e same = absurd cc
+    of (Some x) e same = let moment : x.moment ≡ m = cc in (x, e, moment)
+
+pub one_expired : (k i : ℕ) (p q : SeatsState) → GivesUpRequest k i p q → GivesOne k i p q
+one_expired k i p q g =
+    let entry = entry_asked g.before.own i g.least.moment g.least.asked in
+    let old = g.least.expired in
+    let same = entry.2 in
+    record {
+      before = g.before;
+      after = g.after;
+      there = g.there;
+      entry = entry.0;
+      entered = entry.1;
+      spent = inl (omega (arith, old, same));
+      taken = g.taken;
+      rest = g.exact ∙ ap (λ (b : Bool). record g.before { own = g.after.own; stopped = b }) (sym (ap (λ (o : SeatState). o.stopped) g.exact));
+      stopped = inr (some_expired p.moment g.least.moment (asked_at g.before.own i) g.least.asked old, ap (λ (o : SeatState). o.stopped) g.exact);
+      is = g.is;
+      stands = g.stands;
+    }
+
+pub one_lost : (k i : ℕ) (p q : SeatsState) → GivesUpLost k i p q → GivesOne k i p q
+one_lost k i p q g = record {
+  before = g.before;
+  after = g.after;
+  there = g.there;
+  entry = g.least.entry;
+  entered = g.least.there;
+  spent = inr g.least.lost;
+  taken = g.taken;
+  rest = g.exact ∙ ap (λ (b : Bool). record g.before { own = g.after.own; stopped = b }) (sym (ap (λ (o : SeatState). o.stopped) g.exact));
+  stopped = inl (ap (λ (o : SeatState). o.stopped) g.exact);
+  is = g.is;
+  stands = g.stands;
+}
+
 not_empty : (own : List Asking) (i m : ℕ) → own ≡ [] → asked_at own i ≡ Some m → ⊥
 not_empty own i m empty asked = let e : None ≡ Some m = ap (λ (xs : List Asking). asked_at xs i) (sym empty) ∙ asked in absurd cc
 
-module _ (p : Parts) (s : SeatsState) (fetching : Option FetchState) (k i : ℕ) (g : GivesUpRequest k i p.seats s)
+module _ (p : Parts) (s : SeatsState) (fetching : Option FetchState) (k i : ℕ) (g : GivesOne k i p.seats s)
     (given : fetching ≡ option_map (without_request i) p.fetching) where
   abbrev q : Parts
   q = record p { seats = s; fetching = fetching }
@@ -103,11 +162,13 @@ module _ (p : Parts) (s : SeatsState) (fetching : Option FetchState) (k i : ℕ)
   own_after = ap own_at here
 
   changes : Changes i None (own_in p.seats.seats k) (own_in s.seats k)
-  changes = subst (λ (xs : List Asking). Changes i None xs (own_in s.seats k)) (sym own_before)
-      (subst (λ (ys : List Asking). Changes i None g.before.own ys) (sym own_after) g.taken)
+  changes = changed_moment i None (own_in p.seats.seats k) (own_in s.seats k)
+      (subst (λ (xs : List Asking). ChangesEntry i None xs (own_in s.seats k)) (sym own_before)
+      (subst (λ (ys : List Asking). ChangesEntry i None g.before.own ys) (sym own_after) g.taken))
 
-  asked : asked_at (own_in p.seats.seats k) i ≡ Some g.least.moment
-  asked = ap (λ (xs : List Asking). asked_at xs i) own_before ∙ g.least.asked
+  asked : asked_at (own_in p.seats.seats k) i ≡ Some g.entry.moment
+  asked = ap (λ (xs : List Asking). asked_at xs i) own_before ∙ asked_entry g.before.own i
+      ∙ ap (λ (o : Option Asking). option_map (λ (x : Asking). x.moment) o) g.entered
 
   awaited : awaits (own_in p.seats.seats k) i ≡ true
   awaited = ap (λ (o : Option ℕ). is_some o) asked
@@ -123,24 +184,20 @@ module _ (p : Parts) (s : SeatsState) (fetching : Option FetchState) (k i : ℕ)
   }
     where
       of : (n : ℕ) → own_in p.seats.seats n ≡ [] → (n ≡ k) ⊎ (n ≡ k → ⊥) → own_in s.seats n ≡ []
-      of n empty (inl is) = absurd (not_empty (own_in p.seats.seats k) i g.least.moment (ap (own_in p.seats.seats) (sym is) ∙ empty) asked)
+      of n empty (inl is) = absurd (not_empty (own_in p.seats.seats k) i g.entry.moment (ap (own_in p.seats.seats) (sym is) ∙ empty) asked)
       of n empty (inr ne) = ap own_at (elsewhere n ne) ∙ empty
 
   lets_go : LetsGo p.seats.moment g.before g.after
-  lets_go = record {
-    own = λ j. of j (cases_eq i j);
-    rest = g.exact ∙ ap (λ (b : Bool). record g.before { own = g.after.own; stopped = b }) (sym (ap (λ (o : SeatState). o.stopped) g.exact));
-    stopped = inr (i, some_expired p.seats.moment g.least.moment (asked_at g.before.own i) g.least.asked g.least.expired, ap (λ (o : SeatState). o.stopped) g.exact);
-  }
+  lets_go = record { own = λ j. of j (cases_eq i j); rest = g.rest; stopped = ⊎_elim inl (λ e. inr (i, e.0, e.1)) g.stopped }
     where
       of : (j : ℕ) → (i ≡ j) ⊎ (i ≡ j → ⊥)
-          → (asked_at g.after.own j ≡ asked_at g.before.own j) ⊎ (IsExpired p.seats.moment (asked_at g.before.own j) × (asked_at g.after.own j ≡ None))
+          → (entry_of g.after.own j ≡ entry_of g.before.own j) ⊎ (IsSpent p.seats.moment (entry_of g.before.own j) × (entry_of g.after.own j ≡ None))
       of j (inl is) = inr (
-        some_expired p.seats.moment g.least.moment (asked_at g.before.own j) (ap (asked_at g.before.own) (sym is) ∙ g.least.asked) g.least.expired,
-        g.taken j ∙ ap (λ (b : Bool). cond b None (asked_at g.before.own j)) (eq-eqb i j is),
+        subst (λ (o : Option Asking). IsSpent p.seats.moment o) (sym (ap (entry_of g.before.own) (sym is) ∙ g.entered)) g.spent,
+        g.taken j ∙ ap (λ (b : Bool). cond b None (entry_of g.before.own j)) (eq-eqb i j is),
       )
       of j (inr ne) = let test : eqb i j ≡ false = grind (arith, nat_tests) in
-          inl (g.taken j ∙ ap (λ (b : Bool). cond b None (asked_at g.before.own j)) test)
+          inl (g.taken j ∙ ap (λ (b : Bool). cond b None (entry_of g.before.own j)) test)
 
   pub gives_one : GivesUpAt k p q
   gives_one = record {
@@ -160,8 +217,16 @@ module _ (p : Parts) (s : SeatsState) (fetching : Option FetchState) (k i : ℕ)
           (subst (λ (o : Option SeatState). LetsGoAt p.seats.moment o (slice_get s.seats k)) (sym g.there) (g.after, here, lets_go))
       of n (inr ne) = lets_none_at p.seats.moment (slice_get p.seats.seats n) (slice_get s.seats n) (elsewhere n ne)
 
-pub none_left : (p : Parts) (s : SeatsState) (k : ℕ) → turning.HasNoneExpired k p.seats s → HasNoneExpired k p
-none_left p s k none t there = subst (λ (o : SeatState). NoneExpired o.own p.seats.moment) (same_Some none.known t (sym none.there ∙ there)) none.none
+-- none is left
+pub none_left : (p : Parts) (s t : SeatsState) (k : ℕ) → turning.HasNoneExpired k p.seats s → turning.HasNoneLost k s t → (t ≡ p.seats) × HasNoneSpent k p
+none_left p s t k none kept = (
+  kept.same ∙ none.same,
+  λ state there. (
+    subst (λ (o : SeatState). NoneExpired o.own p.seats.moment) (same_Some none.known state (sym none.there ∙ there)) none.none,
+    subst (λ (o : SeatState). NoneLost o.own)
+        (same_Some kept.known state (sym kept.there ∙ ap (λ (x : SeatsState). slice_get x.seats k) none.same ∙ there)) kept.none,
+  ),
+)
 
 -- ---- all of them
 
@@ -184,24 +249,26 @@ lets_twice now a b c one two = record {
   stopped = stops one.stopped two.stopped;
 }
   where
-    of : (i : ℕ) → (asked_at b.own i ≡ asked_at a.own i) ⊎ (IsExpired now (asked_at a.own i) × (asked_at b.own i ≡ None))
-        → (asked_at c.own i ≡ asked_at b.own i) ⊎ (IsExpired now (asked_at b.own i) × (asked_at c.own i ≡ None))
-        → (asked_at c.own i ≡ asked_at a.own i) ⊎ (IsExpired now (asked_at a.own i) × (asked_at c.own i ≡ None))
+    of : (i : ℕ) → (entry_of b.own i ≡ entry_of a.own i) ⊎ (IsSpent now (entry_of a.own i) × (entry_of b.own i ≡ None))
+        → (entry_of c.own i ≡ entry_of b.own i) ⊎ (IsSpent now (entry_of b.own i) × (entry_of c.own i ≡ None))
+        → (entry_of c.own i ≡ entry_of a.own i) ⊎ (IsSpent now (entry_of a.own i) × (entry_of c.own i ≡ None))
     of i (inl u) (inl v) = inl (v ∙ u)
     of i (inr u) (inl v) = inr (u.0, v ∙ u.1)
-    of i (inl u) (inr v) = inr (subst (λ (o : Option ℕ). IsExpired now o) u v.0, v.1)
+    of i (inl u) (inr v) = inr (subst (λ (o : Option Asking). IsSpent now o) u v.0, v.1)
     of i (inr u) (inr v) = inr (u.0, v.1)
 
     was : (i : ℕ) → IsExpired now (asked_at b.own i)
-        → (asked_at b.own i ≡ asked_at a.own i) ⊎ (IsExpired now (asked_at a.own i) × (asked_at b.own i ≡ None)) → IsExpired now (asked_at a.own i)
-    was i expired (inl u) = subst (λ (o : Option ℕ). IsExpired now o) u expired
-    was i expired (inr u) = u.0
+        → (entry_of b.own i ≡ entry_of a.own i) ⊎ (IsSpent now (entry_of a.own i) × (entry_of b.own i ≡ None)) → IsExpired now (asked_at a.own i)
+    was i expired (inl u) = subst (λ (o : Option ℕ). IsExpired now o)
+        (asked_entry b.own i ∙ ap (λ (o : Option Asking). option_map (λ (x : Asking). x.moment) o) u ∙ sym (asked_entry a.own i)) expired
+    was i expired (inr u) = absurd (subst (λ (o : Option ℕ). IsExpired now o)
+        (asked_entry b.own i ∙ ap (λ (o : Option Asking). option_map (λ (x : Asking). x.moment) o) u.1) expired)
 
-    stops : (b ≡ a) ⊎ ((i : ℕ) × IsExpired now (asked_at a.own i) × (b.stopped ≡ true))
-        → (c ≡ b) ⊎ ((i : ℕ) × IsExpired now (asked_at b.own i) × (c.stopped ≡ true))
-        → (c ≡ a) ⊎ ((i : ℕ) × IsExpired now (asked_at a.own i) × (c.stopped ≡ true))
+    stops : (b.stopped ≡ a.stopped) ⊎ ((i : ℕ) × IsExpired now (asked_at a.own i) × (b.stopped ≡ true))
+        → (c.stopped ≡ b.stopped) ⊎ ((i : ℕ) × IsExpired now (asked_at b.own i) × (c.stopped ≡ true))
+        → (c.stopped ≡ a.stopped) ⊎ ((i : ℕ) × IsExpired now (asked_at a.own i) × (c.stopped ≡ true))
     stops (inl u) (inl v) = inl (v ∙ u)
-    stops (inr u) (inl v) = inr (u.0, u.1, ap (λ (s : SeatState). s.stopped) v ∙ u.2)
+    stops (inr u) (inl v) = inr (u.0, u.1, v ∙ u.2)
     stops u (inr v) = inr (v.0, was v.0 v.1 (one.own v.0), v.2)
 
 lets_twice_at : (now : ℕ) (a b c : Option SeatState) → LetsGoAt now a b → LetsGoAt now b c → LetsGoAt now a c
@@ -226,13 +293,14 @@ gives_twice_at k a b c one two = record {
 }
 
 -- the seats below a number have none left
-abbrev pub HaveNoneExpired : ℕ → Parts → Type 0
-HaveNoneExpired below p = (seat : ℕ) → seat < below → HasNoneExpired seat p
+abbrev pub HaveNoneSpent : ℕ → Parts → Type 0
+HaveNoneSpent below p = (seat : ℕ) → seat < below → HasNoneSpent seat p
 
-pub none_more : (below : ℕ) (a b : Parts) → HaveNoneExpired below a → GivesUpAt below a b → HasNoneExpired below b → HaveNoneExpired (below + 1) b
+pub none_more : (below : ℕ) (a b : Parts) → HaveNoneSpent below a → GivesUpAt below a b → HasNoneSpent below b → HaveNoneSpent (below + 1) b
 none_more below a b none gives last n lt = of (cases_eq n below)
   where
-    of : (n ≡ below) ⊎ (n ≡ below → ⊥) → HasNoneExpired n b
-    of (inl is) = subst (λ (m : ℕ). HasNoneExpired m b) (sym is) last
-    of (inr ne) = λ s there. subst (λ (m : ℕ). NoneExpired s.own m) (sym (ap (λ (p : Parts). p.seats.moment) gives.gives_up.rest))
-        (none n (grind (arith, lt)) s (sym (gives.others n ne) ∙ there))
+    of : (n ≡ below) ⊎ (n ≡ below → ⊥) → HasNoneSpent n b
+    of (inl is) = subst (λ (m : ℕ). HasNoneSpent m b) (sym is) last
+    of (inr ne) = λ s there.
+        let was = none n (grind (arith, lt)) s (sym (gives.others n ne) ∙ there) in
+        (subst (λ (m : ℕ). NoneExpired s.own m) (sym (ap (λ (p : Parts). p.seats.moment) gives.gives_up.rest)) was.0, was.1)

@@ -1,5 +1,5 @@
 -- Of whom each chunk is asked, once notes were delivered on a channel and what isn't awaited there was given back.
-use Rattle.std.proofs.Common.{◌≡◌, ◌⊎◌, inl, inr, ⊎_elim, ℕ, ◌+◌, eqb, Bool, true, false, cond, ◌||◌, ◌&&◌, not, Option, Some, None, List, [], ◌∷◌, length, refl, sym, ◌∙◌, ap, subst}
+use Rattle.std.proofs.Common.{◌≡◌, ◌⊎◌, inl, inr, ⊎_elim, ℕ, ◌+◌, ◌≤◌, arith, eqb, Bool, true, false, cond, ◌||◌, ◌&&◌, not, Option, Some, None, List, [], ◌∷◌, length, refl, sym, ◌∙◌, ap, subst}
 use Rattle.std.specs.Prelude.{is_some, slice_index_or}
 use Rattle.std.proofs.lemmas.Bool.{cases_eq, eq-eqb, eqb-true, cases_Bool, false≢true}
 use Rattle.pp_terms.specs.tree.Range.{Span, has}
@@ -9,6 +9,7 @@ use Rattle.pp_fetching.specs.Fetching.{FetchState}
 use Rattle.pp_fetching.specs.Owners.{is_at, awaits, AreOwned, SameElsewhere}
 use Rattle.pp_fetching.specs.Laws as fetching
 use Rattle.pp_fetching.proofs.Owners.{picks_fit}
+use Rattle.pp_seat.specs.Own.{room_of}
 use Rattle.pp_seats.specs.Sending as seats
 use Rattle.pp_seats.specs.Sending.{FitAll}
 use Rattle.pp_peer.specs.Standing.{asked_of}
@@ -24,8 +25,13 @@ fit_same : (ranges : List Span) (own : List Asking) → fetching.AreFit ranges o
 fit_same [] own f = tt
 fit_same (x ∷ xs) own f = record { room = f.room; absent = f.absent; apart = apart_same (x ∷ xs) f.apart }
 
+-- what there is room for makes 32 at most with what is awaited
+pub room_fits : (stopped : Bool) (own : List Asking) (room : ℕ) → room ≡ room_of stopped own → length own ≤ 32 → room + length own ≤ 32
+room_fits true own room is few = omega arith
+room_fits false own room is few = omega arith
+
 pub picks_are_fit : (may : Bool) (order : Rank) (seat room : ℕ) (picks : List Span) (old new : Option FetchState) (own_of : ℕ → List Asking)
-    → AreOwned (asked_of old) own_of → room + length (own_of seat) ≡ 32 → PicksFrom may order seat room picks old new → FitAll picks (own_of seat)
+    → AreOwned (asked_of old) own_of → room + length (own_of seat) ≤ 32 → PicksFrom may order seat room picks old new → FitAll picks (own_of seat)
 picks_are_fit true order seat room picks (Some old) new own_of owned is p =
     fit_same picks (own_of seat) (picks_fit seat room old p.0 picks own_of owned p.3 is)
 picks_are_fit true order seat room picks None new own_of owned is p = subst (λ (xs : List Span). FitAll xs (own_of seat)) (sym p.0) tt

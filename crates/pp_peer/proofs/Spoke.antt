@@ -40,7 +40,7 @@ use Rattle.pp_peer.specs.Flushing.{IsOurs, Seeds, Flushes}
 use Rattle.pp_peer.specs.Speaking.{may_ask, PicksFrom, Picks, AreCancels, Fills, Says, SettlesIn, Settles}
 use Rattle.pp_peer.proofs.Asked.{Grown}
 use Rattle.pp_peer.proofs.Greeted.{marked_fars}
-use Rattle.pp_peer.proofs.Owning.{picks_are_fit, noted_after, owned_after}
+use Rattle.pp_peer.proofs.Owning.{room_fits, picks_are_fit, noted_after, owned_after}
 use Rattle.pp_peer.proofs.Plainly.{IsBare, CountsMany, ledger_bare}
 use Rattle.pp_peer.proofs.Went.{Went, went_by, own_by}
 
@@ -125,7 +125,8 @@ module _ (hearer : Hearer) (picks cancels : List Span) (speaker left : Speaker) 
       (subst (λ (xs : List Span). FitAll xs sp.before.own) (sym fills.asked_for)
       (subst (λ (own : List Asking). FitAll picks own) own_before
       (picks_are_fit (may_ask picked.known) speaker.order k picked.room picks p0.fetching p1.fetching (own_in p0.seats.seats) owned
-      (ap (λ (own : List Asking). picked.room + length own) (ap own_at picked.there) ∙ picked.room_is) picked.picks_from)))
+      (subst (λ (own : List Asking). picked.room + length own ≤ 32) (sym (ap own_at picked.there))
+      (room_fits picked.known.stopped picked.known.own picked.room picked.room_is picked.few)) picked.picks_from)))
 
   may : AreOwned (asked_of p0.fetching) (own_in p0.seats.seats) → MaySpeak p0.seats.descriptor (is_committed p0.holding.store) fills.known left.agenda
   may owned = may_be_said p0.seats.descriptor (is_committed p0.holding.store) fills.known fills.due left.agenda (record { placed = placed; fit = fit owned })

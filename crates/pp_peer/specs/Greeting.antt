@@ -13,7 +13,7 @@ use Rattle.pp_counts.specs.declared.note.Note.TheVariants as notes
 use Rattle.pp_outside.specs.Outside.{address_of}
 use Rattle.pp_outside.specs.declared.link.Address.{Address}
 use Rattle.pp_requests.specs.declared.asking.Asking.{Asking}
-use Rattle.pp_requests.specs.Moments.{asked_at, NoneExpired}
+use Rattle.pp_requests.specs.Moments.{asked_at, entry_of, NoneExpired, is_lost, NoneLost}
 use Rattle.pp_requests.specs.Seats.{Seating, since}
 use Rattle.pp_channels.specs.Seats.{channel_at}
 use Rattle.pp_channels.specs.Timing.{is_over}
@@ -216,25 +216,31 @@ pub record Drops (old new : Parts) : Type 0 where
 abbrev pub HasNoneOver : Parts → Type 0
 HasNoneOver p = position (is_over p.seats.moment) p.seats.table.channels ≡ None
 
--- ---- own requests that expired
+-- ---- own requests that expired, or were lost
 
 -- A chunk was asked for 10 seconds ago or longer.
 abbrev pub IsExpired : ℕ → Option ℕ → Type 0
 IsExpired now None = ⊥
 IsExpired now (Some moment) = moment + 10_000_000 ≤ now
 
--- Some own requests of a seat that expired were taken out, where there were any, and asking stopped there then.
+-- A request was sent 10 seconds ago or longer, or three others overtook it.
+abbrev pub IsSpent : ℕ → Option Asking → Type 0
+IsSpent now None = ⊥
+IsSpent now (Some x) = (x.moment + 10_000_000 ≤ now) ⊎ (is_lost x ≡ true)
+
+-- Some own requests of a seat that expired or were lost were taken out, where there were any; where one expired the channel is only
+-- probed from then on.
 pub record LetsGo (now : ℕ) (old new : SeatState) : Type 0 where
   pub own : (i : ℕ)
-      → (asked_at new.own i ≡ asked_at old.own i) ⊎ (IsExpired now (asked_at old.own i) × (asked_at new.own i ≡ None))
+      → (entry_of new.own i ≡ entry_of old.own i) ⊎ (IsSpent now (entry_of old.own i) × (entry_of new.own i ≡ None))
   pub rest : new ≡ record old { own = new.own; stopped = new.stopped }
-  pub stopped : (new ≡ old) ⊎ ((i : ℕ) × IsExpired now (asked_at old.own i) × (new.stopped ≡ true))
+  pub stopped : (new.stopped ≡ old.stopped) ⊎ ((i : ℕ) × IsExpired now (asked_at old.own i) × (new.stopped ≡ true))
 
 abbrev pub LetsGoAt : ℕ → Option SeatState → Option SeatState → Type 0
 LetsGoAt now None new = new ≡ None
 LetsGoAt now (Some old) new = (left : SeatState) × (new ≡ Some left) × LetsGo now old left
 
--- Some own requests that expired were given up, and nothing else changed.
+-- Some own requests that expired or were lost were given up, and nothing else changed.
 pub record GivesUp (old new : Parts) : Type 0 where
   pub each : (seat : ℕ) → LetsGoAt old.seats.moment (slice_get old.seats.seats seat) (slice_get new.seats.seats seat)
   pub rest : new ≡ record old { seats = record old.seats { seats = new.seats.seats }; fetching = new.fetching }
@@ -247,9 +253,9 @@ pub record GivesUpAt (seat : ℕ) (old new : Parts) : Type 0 where
   pub gives_up : GivesUp old new
   pub others : (other : ℕ) → other ≢ seat → slice_get new.seats.seats other ≡ slice_get old.seats.seats other
 
--- None of a seat's own requests expired.
-abbrev pub HasNoneExpired : ℕ → Parts → Type 0
-HasNoneExpired seat p = (s : SeatState) → slice_get p.seats.seats seat ≡ Some s → NoneExpired s.own p.seats.moment
+-- None of a seat's own requests expired, or was lost.
+abbrev pub HasNoneSpent : ℕ → Parts → Type 0
+HasNoneSpent seat p = (s : SeatState) → slice_get p.seats.seats seat ≡ Some s → NoneExpired s.own p.seats.moment × NoneLost s.own
 
 -- how many chunks below a number are asked for
 unfoldable pub open_below : List Asking → ℕ → ℕ

@@ -4,13 +4,13 @@ use Rattle.pp_peer.specs.declared.dialling.Dial.{Dial}
 use Rattle.pp_peer.specs.declared.parts.Parts.{Parts}
 use Rattle.pp_peer.specs.declared.speaking.Speaker.{Speaker}
 use Rattle.pp_peer.specs.Flushing.{Scene, Flushes}
-use Rattle.pp_peer.specs.Greeting.{Drops, HasNoneOver, GivesUp, HasNoneExpired}
+use Rattle.pp_peer.specs.Greeting.{Drops, HasNoneOver, GivesUp, HasNoneSpent}
 use Rattle.pp_peer.specs.Dialling.{DialsAll, HasNoneToDial}
 use Rattle.pp_peer.specs.Slotting.{TurnsSlots}
 use Rattle.pp_peer.specs.Speaking.{SpeaksAll}
 use Rattle.pp_peer.specs.Serving.{OnlySeats, ServesBelow}
 
--- Channels whose time is over were dropped, own requests that expired given up, addresses dialled, slots turned; then it was said on
+-- Channels whose time is over were dropped, own requests that expired or were lost given up, addresses dialled, slots turned; then it was said on
 -- each channel what was due there, and chunks were served. So many datagrams and chunks were given up.
 pub record SendsAll (dials lefts : List Dial) (speaker left : Speaker) (refused : ℕ) (old new : Scene) : Type 0 where
   pub dropped : Parts
@@ -18,7 +18,7 @@ pub record SendsAll (dials lefts : List Dial) (speaker left : Speaker) (refused 
   pub none_over : HasNoneOver dropped
   pub given : Parts
   pub gives_up : GivesUp dropped given
-  pub none_expired : (seat : ℕ) → seat < 64 → HasNoneExpired seat given
+  pub none_spent : (seat : ℕ) → seat < 64 → HasNoneSpent seat given
   pub dialled : Scene
   pub dials_all : DialsAll dials lefts (record old { parts = given }) dialled
   pub none_to_dial : HasNoneToDial dialled.parts

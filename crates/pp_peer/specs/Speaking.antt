@@ -19,7 +19,8 @@ use Rattle.pp_avail.specs.declared.ranker.Rank.{Rank}
 use Rattle.pp_fetching.specs.Fetching.{FetchState, GivesBack, HasPicked, ArePicked}
 use Rattle.pp_fetching.specs.Owners.{awaits}
 use Rattle.pp_draft.specs.declared.note.Note.{Note}
-use Rattle.pp_seat.specs.Own.{IsRested}
+use Rattle.pp_promises.specs.OwnSide.{most_asked}
+use Rattle.pp_seat.specs.Own.{IsRested, room_of}
 use Rattle.pp_seat.specs.Seats.{SeatState}
 use Rattle.pp_seat.specs.Turns.{due_turn}
 use Rattle.pp_seat.specs.declared.service.Turn.{Turn}
@@ -60,7 +61,11 @@ pub record SetsBack (seat : ℕ) (greets : Bool) (news : List Span) (old new : P
 
 -- whether anything may be asked for on the channel of a seat
 abbrev pub may_ask : SeatState → Bool
-may_ask s = s.proven && (not s.chokes && not s.stopped)
+may_ask s = s.proven && not s.chokes
+
+-- how many chunks may be awaited there: 32, or one where a request expired and no datagram came since
+abbrev pub most_of : SeatState → ℕ
+most_of s = if may_ask s then most_asked s.stopped else 0
 
 -- Chunks were picked one after the other where that may be, and noted as asked for; none by a peer that doesn't fetch.
 abbrev pub PicksFrom : (may : Bool) → Rank → (seat room : ℕ) → List Span → Option FetchState → Option FetchState → Type 0
@@ -69,12 +74,13 @@ PicksFrom true order seat room picks (Some old) new =
 PicksFrom true order seat room picks None new = (picks ≡ []) × (new ≡ None)
 PicksFrom false order seat room picks old new = (picks ≡ []) × (new ≡ old)
 
--- Chunks were picked for the channel of a seat, on which 32 may be awaited at a time, each once.
+-- Chunks were picked for the channel of a seat, as many as there is room for beside those that are awaited there, each once.
 pub record Picks (order : Rank) (seat : ℕ) (picks : List Span) (old new : Parts) : Type 0 where
   pub known : SeatState
   pub there : slice_get old.seats.seats seat ≡ Some known
   pub room : ℕ
-  pub room_is : room + length known.own ≡ 32
+  pub room_is : room ≡ room_of known.stopped known.own
+  pub few : length known.own ≤ 32
   pub rises : IsRisingFrom 0 known.own
   pub picks_from : PicksFrom (may_ask known) order seat room picks old.fetching new.fetching
   pub rest : new ≡ record old { fetching = new.fetching }

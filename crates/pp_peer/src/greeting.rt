@@ -5,7 +5,7 @@ ghost use Rattle.pp_terms.specs.disk.Disk.{moment_of};
 ghost use Rattle.pp_counts.specs.declared.note.Note.TheVariants as notes;
 ghost use Rattle.pp_channels.specs.Seats.{channel_at, used_of};
 ghost use Rattle.pp_fetching.specs.Fetching.{without_request};
-ghost use Rattle.pp_peer.specs.Greeting.{IsGreeted, IsDialled, IsNotDialled, PartsAt, Parting, Releases, Clears, Drops, HasNoneOver, open_at, GivesUpAt, GivesUp, HasNoneExpired};
+ghost use Rattle.pp_peer.specs.Greeting.{IsGreeted, IsDialled, IsNotDialled, PartsAt, Parting, Releases, Clears, Drops, HasNoneOver, open_at, GivesUpAt, GivesUp, HasNoneSpent};
 ghost use Rattle.pp_peer.specs.Flushing.{Flushes};
 
 use crate::parts::Parts;
@@ -155,33 +155,38 @@ impl Parts {
         'channels: while self.expire_one() {}
     }
 
-    // Gives up the least own request of a seat that expired. Answers whether there was one.
+    // Gives up the least own request of a seat that expired, or else the least that was lost. Answers whether there was one.
     fn give_up_request(&mut self, seat: u8) -> bool
         requires { seat < 64 }
         ensures { MatchBool result ((open_at self.new seat < open_at self.old seat) × GivesUpAt seat self.old self.new)
-            ((self.new ≡ self.old) × HasNoneExpired seat self.old) }
+            ((self.new ≡ self.old) × HasNoneSpent seat self.old) }
     {
-        let Some(chunk) = self.seats.give_up_request(seat) else {
+        if let Some(chunk) = self.seats.give_up_request(seat) {
+            give_back(&mut self.fetching, chunk);
+            return true;
+        }
+        let Some(chunk) = self.seats.give_up_lost(seat) else {
             return false;
         };
         give_back(&mut self.fetching, chunk);
         true
     }
 
-    // Gives up all own requests of a seat that expired.
+    // Gives up all own requests of a seat that expired, or were lost.
     fn give_up_all(&mut self, seat: u8)
         requires { seat < 64 }
         ensures gives_up { GivesUpAt seat self.old self.new }
-        ensures all { HasNoneExpired seat self.new }
+        ensures all { HasNoneSpent seat self.new }
     {
         'requests: while self.give_up_request(seat) {}
     }
 
-    /// Gives up every own request that was sent 10 seconds ago or longer: its chunk may be asked for elsewhere, and
-    /// nothing more is asked for on that channel until a datagram comes there. Nothing is sent.
+    /// Gives up every own request that was sent 10 seconds ago or longer, after which its channel is only probed until a
+    /// datagram comes there; and every one that was lost, as three that were sent no earlier were answered since. Their chunks
+    /// may be asked for again, on any channel. Nothing is sent.
     pub fn give_up_requests(&mut self)
         ensures gives_up { GivesUp self.old self.new }
-        ensures all { (seat : ℕ) → seat < 64 → HasNoneExpired seat self.new }
+        ensures all { (seat : ℕ) → seat < 64 → HasNoneSpent seat self.new }
     {
         for seat in 0..SEATS {
             self.give_up_all(seat);

@@ -130,7 +130,7 @@ impl Parts {
     }
 
     // Picks chunks to ask for on a seat's channel, as many as there is room for, and notes them as asked for. None where this peer
-    // doesn't fetch, the channel isn't proven, its peer chokes, or a request on it expired and no datagram came since.
+    // doesn't fetch, the channel isn't proven, or its peer chokes.
     fn pick(&mut self, seat: u8, order: Rank) -> RangeList
         requires { seat < 64 }
         ensures { Picks order seat result self.old self.new }

@@ -25,6 +25,16 @@ asked_entry (x ∷ xs) i = elim (x.chunk == i)
       | false ↦ asked_entry xs i
     ]
 
+-- where an entry is another one or none, so is its moment
+pub asked_spared : (gone : Bool) (i : ℕ) (old new : List Asking) → entry_of new i ≡ cond gone None (entry_of old i) → asked_at new i ≡ cond gone None (asked_at old i)
+asked_spared gone i old new is =
+    asked_entry new i ∙ ap (λ (o : Option Asking). option_map (λ x. x.moment) o) is ∙ of gone
+    ∙ ap (λ (o : Option ℕ). cond gone None o) (sym (asked_entry old i))
+  where
+    of : (b : Bool) → option_map (λ (x : Asking). x.moment) (cond b None (entry_of old i)) ≡ cond b None (option_map (λ (x : Asking). x.moment) (entry_of old i))
+    of true = refl
+    of false = refl
+
 pub asked_some : (xs : List Asking) (i : ℕ) → is_some (asked_at xs i) ≡ is_some (entry_of xs i)
 asked_some xs i = ap (λ (o : Option ℕ). is_some o) (asked_entry xs i) ∙ of (entry_of xs i)
   where

@@ -21,11 +21,11 @@ use Rattle.pp_seat.proofs.OwnRequests.{outstanding_later, alike_later, request_w
 
 -- ---- the clock of what was read
 
-heard_by : (at : ℕ) (ms : List Message) (story : List Line) → clock (hear at ms story) ≤ max at (clock story)
+pub heard_by : (at : ℕ) (ms : List Message) (story : List Line) → clock (hear at ms story) ≤ max at (clock story)
 heard_by at [] story = omega arith
 heard_by at (m ∷ ms) story = let rest = heard_by at ms (Heard at m ∷ story) in omega arith
 
-said_by : (at : ℕ) (ms : List Message) (story : List Line) → clock (say at ms story) ≤ max at (clock story)
+pub said_by : (at : ℕ) (ms : List Message) (story : List Line) → clock (say at ms story) ≤ max at (clock story)
 said_by at [] story = omega arith
 said_by at (m ∷ ms) story = let rest = said_by at ms (Said at m ∷ story) in omega arith
 

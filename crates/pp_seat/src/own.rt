@@ -4,7 +4,7 @@ ghost use Rattle.std.specs.Prelude.{◌≡◌, ◌↔◌, ◌⊎◌, IsTrue, ◌
 ghost use Rattle.pp_terms.specs.tree.Range.{Span, within};
 ghost use Rattle.pp_terms.specs.format.Messages.{Data, Request, Cancel, Choke, Unchoke};
 ghost use Rattle.pp_traffic.specs.Story.{Line, Heard, Said};
-ghost use Rattle.pp_requests.specs.Moments.{asked_at, IsRisingFrom, Changes, IsLeastExpired, NoneExpired, IsLeastLost, NoneLost};
+ghost use Rattle.pp_requests.specs.Moments.{asked_at, IsRisingFrom, Changes, ChangesEntry, IsLeastExpired, NoneExpired, IsLeastLost, NoneLost};
 ghost use Rattle.pp_traffic.specs.Fates.{clock};
 ghost use Rattle.pp_promises.specs.OwnSide.{most_outstanding, is_choked_by_peer, has_old_request, is_stopped, asking, most_asked, may_ask};
 ghost use Rattle.pp_terms.specs.format.Traffic.{Record};
@@ -68,7 +68,7 @@ impl Seat {
     /// A CANCEL of the chunk was sent (RFC 7574, section 3.8).
     pub fn said_cancel(&mut self, i: u32)
         ensures rest { self.new ≡ record self.old { own = self.new.own } }
-        ensures taken { Changes i None self.old.own self.new.own }
+        ensures taken { ChangesEntry i None self.old.own self.new.own }
         ensures goes { (now : ℕ) (span : Span) → Goes Always (Said now (Cancel span)) self.old self.new }
         ensures awaits { (now : ℕ) (span : Span) → ((j : ℕ) → within span j ≡ (i == j)) → KeepsAwaited (Said now (Cancel span)) self.old.own self.new.own }
     {
@@ -117,7 +117,7 @@ impl Seat {
     pub fn expired(&mut self, now: u64) -> Option<u32>
         ensures least { MatchOption result (NoneExpired self.old.own now) (IsLeastExpired self.old.own now) }
         ensures taken { MatchOption result (self.new ≡ self.old)
-            (λ i. (self.new ≡ record self.old { own = self.new.own; stopped = true }) × Changes i None self.old.own self.new.own) }
+            (λ i. (self.new ≡ record self.old { own = self.new.own; stopped = true }) × ChangesEntry i None self.old.own self.new.own) }
         ensures stays { Stays (HasCome now) self.old self.new }
         ensures awaits { (story : List Line) → now ≤ clock story → AreAwaited self.old.own story → AreAwaited self.new.own story }
     {
@@ -131,7 +131,7 @@ impl Seat {
     pub fn lost(&mut self) -> Option<u32>
         ensures least { MatchOption result (NoneLost self.old.own) (IsLeastLost self.old.own) }
         ensures taken { MatchOption result (self.new ≡ self.old)
-            (λ i. (self.new ≡ record self.old { own = self.new.own }) × Changes i None self.old.own self.new.own) }
+            (λ i. (self.new ≡ record self.old { own = self.new.own }) × ChangesEntry i None self.old.own self.new.own) }
         ensures stays { Stays Always self.old self.new }
         ensures awaits { (story : List Line) → AreAwaited self.old.own story → AreAwaited self.new.own story }
     {

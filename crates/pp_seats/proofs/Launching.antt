@@ -66,6 +66,7 @@ use Rattle.pp_seat.specs.Laws.{IsLater, with_since}
 use Rattle.pp_seat.specs.Awaited.{AreAwaited, AllPassSaid}
 use Rattle.pp_seat.proofs.Answering.{answers}
 use Rattle.pp_seat.proofs.Awaited.{lines_keep_awaited}
+use Rattle.pp_seat.proofs.Outstanding.{clock_now}
 use Rattle.pp_seat.proofs.Framing.{same_tales, tales_grow, frames_grow, read_longer, since_none, said_story}
 use Rattle.pp_seat.proofs.Passing.{announced_stays}
 use Rattle.pp_seats.specs.declared.serving.Next.{Next}
@@ -91,7 +92,7 @@ given_up x most p k c before after past h there known has gives same =
       chunks = (let few = old.chunks in omega (arith, few));
       haves = (let few = old.haves in omega (arith, few));
       follows = gives.follows (frame_in (at_seat x k) life past) old.lost (tale_of x.d life past) old.follows;
-      awaited = subst (λ (own : _). AreAwaited (chunks_of x.d) own (read_story x.d life past)) (sym same) old.awaited;
+      awaited = subst (λ (own : _). AreAwaited own (read_story x.d life past)) (sym same) old.awaited;
       handed = old.handed;
     })
 
@@ -109,7 +110,7 @@ passed_over x most p k c before after i end held past h there known seated holds
       chunks = old.chunks;
       haves = old.haves;
       follows = stays.follows (frame_in (at_seat x k) life past) old.lost (tale_of x.d life past) (λ j lt listed. unannounced life j lt listed) old.follows;
-      awaited = subst (λ (own : _). AreAwaited (chunks_of x.d) own (read_story x.d life past)) (sym same) old.awaited;
+      awaited = subst (λ (own : _). AreAwaited own (read_story x.d life past)) (sym same) old.awaited;
       handed = old.handed;
     })
   where
@@ -148,9 +149,9 @@ own_said x most s new life moment receiver bytes ms past h lt said_is says pass 
       haves = h.haves;
       follows = subst (λ (p : Bool). Follows (record (frame_in x life (r ∷ past)) { proven = p }) h.lost new (tale_of x.d life (r ∷ past)))
           (sym (since_same (comes_on x.d life) life.opening r past refl)) told;
-      awaited = subst (λ (xs : List Line). AreAwaited (chunks_of x.d) new.own xs) (sym (grown.story ∙ said_story (now past) ms (is_heard x.d life past) (tale_of x.d life past)))
-          (subst (λ (own : _). AreAwaited (chunks_of x.d) own (say (now past) ms (read_story x.d life past))) (sym same)
-          ((lines_keep_awaited.passed (now past) ms s.own pass).stays (chunks_of x.d) (read_story x.d life past) h.awaited));
+      awaited = subst (λ (xs : List Line). AreAwaited new.own xs) (sym (grown.story ∙ said_story (now past) ms (is_heard x.d life past) (tale_of x.d life past)))
+          (subst (λ (own : _). AreAwaited own (say (now past) ms (read_story x.d life past))) (sym same)
+          ((lines_keep_awaited.passed (now past) ms s.own pass).stays (read_story x.d life past) (clock_now x.d life past) h.awaited));
       handed = or_right (nat_le life.opening (length past) && is_event r) (some_since is_event life.opening past) h.handed;
     }
 

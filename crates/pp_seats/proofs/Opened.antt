@@ -211,7 +211,7 @@ withheld x most p k notes before after past h there exact =
       haves = (let few = f.haves in omega (arith, few));
       follows = subst (λ (s : SeatState). Rattle.pp_seat.specs.Follows.Follows (frame_in (at_seat x k) life past) (record { chunks = f.lost.chunks; haves = f.lost.haves + 1 }) s (tale_of x.d life past)) (sym exact)
           (back.follows (frame_in (at_seat x k) life past) f.lost (tale_of x.d life past) f.follows);
-      awaited = subst (λ (s : SeatState). Rattle.pp_seat.specs.Awaited.AreAwaited (Rattle.pp_terms.specs.format.Descriptor.chunks_of x.d) s.own (Rattle.pp_promises.specs.ReadStory.read_story x.d life past)) (sym exact) f.awaited;
+      awaited = subst (λ (s : SeatState). Rattle.pp_seat.specs.Awaited.AreAwaited s.own (Rattle.pp_promises.specs.ReadStory.read_story x.d life past)) (sym exact) f.awaited;
       handed = f.handed;
     }) in
     known_changes x (with_told k notes x).known_of (most + 1) q past (λ seat i s has below knows. by seat i s has below (eqb seat k) refl knows) one

@@ -59,6 +59,8 @@ use Rattle.pp_seats.proofs.Tellings.{told_or_back, said_is_told}
 use Rattle.pp_seats.specs.Standing.{SeatsState, Setting, SeatSetting, at_seat, frame_in, IsFollowed, StandsFor}
 use Rattle.pp_seats.specs.Sending.{HoldsAnnounced, Announces, tells_note, with_told, PassesOne, PassesAll, MaySay, with_sent}
 use Rattle.pp_seats.proofs.Lists.{get_set_there, get_set_other}
+use Rattle.pp_traffic.specs.Fates.{clock}
+use Rattle.pp_seat.proofs.Outstanding.{clock_now}
 use Rattle.pp_seats.proofs.Waits.{delivery_keeps}
 
 -- ---- the other channels
@@ -94,7 +96,7 @@ unsaid_followed x most s life moment receiver bytes past h lt none =
       haves = h.haves;
       follows = subst (λ (p : Bool). Follows (record (frame_in x life (r ∷ past)) { proven = p }) h.lost s (tale_of x.d life (r ∷ past)))
           (sym (since_same (comes_on x.d life) life.opening r past refl)) with_later;
-      awaited = subst (λ (xs : List Line). AreAwaited (chunks_of x.d) s.own xs) (sym same.story) h.awaited;
+      awaited = subst (λ (xs : List Line). AreAwaited s.own xs) (sym same.story) h.awaited;
       handed = or_right (nat_le life.opening (length past) && is_event r) (some_since is_event life.opening past) h.handed;
     }
 
@@ -318,8 +320,9 @@ own_followed d found aware most c channel moment at bs old new life past held ea
           (or_cases (aware i) (list_any (tells_note i) (notes_of bs)) knows))
           (subst (λ (p : Bool). Follows (record (frame_in x life after) { proven = p }) (set_back (backs_of bs) h.lost) new.seat (tale_of d life after))
           (sym (heard_after d life w bs past)) told);
-      awaited = subst (λ (xs : List Line). AreAwaited (chunks_of d) new.seat.own xs) (sym (grown.story ∙ said_story w.now (said_by bs) (is_heard d life past) (tale_of d life past)))
-          ((delivery_keeps w bs old new each may.first may.fit).stays (chunks_of d) (read_story d life past) h.awaited);
+      awaited = subst (λ (xs : List Line). AreAwaited new.seat.own xs) (sym (grown.story ∙ said_story w.now (said_by bs) (is_heard d life past) (tale_of d life past)))
+          ((delivery_keeps w bs old new each may.first may.fit).stays (read_story d life past)
+          (subst (λ (n : ℕ). clock (read_story d life past) ≤ n) (sym on.moment) (clock_now d life past)) h.awaited);
       handed = after_by (λ (xs : List Record). some_since is_event life.opening xs ≡ true) w bs past h.handed
           (λ b before e. or_right (nat_le life.opening (length before) && is_event (Sent w.moment w.receiver b.bytes)) (some_since is_event life.opening before) e);
     }

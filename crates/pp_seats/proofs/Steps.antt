@@ -18,7 +18,9 @@ use Rattle.pp_seat.specs.Seats.{SeatState}
 use Rattle.pp_seat.specs.Follows.{Follows, Goes, Always, none_lost, proved}
 use Rattle.pp_seat.specs.Frames.{since_of, tale_of, no_tale, IsSameTale, with_heard}
 use Rattle.pp_seat.specs.Awaited.{AreAwaited}
+use Rattle.pp_traffic.specs.Fates.{clock}
 use Rattle.pp_seat.proofs.Awaited.{lines_keep_awaited, none_awaited}
+use Rattle.pp_seat.proofs.Outstanding.{now_grows, clock_now}
 use Rattle.pp_seat.proofs.Framing.{same_tales, tales_grow, none_begins, frames_grow, heard_story}
 use Rattle.pp_seat.proofs.Passing.{announced_stays}
 use Rattle.pp_seats.specs.Standing.{SeatSetting, frame_in, IsFollowed}
@@ -63,9 +65,13 @@ quiet_ready x most at s life past h lt = record {
 -- ---- records that are read
 
 awaited_story : (x : SeatSetting) (n : ℕ) (ms : List Message) (p : Bool) (old new : SeatState) (t : Tale) → HearsAll n ms old new
-    → AreAwaited (chunks_of x.d) old.own t.story → AreAwaited (chunks_of x.d) new.own (with_heard n ms p t).story
-awaited_story x n ms p old new t h a =
-    subst (λ (xs : List Line). AreAwaited (chunks_of x.d) new.own xs) (sym (heard_story n ms p t)) (h.awaited (chunks_of x.d) t.story a)
+    → clock t.story ≤ n → AreAwaited old.own t.story → AreAwaited new.own (with_heard n ms p t).story
+awaited_story x n ms p old new t h le a =
+    subst (λ (xs : List Line). AreAwaited new.own xs) (sym (heard_story n ms p t)) (h.awaited t.story le a)
+
+-- what was read before has come no further than the record
+read_to : (d : Descriptor) (life : Life) (r : Record) (past : List Record) → clock (read_story d life past) ≤ now (r ∷ past)
+read_to d life r past = let low = clock_now d life past in let more = now_grows r past in omega arith
 
 now_heard : (d : Descriptor) (life : Life) (r : Record) (past : List Record) → life.opening ≤ length past → comes_on d life r ≡ true → is_heard d life (r ∷ past) ≡ true
 now_heard d life r past le on = or_left (leb life.opening (length past) && comes_on d life r) (some_since (comes_on d life) life.opening past)
@@ -95,8 +101,8 @@ heard_ready x most at before mid s life sender bytes past h lt on reads shown he
       becomes = subst (λ (xs : List Message). IsSameTale (with_line (Taken n) true (with_heard n xs true (tale_of x.d life past))) (tale_of x.d life (r ∷ past)))
           (all_heard x.d life r on) (tales_grow.heard x.d life at sender bytes past lt on reads);
       follows = hears.follows (proved (frame_in x life past)) h.lost (tale_of x.d life past) (shown.follows (frame_in x life past) h.lost (tale_of x.d life past) h.follows);
-      awaited = awaited_story x n ms true mid s (tale_of x.d life past) hears
-          (subst (λ (o : SeatState). AreAwaited (chunks_of x.d) o.own (read_story x.d life past)) (sym shown.exact) h.awaited);
+      awaited = awaited_story x n ms true mid s (tale_of x.d life past) hears (read_to x.d life r past)
+          (subst (λ (o : SeatState). AreAwaited o.own (read_story x.d life past)) (sym shown.exact) h.awaited);
     }
 
 -- a channel was opened
@@ -120,7 +126,7 @@ opened_ready x most at slot before mid s life sender bytes past is room begins h
       becomes = subst (λ (xs : List Message). IsSameTale (with_line (Taken n) false (with_heard n xs false no_tale)) (tale_of x.d life (r ∷ past)))
           (opening_heard x.d life r is.answered is.opens) (tales_grow.opened x.d life at sender bytes past is.place is.answered is.apart);
       follows = hears.follows f none_lost no_tale first;
-      awaited = awaited_story x n ms false mid s no_tale hears (none_awaited f none_lost mid no_tale (none_begins f refl) first);
+      awaited = awaited_story x n ms false mid s no_tale hears (omega arith) (none_awaited f none_lost mid no_tale (none_begins f refl) first);
     }
   where
     opening_heard : (d : Descriptor) (life : Life) (r : Record) → life.is_dialled ≡ false → greets d life r ≡ true → heard_in d life true r ≡ drop 1 (read d r).messages.read
@@ -151,8 +157,8 @@ replied_ready x most at slot before mid s life sender bytes past is room begins 
       becomes = subst (λ (xs : List Message). IsSameTale (with_line (Taken n) true (with_heard n xs true t)) (tale_of x.d life (r ∷ past)))
           (all_heard x.d life r is.on) (tales_grow.heard x.d life at sender bytes past is.begun is.on is.reads);
       follows = hears.follows (proved f) none_lost t (begins.shown.follows f none_lost t first);
-      awaited = awaited_story x n ms true mid s t hears
-          (subst (λ (o : SeatState). AreAwaited (chunks_of x.d) o.own t.story) (sym begins.shown.exact) own);
+      awaited = awaited_story x n ms true mid s t hears (read_to x.d life r past)
+          (subst (λ (o : SeatState). AreAwaited o.own t.story) (sym begins.shown.exact) own);
     }
 
 -- ---- the peer looks up
@@ -169,6 +175,8 @@ taken_followed x most old new life r past event h goes same =
     let handed : some_since is_event life.opening (r ∷ past) ≡ true =
     or_left (leb life.opening (length past) && is_event r) (some_since is_event life.opening past)
     (and_from (leb life.opening (length past)) (is_event r) (le-leb life.opening (length past) h.begun) event) in
+    let come : clock h.tale.story ≤ n =
+    (let whole = subst (λ (xs : List Line). clock xs ≤ n) h.becomes.story (clock_now x.d life (r ∷ past)) in omega (arith, whole)) in
     let later_is = frames_grow x.d life x.is_found r past in
     let with_later = announced_stays f h.lost (λ i. since_of x.d life x.is_found i (r ∷ past)) new (tale_of x.d life (r ∷ past)) later_is told in
     record {
@@ -176,8 +184,8 @@ taken_followed x most old new life r past event h goes same =
       chunks = h.chunks;
       haves = h.haves;
       follows = subst (λ (p : Bool). Follows (with_proven p (frame_in x life (r ∷ past))) h.lost new (tale_of x.d life (r ∷ past))) (sym h.heard) with_later;
-      awaited = subst (λ (xs : List Line). AreAwaited (chunks_of x.d) new.own xs) (sym h.becomes.story)
-          (subst (λ (own : _). AreAwaited (chunks_of x.d) own (Taken n ∷ h.tale.story)) (sym same)
-          ((lines_keep_awaited.others (Taken n) old.own tt).stays (chunks_of x.d) h.tale.story h.awaited));
+      awaited = subst (λ (xs : List Line). AreAwaited new.own xs) (sym h.becomes.story)
+          (subst (λ (own : _). AreAwaited own (Taken n ∷ h.tale.story)) (sym same)
+          ((lines_keep_awaited.others (Taken n) old.own tt).stays h.tale.story come h.awaited));
       handed = handed;
     }

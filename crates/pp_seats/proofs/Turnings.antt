@@ -6,12 +6,11 @@ use Rattle.std.proofs.Math.ListN.{set}
 use Rattle.std.proofs.lemmas.Bool.{cases_Bool, eqb-true, eqb-false}
 use Rattle.std.proofs.lemmas.Option.{same_Some}
 use Rattle.pp_terms.specs.format.Traffic.{Record}
-use Rattle.pp_terms.specs.format.Descriptor.{chunks_of}
 use Rattle.pp_traffic.specs.Life.{Life}
 use Rattle.pp_traffic.specs.Story.{Line}
 use Rattle.pp_traffic.specs.Fates.{clock}
 use Rattle.pp_promises.specs.ReadStory.{read_story}
-use Rattle.pp_requests.specs.Moments.{Changes, IsLeastAsked, IsLeastExpired, NoneExpired}
+use Rattle.pp_requests.specs.Moments.{ChangesEntry, IsLeastExpired, NoneExpired, IsLeastLost, NoneLost}
 use Rattle.pp_channels.specs.Seats.{channel_at}
 use Rattle.pp_channels.specs.declared.channel.Channel.{Channel}
 use Rattle.pp_seat.specs.Seats.{SeatState}
@@ -21,7 +20,7 @@ use Rattle.pp_seat.specs.Awaited.{AreAwaited}
 use Rattle.pp_seat.proofs.Framing.{reads_come}
 use Rattle.pp_seat.proofs.Passing.{known_stays}
 use Rattle.pp_seats.specs.Standing.{SeatsState, Setting, at_seat, frame_in, IsFollowed, StandsFor}
-use Rattle.pp_seats.specs.Turning.{Rewinds, GivesUpRequest, HasNoneExpired, ForgetsRequests, Turns}
+use Rattle.pp_seats.specs.Turning.{Rewinds, GivesUpRequest, HasNoneExpired, GivesUpLost, HasNoneLost, ForgetsRequests, Turns}
 use Rattle.pp_seats.specs.Laws.{KnownChanges}
 use Rattle.pp_seats.proofs.Lists.{get_set_there, get_set_other}
 use Rattle.pp_seats.proofs.Outgoing.{more_followed}
@@ -63,7 +62,7 @@ rewinds p q k to before after there exact back stays is = record {
         chunks = (let few = f.chunks in omega (arith, few));
         haves = (let few = f.haves in omega (arith, few));
         follows = back.follows (frame_in (at_seat x k) life past) f.lost (tale_of x.d life past) f.follows;
-        awaited = subst (λ (own : _). AreAwaited (chunks_of x.d) own (read_story x.d life past)) (sym (ap (λ (s : SeatState). s.own) exact)) f.awaited;
+        awaited = subst (λ (own : _). AreAwaited own (read_story x.d life past)) (sym (ap (λ (s : SeatState). s.own) exact)) f.awaited;
         handed = f.handed;
       }));
   unproven = λ none x most past h. subst (λ (o : SeatsState). StandsFor x most o past) (sym is)
@@ -72,14 +71,14 @@ rewinds p q k to before after there exact back stays is = record {
         chunks = f.chunks;
         haves = f.haves;
         follows = stays.follows (frame_in (at_seat x k) life past) f.lost (tale_of x.d life past) (sym f.follows.proven ∙ none) f.follows;
-        awaited = subst (λ (own : _). AreAwaited (chunks_of x.d) own (read_story x.d life past)) (sym (ap (λ (s : SeatState). s.own) exact)) f.awaited;
+        awaited = subst (λ (own : _). AreAwaited own (read_story x.d life past)) (sym (ap (λ (s : SeatState). s.own) exact)) f.awaited;
         handed = f.handed;
       }));
 }
 
 pub gives_up_request : (p q : SeatsState) (k i : ℕ) (before after : SeatState) → slice_get p.seats k ≡ Some before → IsLeastExpired before.own p.moment i
-    → Changes i None before.own after.own → after ≡ record before { own = after.own; stopped = true } → Stays (HasCome p.moment) before after
-    → ((chunks : ℕ) (story : List Line) → p.moment ≤ clock story → AreAwaited chunks before.own story → AreAwaited chunks after.own story)
+    → ChangesEntry i None before.own after.own → after ≡ record before { own = after.own; stopped = true } → Stays (HasCome p.moment) before after
+    → ((story : List Line) → p.moment ≤ clock story → AreAwaited before.own story → AreAwaited after.own story)
     → q ≡ record p { seats = set p.seats k after } → GivesUpRequest k i p q
 gives_up_request p q k i before after there least taken exact stays awaits is = record {
   before = before;
@@ -97,7 +96,7 @@ gives_up_request p q k i before after there least taken exact stays awaits is = 
         chunks = f.chunks;
         haves = f.haves;
         follows = stays.follows (frame_in (at_seat x k) life past) f.lost (tale_of x.d life past) come f.follows;
-        awaited = awaits (chunks_of x.d) (read_story x.d life past) come f.awaited;
+        awaited = awaits (read_story x.d life past) come f.awaited;
         handed = f.handed;
       }));
 }
@@ -134,7 +133,7 @@ turns p q k before after there exact stays is = record {
         chunks = f.chunks;
         haves = f.haves;
         follows = stays.follows (frame_in (at_seat x k) life past) f.lost (tale_of x.d life past) tt f.follows;
-        awaited = subst (λ (own : _). AreAwaited (chunks_of x.d) own (read_story x.d life past)) (sym (ap (λ (s : SeatState). s.own) exact)) f.awaited;
+        awaited = subst (λ (own : _). AreAwaited own (read_story x.d life past)) (sym (ap (λ (s : SeatState). s.own) exact)) f.awaited;
         handed = f.handed;
       }));
 }
@@ -147,7 +146,7 @@ set_there (y ∷ ys) (suc k) s e = ap (λ (os : List SeatState). y ∷ os) (set_
 
 -- A request was given up, or there was none to be.
 abbrev Given : Option ℕ → SeatState → SeatState → Type 0
-Given o before after = MatchOption o (after ≡ before) (λ i. (after ≡ record before { own = after.own; stopped = true }) × Changes i None before.own after.own)
+Given o before after = MatchOption o (after ≡ before) (λ i. (after ≡ record before { own = after.own; stopped = true }) × ChangesEntry i None before.own after.own)
 
 pub given_room : (o : Option ℕ) (before after : SeatState) → Given o before after → after.told.chunks ≡ before.told.chunks
 given_room None before after g = ap (λ (s : SeatState). s.told.chunks) g
@@ -155,7 +154,7 @@ given_room (Some i) before after g = ap (λ (s : SeatState). s.told.chunks) g.0
 
 pub given_so : (p q : SeatsState) (k : ℕ) (o : Option ℕ) (before after : SeatState) → slice_get p.seats k ≡ Some before
     → MatchOption o (NoneExpired before.own p.moment) (IsLeastExpired before.own p.moment) → Given o before after → Stays (HasCome p.moment) before after
-    → ((chunks : ℕ) (story : List Line) → p.moment ≤ clock story → AreAwaited chunks before.own story → AreAwaited chunks after.own story)
+    → ((story : List Line) → p.moment ≤ clock story → AreAwaited before.own story → AreAwaited after.own story)
     → q ≡ record p { seats = set p.seats k after } → MatchOption o (HasNoneExpired k p q) (λ i. GivesUpRequest k i p q)
 given_so p q k None before after there least g stays awaits is = record {
   known = before;
@@ -164,6 +163,49 @@ given_so p q k None before after there least g stays awaits is = record {
   same = is ∙ ap (λ (xs : List SeatState). record p { seats = xs }) (ap (set p.seats k) g ∙ set_there p.seats k before there);
 }
 given_so p q k (Some i) before after there least g stays awaits is = gives_up_request p q k i before after there least g.1 g.0 stays awaits is
+
+pub gives_up_lost : (p q : SeatsState) (k i : ℕ) (before after : SeatState) → slice_get p.seats k ≡ Some before → IsLeastLost before.own i
+    → ChangesEntry i None before.own after.own → after ≡ record before { own = after.own } → Stays Always before after
+    → ((story : List Line) → AreAwaited before.own story → AreAwaited after.own story)
+    → q ≡ record p { seats = set p.seats k after } → GivesUpLost k i p q
+gives_up_lost p q k i before after there least taken exact stays awaits is = record {
+  before = before;
+  after = after;
+  there = there;
+  least = least;
+  taken = taken;
+  exact = exact;
+  is = is;
+  stands = λ x most past h. subst (λ (o : SeatsState). StandsFor x most o past) (sym is)
+      (seat_changed x most most p k before after past h there (omega arith) (λ life f. record {
+        lost = f.lost;
+        chunks = f.chunks;
+        haves = f.haves;
+        follows = stays.follows (frame_in (at_seat x k) life past) f.lost (tale_of x.d life past) tt f.follows;
+        awaited = awaits (read_story x.d life past) f.awaited;
+        handed = f.handed;
+      }));
+}
+
+-- A lost request was given up, or there was none to be.
+abbrev LostGiven : Option ℕ → SeatState → SeatState → Type 0
+LostGiven o before after = MatchOption o (after ≡ before) (λ i. (after ≡ record before { own = after.own }) × ChangesEntry i None before.own after.own)
+
+pub lost_room : (o : Option ℕ) (before after : SeatState) → LostGiven o before after → after.told.chunks ≡ before.told.chunks
+lost_room None before after g = ap (λ (s : SeatState). s.told.chunks) g
+lost_room (Some i) before after g = ap (λ (s : SeatState). s.told.chunks) g.0
+
+pub lost_so : (p q : SeatsState) (k : ℕ) (o : Option ℕ) (before after : SeatState) → slice_get p.seats k ≡ Some before
+    → MatchOption o (NoneLost before.own) (IsLeastLost before.own) → LostGiven o before after → Stays Always before after
+    → ((story : List Line) → AreAwaited before.own story → AreAwaited after.own story)
+    → q ≡ record p { seats = set p.seats k after } → MatchOption o (HasNoneLost k p q) (λ i. GivesUpLost k i p q)
+lost_so p q k None before after there least g stays awaits is = record {
+  known = before;
+  there = there;
+  none = least;
+  same = is ∙ ap (λ (xs : List SeatState). record p { seats = xs }) (ap (set p.seats k) g ∙ set_there p.seats k before there);
+}
+lost_so p q k (Some i) before after there least g stays awaits is = gives_up_lost p q k i before after there least g.1 g.0 stays awaits is
 
 pub forgets_requests : (p q : SeatsState) (k : ℕ) (before : SeatState) → slice_get p.seats k ≡ Some before → channel_at p.table k ≡ None
     → q ≡ record p { seats = set p.seats k (record before { own = [] }) } → ForgetsRequests k p q

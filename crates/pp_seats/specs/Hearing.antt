@@ -1,12 +1,13 @@
 -- What becomes of the seats while the messages of a datagram are heard, one by one, until the peer looks up.
 use Rattle.std.specs.Prelude.{◌≡◌, ℕ, ◌≤◌, Bool, true, false, cond, Option, None, Some, is_some, List, ◌∷◌, length, drop, slice_get, slice_set}
 use Rattle.pp_terms.specs.format.Traffic.{Record}
-use Rattle.pp_terms.specs.format.Descriptor.{Descriptor, chunks_of}
+use Rattle.pp_terms.specs.format.Descriptor.{Descriptor}
 use Rattle.pp_terms.specs.format.Messages.{Message}
 use Rattle.pp_traffic.specs.Past.{now, is_event}
 use Rattle.pp_traffic.specs.Life.{Life, closes}
 use Rattle.pp_traffic.specs.Meter.{ended}
 use Rattle.pp_traffic.specs.Story.{Line, Taken, hear}
+use Rattle.pp_traffic.specs.Fates.{clock}
 use Rattle.pp_traffic.specs.Asking.{is_heard}
 use Rattle.pp_requests.specs.Moments.{asked_at, Changes}
 use Rattle.pp_channels.specs.Seats.{closed}
@@ -27,7 +28,7 @@ use Rattle.pp_seats.specs.Standing.{SeatsState, Setting, SeatSetting, at_seat, f
 -- It follows these messages more, which came at a moment.
 pub record HearsAll (now : ℕ) (ms : List Message) (old new : SeatState) : Type 0 where
   pub follows : (f : Frame) (lost : Lost) (t : Tale) → Follows f lost old t → Follows f lost new (with_heard now ms f.proven t)
-  pub awaited : (chunks : ℕ) (story : List Line) → AreAwaited chunks old.own story → AreAwaited chunks new.own (hear now ms story)
+  pub awaited : (story : List Line) → clock story ≤ now → AreAwaited old.own story → AreAwaited new.own (hear now ms story)
 
 -- One seat changes so, and nothing else does.
 pub record ChangesSeat (seat : ℕ) (P : SeatState → SeatState → Type 0) (old new : SeatsState) : Type 0 where
@@ -92,7 +93,7 @@ pub record IsReady (x : SeatSetting) (most moment : ℕ) (s : SeatState) (life :
   pub tale : Tale
   pub becomes : IsSameTale (with_line (Taken moment) is_proven tale) (tale_of x.d life (r ∷ past))
   pub follows : Follows (with_proven is_proven (frame_in x life past)) lost s tale
-  pub awaited : AreAwaited (chunks_of x.d) s.own tale.story
+  pub awaited : AreAwaited s.own tale.story
 
 -- So does each seat; all that is missing is that the peer looks up.
 pub record Ready (x : Setting) (most : ℕ) (p : SeatsState) (r : Record) (past : List Record) : Type 0 where

@@ -1,7 +1,7 @@
 -- What the seats of a peer keep is what the link carried says.
 use Rattle.std.specs.Prelude.{◌≡◌, ℕ, ◌≤◌, Bool, true, false, Option, Some, List, slice_get}
 use Rattle.pp_terms.specs.format.Traffic.{Record}
-use Rattle.pp_terms.specs.format.Descriptor.{Descriptor, chunks_of}
+use Rattle.pp_terms.specs.format.Descriptor.{Descriptor}
 use Rattle.pp_traffic.specs.Past.{now, some_since, is_event}
 use Rattle.pp_traffic.specs.Life.{Life}
 use Rattle.pp_promises.specs.ReadStory.{read_story}
@@ -48,7 +48,7 @@ pub record IsFollowed (x : SeatSetting) (most : ℕ) (s : SeatState) (life : Lif
   pub chunks : lost.chunks ≤ most
   pub haves : lost.haves ≤ most
   pub follows : Follows (frame_in x life past) lost s (tale_of x.d life past)
-  pub awaited : AreAwaited (chunks_of x.d) s.own (read_story x.d life past)
+  pub awaited : AreAwaited s.own (read_story x.d life past)
   pub handed : some_since is_event life.opening past ≡ true
 
 -- Each seat is one of a content of so many chunks.

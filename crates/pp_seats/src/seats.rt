@@ -179,7 +179,7 @@ impl Seats {
         ensures { ChangesSeat seat (λ before after. IsAnswered chunk result before after
             × ((sent_at : ℕ) (bytes : List ℕ) → HearsAll self.old.moment (Data chunk sent_at bytes ∷ []) before after)) self.old self.new }
     {
-        self.seats[seat as usize].heard_data(chunk)
+        self.seats[seat as usize].heard_data(chunk, self.moment)
     }
 
     /// The channel of a seat is dropped.

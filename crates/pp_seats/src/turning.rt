@@ -2,7 +2,7 @@
 
 ghost use Rattle.std.specs.Prelude.{◌≡◌, ◌<◌, None, Some, slice_get, MatchOption};
 ghost use Rattle.pp_channels.specs.Seats.{channel_at};
-ghost use Rattle.pp_seats.specs.Turning.{Rewinds, GivesUpRequest, HasNoneExpired, ForgetsRequests, Turns};
+ghost use Rattle.pp_seats.specs.Turning.{Rewinds, GivesUpRequest, HasNoneExpired, GivesUpLost, HasNoneLost, ForgetsRequests, Turns};
 
 use crate::seats::Seats;
 use pp_seat::Seat;
@@ -25,12 +25,21 @@ impl Seats {
     }
 
     /// Takes out the least chunk that this peer asked for on a seat's channel 10 seconds ago or longer: it may be asked for elsewhere, and
-    /// nothing more is asked for on the channel until a datagram comes there. None where there is none.
+    /// the channel is asked for one chunk at a time until a datagram comes there. None where there is none.
     pub fn give_up_request(&mut self, seat: u8) -> Option<u32>
         requires { seat < 64 }
         ensures { MatchOption result (HasNoneExpired seat self.old self.new) (λ i. GivesUpRequest seat i self.old self.new) }
     {
         self.seats[seat as usize].expired(self.moment)
+    }
+
+    /// Takes out the least chunk whose request on a seat's channel was lost, or its answer: requests of three greater chunks that were
+    /// sent no earlier were answered since. None where there is none.
+    pub fn give_up_lost(&mut self, seat: u8) -> Option<u32>
+        requires { seat < 64 }
+        ensures { MatchOption result (HasNoneLost seat self.old self.new) (λ i. GivesUpLost seat i self.old self.new) }
+    {
+        self.seats[seat as usize].lost()
     }
 
     /// This peer waits for nothing any more on a seat whose channel was dropped.

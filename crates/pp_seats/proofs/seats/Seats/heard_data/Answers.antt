@@ -12,6 +12,6 @@ returns c = rw (← c.self.view_is) (record {
   is = refl;
   changes = (
     record { waited = c.heard_data.ensures.was; rest = c.heard_data.ensures.rest; taken = c.heard_data.ensures.taken },
-    λ sent_at bytes. hears_one _ _ c.index_mut.result.now c.heard_data.new.self (c.heard_data.ensures.goes _ sent_at bytes) (c.heard_data.ensures.awaits _ sent_at bytes),
+    λ sent_at bytes. hears_one _ _ c.index_mut.result.now c.heard_data.new.self (c.heard_data.ensures.goes _ sent_at bytes) (c.heard_data.ensures.awaits sent_at bytes),
   );
 })
