@@ -27,7 +27,9 @@ use Rattle.pp_seats.specs.Sending.{IsSilent}
 use Rattle.pp_seats.specs.Standing.{SeatsState, at_seat as setting_at, IsFollowed}
 use Rattle.pp_peer.specs.declared.parts.Parts.{Parts}
 use Rattle.pp_peer.specs.Serving.{most_sent, flying_in, IsServed}
-use Rattle.pp_peer.specs.Speaking.{may_ask}
+use Rattle.pp_promises.specs.OwnSide.{most_asked}
+use Rattle.pp_core.proofs.Rooms.{most_where_may}
+use Rattle.pp_peer.specs.Speaking.{most_of}
 use Rattle.pp_peer.specs.Standing.{Beginning, setting, StandsFor}
 use Rattle.pp_core.specs.Offering.{IsOfLife}
 use Rattle.pp_core.proofs.Served.{in_list, known_far, plain_begun}
@@ -45,7 +47,7 @@ pub record IsAskable (d : Descriptor) (p : Parts) (life : Life) (past : List Rec
   pub begun : far.begun ≡ true
   pub state : SeatState
   pub state_there : slice_get p.seats.seats seat ≡ Some state
-  pub may : may_ask state ≡ true
+  pub most : most_of state ≡ 32
   pub named : (i moment : ℕ) → asked_at state.own i ≡ Some moment → is_asked_at (chunks_of d) i moment (read_story d life past) ≡ true
 
 seat_there : (p : SeatsState) (n : ℕ) (far : Far) → IsServed p n → far_of (channel_at p.table n) ≡ Some far → far.begun ≡ true
@@ -118,9 +120,8 @@ module _ (b : Beginning) (most : ℕ) (p : Parts) (past : List Record) (stands :
       (λ free. free)
       (cases_Bool s.chokes)
 
-  may_be : may_ask s ≡ true
-  may_be = and_from s.proven (not s.chokes && not s.stopped) (followed.follows.proven ∙ may.heard)
-      (and_from (not s.chokes) (not s.stopped) (ap not unchoked) (ap not unstopped))
+  most_is : most_of s ≡ 32
+  most_is = most_where_may s (and_from s.proven (not s.chokes) (followed.follows.proven ∙ may.heard) (ap not unchoked)) ∙ ap most_asked unstopped
 
   pub askable : IsAskable b.d p life past
   askable = record {
@@ -139,6 +140,6 @@ module _ (b : Beginning) (most : ℕ) (p : Parts) (past : List Record) (stands :
     begun = begun;
     state = s;
     state_there = known.1;
-    may = may_be;
+    most = most_is;
     named = followed.follows.own.named;
   }

@@ -7,6 +7,7 @@ use Rattle.std.proofs.lemmas.List.Folds.{list_any-append}
 use Rattle.pp_terms.specs.tree.Range.{Span, within, has}
 use Rattle.pp_ranges.specs.Edits.{number_count}
 use Rattle.pp_ranges.proofs.Runs.{append_has}
+use Rattle.pp_requests.proofs.Chunks.{asked_spared}
 use Rattle.pp_requests.specs.declared.asking.Asking.{Asking}
 use Rattle.pp_requests.specs.Moments.{asked_at}
 use Rattle.pp_draft.specs.declared.note.Note.{Note}
@@ -26,7 +27,7 @@ use Rattle.pp_agenda.specs.Agendas.{only, turn_notes, ack_note, have_note, reque
 use Rattle.pp_agenda.specs.Laws.{are_cancelling}
 use Rattle.pp_agenda.proofs.Parts.{all_both, all_mapped, all_same, all_only, all_turn, kept, none_mapped, any_kept, any_spoken, address_is}
 use Rattle.pp_agenda.proofs.Passing.{IsNoRequest, IsNoCancel, requested-append, first_alone, first_behind}
-use Rattle.pp_peer.specs.Speaking.{may_ask}
+use Rattle.pp_peer.specs.Speaking.{most_of}
 
 abbrev pub is_cancel : Note → Bool
 is_cancel (Cancel range) = true
@@ -40,7 +41,7 @@ pub record AllAsked (asks : List Span) (cancels : ℕ → Bool) (cancelled : Boo
   pub asked : (i : ℕ) → has asks i ≡ true → cancels i ≡ false → awaits new.own i ≡ true
   pub kept : (i : ℕ) → awaits old.own i ≡ true → cancels i ≡ false → awaits new.own i ≡ true
   pub many : cancelled ≡ false → length new.own ≡ length old.own + number_count asks
-  pub may : may_ask new ≡ may_ask old
+  pub may : most_of new ≡ most_of old
   pub first : AsksFirst more
   pub fit : FitAll (requested more) new.own
 
@@ -50,19 +51,19 @@ IsAsked notes more old new = AllAsked (requested notes) (λ i. are_cancelling no
 
 unchoked_same : (old mid : SeatState)
     → (old.choked ≡ true → mid ≡ record old { slot = true; choked = false; owes = false }) × (old.choked ≡ false → mid ≡ old)
-    → (mid.own ≡ old.own) × (may_ask mid ≡ may_ask old)
+    → (mid.own ≡ old.own) × (most_of mid ≡ most_of old)
 unchoked_same old mid h = ⊎_elim
-    (λ yes. (ap (λ (s : SeatState). s.own) (h.0 yes), ap may_ask (h.0 yes)))
-    (λ no. (ap (λ (s : SeatState). s.own) (h.1 no), ap may_ask (h.1 no)))
+    (λ yes. (ap (λ (s : SeatState). s.own) (h.0 yes), ap most_of (h.0 yes)))
+    (λ no. (ap (λ (s : SeatState). s.own) (h.1 no), ap most_of (h.1 no)))
     (cases_Bool old.choked)
 
-moved_same : (back : Bool) (end : ℕ) (old mid : SeatState) → Moves back end old mid → (mid.own ≡ old.own) × (may_ask mid ≡ may_ask old)
-moved_same true end old mid h = (ap (λ (s : SeatState). s.own) h, ap may_ask h)
-moved_same false end old mid h = (ap (λ (s : SeatState). s.own) h, ap may_ask h)
+moved_same : (back : Bool) (end : ℕ) (old mid : SeatState) → Moves back end old mid → (mid.own ≡ old.own) × (most_of mid ≡ most_of old)
+moved_same true end old mid h = (ap (λ (s : SeatState). s.own) h, ap most_of h)
+moved_same false end old mid h = (ap (λ (s : SeatState). s.own) h, ap most_of h)
 
 module _ (now : ℕ) (back : Bool) (more : List Note) where
   -- a note that leaves the own requests
-  idle : (asks : List Span) (cancels : ℕ → Bool) (cancelled : Bool) (old mid new : SeatState) → mid.own ≡ old.own → may_ask mid ≡ may_ask old
+  idle : (asks : List Span) (cancels : ℕ → Bool) (cancelled : Bool) (old mid new : SeatState) → mid.own ≡ old.own → most_of mid ≡ most_of old
       → AllAsked asks cancels cancelled more mid new → AllAsked asks cancels cancelled more old new
   idle asks cancels cancelled old mid new same may r = record {
     asked = r.asked;
@@ -98,7 +99,7 @@ module _ (now : ℕ) (back : Bool) (more : List Note) where
     asked = λ i e c. absurd (false≢true e);
     kept = λ i e c. ap (λ (s : SeatState). awaits s.own i) h ∙ e;
     many = λ none. ap (λ (s : SeatState). length s.own) h ∙ no_more (length old.own);
-    may = ap may_ask h;
+    may = ap most_of h;
     first = a;
     fit = subst (λ (s : SeatState). FitAll (requested more) s.own) (sym h) f;
   }
@@ -107,22 +108,22 @@ module _ (now : ℕ) (back : Bool) (more : List Note) where
       no_more n = omega arith
   sent_all (KeepAlive ∷ notes) old new h a f =
       let same = ap (λ (s : SeatState). s.own) h.1 in
-      idle _ _ _ old h.0 new same (ap may_ask h.1) (sent_all notes h.0 new h.2 a (fit_same notes old h.0 same f))
+      idle _ _ _ old h.0 new same (ap most_of h.1) (sent_all notes h.0 new h.2 a (fit_same notes old h.0 same f))
   sent_all (Handshake source ∷ notes) old new h a f =
       let same = ap (λ (s : SeatState). s.own) h.1 in
-      idle _ _ _ old h.0 new same (ap may_ask h.1) (sent_all notes h.0 new h.2 a (fit_same notes old h.0 same f))
+      idle _ _ _ old h.0 new same (ap most_of h.1) (sent_all notes h.0 new h.2 a (fit_same notes old h.0 same f))
   sent_all (Close ∷ notes) old new h a f =
       let same = ap (λ (s : SeatState). s.own) h.1 in
-      idle _ _ _ old h.0 new same (ap may_ask h.1) (sent_all notes h.0 new h.2 a (fit_same notes old h.0 same f))
+      idle _ _ _ old h.0 new same (ap most_of h.1) (sent_all notes h.0 new h.2 a (fit_same notes old h.0 same f))
   sent_all (Choke ∷ notes) old new h a f =
       let same = ap (λ (s : SeatState). s.own) h.1 in
-      idle _ _ _ old h.0 new same (ap may_ask h.1) (sent_all notes h.0 new h.2 a (fit_same notes old h.0 same f))
+      idle _ _ _ old h.0 new same (ap most_of h.1) (sent_all notes h.0 new h.2 a (fit_same notes old h.0 same f))
   sent_all (Unchoke ∷ notes) old new h a f =
       let same = unchoked_same old h.0 h.1 in
       idle _ _ _ old h.0 new same.0 same.1 (sent_all notes h.0 new h.2 a (fit_same notes old h.0 same.0 f))
   sent_all (Ack range delay ∷ notes) old new h a f =
       let same = ap (λ (s : SeatState). s.own) h.1 in
-      idle _ _ _ old h.0 new same (ap may_ask h.1) (sent_all notes h.0 new h.2 a (fit_same notes old h.0 same f))
+      idle _ _ _ old h.0 new same (ap most_of h.1) (sent_all notes h.0 new h.2 a (fit_same notes old h.0 same f))
   sent_all (Have range ∷ notes) old new h a f =
       let same = moved_same back (range.last + 1) old h.0 h.1 in
       idle _ _ _ old h.0 new same.0 same.1 (sent_all notes h.0 new h.2 a (fit_same notes old h.0 same.0 f))
@@ -136,7 +137,7 @@ module _ (now : ℕ) (back : Bool) (more : List Note) where
             (or_cases (within range i) (has (requested notes) i) e);
         kept = λ i e c. rest.kept i (kept_one i now (within range i) old.own h.0.own (asks.asked i) e) c;
         many = λ none. (let then = rest.many none in let one = asks.len in omega (arith, then, one));
-        may = rest.may ∙ ap may_ask h.1.0;
+        may = rest.may ∙ ap most_of h.1.0;
         first = rest.first;
         fit = rest.fit;
       }
@@ -148,19 +149,19 @@ module _ (now : ℕ) (back : Bool) (more : List Note) where
             let parts = or_parts (within range i) (are_cancelling notes i) c in
             rest.kept i (spared_one i (within range i) old.own h.0.own parts.0 (asked_spared (within range i) i old.own h.0.own (h.1.1 i)) e) parts.1;
         many = λ none. absurd (false≢true (sym none));
-        may = rest.may ∙ ap may_ask h.1.0;
+        may = rest.may ∙ ap most_of h.1.0;
         first = rest.first;
         fit = rest.fit;
       }
   sent_all (PexReq ∷ notes) old new h a f =
       let same = ap (λ (s : SeatState). s.own) h.1 in
-      idle _ _ _ old h.0 new same (ap may_ask h.1) (sent_all notes h.0 new h.2 a (fit_same notes old h.0 same f))
+      idle _ _ _ old h.0 new same (ap most_of h.1) (sent_all notes h.0 new h.2 a (fit_same notes old h.0 same f))
   sent_all (Pex4 address port ∷ notes) old new h a f =
       let same = ap (λ (s : SeatState). s.own) h.1 in
-      idle _ _ _ old h.0 new same (ap may_ask h.1) (sent_all notes h.0 new h.2 a (fit_same notes old h.0 same f))
+      idle _ _ _ old h.0 new same (ap most_of h.1) (sent_all notes h.0 new h.2 a (fit_same notes old h.0 same f))
   sent_all (Pex6 address port ∷ notes) old new h a f =
       let same = ap (λ (s : SeatState). s.own) h.1 in
-      idle _ _ _ old h.0 new same (ap may_ask h.1) (sent_all notes h.0 new h.2 a (fit_same notes old h.0 same f))
+      idle _ _ _ old h.0 new same (ap most_of h.1) (sent_all notes h.0 new h.2 a (fit_same notes old h.0 same f))
 
 -- ---- a delivery of which nothing was refused
 

@@ -75,7 +75,7 @@ drops_kept seat old new low lasts d = ⊎_elim
     (λ over. absurd (both_ways (is_over old.seats.moment (channel_at old.seats.table seat)) lasts over.0))
     (d.each seat low)
 
--- ---- requests that expired
+-- ---- requests that expired, or were lost
 
 let_go : (now : ℕ) (o p : Option SeatState) → LetsGoAt now o p → StateAt now o p
 let_go now None p l = l

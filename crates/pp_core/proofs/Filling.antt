@@ -31,13 +31,15 @@ use Rattle.pp_peer.specs.declared.parts.Parts.{Parts}
 use Rattle.pp_peer.specs.declared.speaking.Speaker.{Speaker}
 use Rattle.pp_peer.specs.Standing.{own_at, own_in}
 use Rattle.pp_peer.specs.Flushing.{Scene}
-use Rattle.pp_peer.specs.Speaking.{may_ask, PicksFrom, SettlesIn, SpeaksTo, SpeaksOn, TurnsIf, TurnsTo, TurnsBelow}
-use Rattle.pp_peer.proofs.Owning.{picks_are_fit}
+use Rattle.pp_promises.specs.OwnSide.{most_asked}
+use Rattle.pp_seat.specs.Own.{room_of}
+use Rattle.pp_peer.specs.Speaking.{may_ask, most_of, PicksFrom, SettlesIn, SpeaksTo, SpeaksOn, TurnsIf, TurnsTo, TurnsBelow}
+use Rattle.pp_peer.proofs.Owning.{room_fits, picks_are_fit}
 use Rattle.pp_core.specs.Asking.{OffersNone}
 use Rattle.pp_core.proofs.Asking.{unasked, Less, HadAll}
 use Rattle.pp_core.proofs.Awaiting.{IsAsked, goes_asked, agenda_first}
 use Rattle.pp_core.proofs.Having.{had_of}
-use Rattle.pp_core.proofs.Rooms.{may_at, may_in, IsOwned, Alike, back_alike, attends_alike, greets_unknown, goes_risen}
+use Rattle.pp_core.proofs.Rooms.{most_at, may_where_some, most_where_may, most_in, IsOwned, Alike, back_alike, attends_alike, greets_unknown, goes_risen}
 use Rattle.pp_core.proofs.Turned.{TurnedAt, turned_at, TurnedBelow, turned_below, owned_alike}
 
 -- ---- the end of picking
@@ -120,19 +122,18 @@ pub record IsFull (k : ℕ) (a b : Parts) : Type 0 where
   pub awaited : (i : ℕ) → has picks i ≡ true → awaits (own_in b.seats.seats k) i ≡ true
   pub fresh : (i : ℕ) → has picks i ≡ true → awaits (own_in a.seats.seats k) i ≡ false
   pub rises : IsRisingFrom 0 (own_in a.seats.seats k)
-  pub full : length (own_in a.seats.seats k) + number_count picks ≡ 32
-  pub may : may_in a.seats.seats k ≡ true
+  pub full : most_in b.seats.seats k ≤ length (own_in a.seats.seats k) + number_count picks
 
-full_alike : (k : ℕ) (a c b e : Parts) → own_in c.seats.seats k ≡ own_in a.seats.seats k → may_in c.seats.seats k ≡ may_in a.seats.seats k
+full_alike : (k : ℕ) (a c b e : Parts) → own_in c.seats.seats k ≡ own_in a.seats.seats k → most_in e.seats.seats k ≡ most_in b.seats.seats k
     → own_in e.seats.seats k ≡ own_in b.seats.seats k → IsFull k c b → IsFull k a e
-full_alike k a c b e first may last f = record {
+full_alike k a c b e first most last f = record {
   picks = f.picks;
   runs = f.runs;
   awaited = λ i at. ap (λ (own : List Asking). awaits own i) last ∙ f.awaited i at;
   fresh = λ i at. ap (λ (own : List Asking). awaits own i) (sym first) ∙ f.fresh i at;
   rises = subst (λ (own : List Asking). IsRisingFrom 0 own) first f.rises;
-  full = ap (λ (own : List Asking). length own + number_count f.picks) (sym first) ∙ f.full;
-  may = sym may ∙ f.may;
+  full = subst (λ (n : ℕ). n ≤ length (own_in a.seats.seats k) + number_count f.picks) (sym most)
+      (subst (λ (own : List Asking). most_in b.seats.seats k ≤ length own + number_count f.picks) first f.full);
 }
 
 module _ (k : ℕ) (far : Far) (greets : Bool) (refused : ℕ) (speaker left : Speaker) (a b : Scene)
@@ -187,7 +188,8 @@ module _ (k : ℕ) (far : Far) (greets : Bool) (refused : ℕ) (speaker left : S
   picks_fit = subst (λ (own : List Asking). FitAll s.picks own) (read_before own_at)
       (picks_are_fit (may_ask s.are_picked.known) speaker.order k s.are_picked.room s.picks a.parts.fetching s.picked.fetching
       (own_in a.parts.seats.seats) owned
-      (ap (λ (own : List Asking). s.are_picked.room + length own) (ap own_at s.are_picked.there) ∙ s.are_picked.room_is) s.are_picked.picks_from)
+      (subst (λ (own : List Asking). s.are_picked.room + length own ≤ 32) (sym (ap own_at s.are_picked.there))
+      (room_fits s.are_picked.known.stopped s.are_picked.known.own s.are_picked.room s.are_picked.room_is s.are_picked.few)) s.are_picked.picks_from)
 
   fit : FitAll (requested left.agenda) sp.before.own
   fit = subst (λ (xs : List Span). FitAll xs sp.before.own) (sym requested_are) (of sp.before.proven)
@@ -214,7 +216,7 @@ module _ (k : ℕ) (far : Far) (greets : Bool) (refused : ℕ) (speaker left : S
   absent (x ∷ xs) f i at = ap (λ (o : Option ℕ). is_some o) (f.absent i at)
 
   -- Where more may be asked for, nothing that the seat offers is left, or as much was picked as there was room for.
-  spoke_full : HadAll (had_of a.parts.fetching) (is_committed a.parts.holding.store) → may_in b.parts.seats.seats k ≡ true
+  spoke_full : HadAll (had_of a.parts.fetching) (is_committed a.parts.holding.store) → 0 < most_in b.parts.seats.seats k
       → OffersNone k b.parts ⊎ IsFull k a.parts b.parts
   spoke_full had may = ⊎_elim
       (λ full. inr (record {
@@ -223,18 +225,20 @@ module _ (k : ℕ) (far : Far) (greets : Bool) (refused : ℕ) (speaker left : S
         awaited = awaited;
         fresh = λ i at. ap (λ (own : List Asking). awaits own i) (read_before own_at) ∙ absent s.picks picks_fit i at;
         rises = subst (λ (own : List Asking). IsRisingFrom 0 own) (sym (ap own_at s.are_picked.there)) s.are_picked.rises;
-        full = (let is = s.are_picked.room_is in
+        full = (let is = s.are_picked.room_is ∙ ap (λ (x : SeatState). room_of x.stopped x.own) picked_is in
             let before = ap (λ (own : List Asking). length own) (read_before own_at) in
-            let same = ap (λ (x : SeatState). length x.own) picked_is in
-            omega (arith, full, is, before, same));
-        may = read_before may_at ∙ may_before;
+            let most = most_where_may sp.before may_before in
+            omega (arith, full, is, before, most, most_same));
       }))
       (λ nothing. inl nothing)
       (none_or_full speaker.order k s.are_picked.room s.picks s.cancels (own_in b.parts.seats.seats k) (is_committed a.parts.holding.store)
       a.parts.fetching s.picked.fetching b.parts.fetching picks_true settled awaited (λ i at. (cancelled i at).1) had)
     where
+      most_same : most_in b.parts.seats.seats k ≡ most_of sp.before
+      most_same = read_after most_at ∙ asked.may
+
       may_before : may_ask sp.before ≡ true
-      may_before = sym asked.may ∙ sym (read_after may_at) ∙ may
+      may_before = may_where_some sp.before 0 (subst (λ (n : ℕ). 0 < n) most_same may)
 
       proven : sp.before.proven ≡ true
       proven = (and_parts sp.before.proven _ may_before).0
@@ -261,12 +265,12 @@ module _ (k : ℕ) (far : Far) (greets : Bool) (refused : ℕ) (speaker left : S
           of true (Some f) p = p.3.runs
           of false o p = subst (λ (xs : List Span). IsRunsFrom 0 xs) (sym p.0) tt
 
--- More may be asked for on the channel of a seat but for what is awaited there.
+-- Something may be asked for on the channel of a seat but for what is awaited there.
 pub record MayAskAt (k : ℕ) (p : Parts) : Type 0 where
   pub far : Far
   pub is_far : far_of (channel_at p.seats.table k) ≡ Some far
   pub begun : far.begun ≡ true
-  pub may : may_in p.seats.seats k ≡ true
+  pub may : 0 < most_in p.seats.seats k
 
 -- What the turn of a seat leaves there.
 abbrev pub LeavesNone : ℕ → (start : Parts) → Scene → Scene → Type 0
@@ -297,9 +301,9 @@ spoken_leaves k far greets refused speaker left a b s owned had room = of (cases
     of (inl some) = inr (inl (goes_risen _ _ left.agenda _ _ s.speaks.says.speaks.goes refl some))
     of (inr none) = ⊎_elim
         (λ nothing. inl (λ f e. nothing f (sym last.fetching ∙ e)))
-        (λ full. inr (inr (full_alike k a.parts s.back s.said b.parts (first.own k) (first.may k) (last.own k) full)))
+        (λ full. inr (inr (full_alike k a.parts s.back s.said b.parts (first.own k) (last.may k) (last.own k) full)))
         (spoke_full k far greets refused speaker left old mid s.speaks (omega (arith, none))
-        (owned_alike a.parts s.back first.own first.fetching owned) had_back (sym (last.may k) ∙ room.may))
+        (owned_alike a.parts s.back first.own first.fetching owned) had_back (subst (λ (n : ℕ). 0 < n) (last.may k) room.may))
 
 turn_leaves : (k refused : ℕ) (speaker left : Speaker) (a b : Scene) → TurnsTo k refused speaker left a b → IsOwned a.parts
     → HadAll (had_of a.parts.fetching) (is_committed a.parts.holding.store) → MayAskAt k b.parts → LeavesNone k a.parts a b
@@ -321,15 +325,6 @@ less_none n p q less none f e i =
     let was = less f e in
     ⊎_elim (λ is. absurd (both_ways (is_for (was.0).want (was.0).offers n i) (none was.0 was.1 i) (was.3 n i is))) (λ free. free)
     (cases_Bool (is_for f.want f.offers n i))
-
--- Whether anything may be asked for stays on each seat whose turn is to come.
-may_below : (n k refused : ℕ) (speaker left : Speaker) (a b : Scene) → TurnsBelow k refused speaker left a b → k ≤ n
-    → may_in b.parts.seats.seats n ≡ may_in a.parts.seats.seats n
-unfolding TurnsBelow
-may_below n zero refused speaker left a b t le = ap (λ (p : Parts). may_in p.seats.seats n) t.parts
-may_below n (suc k) refused speaker left a b t le =
-    (turned_at k t.1 t.2 left t.3 b t.5).elsewhere.may n (λ is. omega (arith, is, le))
-    ∙ may_below n k t.0 speaker t.2 a t.3 t.4 (omega (arith, le))
 
 -- So it is when all seats had their turns.
 pub turns_leave : (n k refused : ℕ) (speaker left : Speaker) (a b : Scene) → TurnsBelow k refused speaker left a b → n < k → IsOwned a.parts
@@ -357,13 +352,13 @@ turns_leave n (suc k) refused speaker left a b t lt owned had room =
         (λ none. inl (less_none n m.parts b.parts (one.less had_there) none))
         (λ rest. ⊎_elim
         (λ risen. inr (inl (risen_more a.link.faults m.link.faults b.link.faults one.faults risen)))
-        (λ full. inr (inr (full_alike n a.parts a.parts m.parts b.parts refl refl (one.elsewhere.own n ne) full)))
+        (λ full. inr (inr (full_alike n a.parts a.parts m.parts b.parts refl (one.elsewhere.may n ne) (one.elsewhere.own n ne) full)))
         rest)
         (by (record {
           far = room.far;
           is_far = ap far_of (sym (one.elsewhere.channels n ne)) ∙ room.is_far;
           begun = room.begun;
-          may = sym (one.elsewhere.may n ne) ∙ room.may;
+          may = subst (λ (m : ℕ). 0 < m) (one.elsewhere.may n ne) room.may;
         }))
 
     here : n ≡ k → LeavesNone n a.parts a b
@@ -371,8 +366,7 @@ turns_leave n (suc k) refused speaker left a b t lt owned had room =
         (λ none. inl none)
         (λ rest. ⊎_elim
         (λ risen. inr (inl (risen_less a.link.faults m.link.faults b.link.faults before.faults risen)))
-        (λ full. inr (inr (full_alike k a.parts m.parts b.parts b.parts (before.own k (omega arith))
-        (may_below k k t.0 speaker t.2 a m t.4 (omega arith)) refl full)))
+        (λ full. inr (inr (full_alike k a.parts m.parts b.parts b.parts (before.own k (omega arith)) refl refl full)))
         rest)
         (turn_leaves k t.1 t.2 left m b t.5 (before.owned owned) had_there (subst (λ (j : ℕ). MayAskAt j b.parts) is room)))
 

@@ -8,7 +8,8 @@ use Rattle.pp_terms.specs.format.Traffic.{Record, LinkState}
 use Rattle.pp_terms.proofs.Risings.{risen_more, risen_less}
 use Rattle.pp_requests.specs.declared.asking.Asking.{Asking}
 use Rattle.pp_avail.specs.declared.ranker.Rank.{Rank}
-use Rattle.pp_requests.specs.Moments.{asked_at}
+use Rattle.pp_requests.specs.Moments.{entry_of}
+use Rattle.pp_requests.proofs.Chunks.{asked_some}
 use Rattle.pp_outside.specs.declared.link.Address.{Address}
 use Rattle.pp_promises.specs.Batches.{is_pending}
 use Rattle.pp_store.specs.Store.{is_committed}
@@ -23,7 +24,7 @@ use Rattle.pp_peer.specs.declared.dialling.DialState.{DialState}
 use Rattle.pp_peer.specs.declared.parts.Parts.{Parts}
 use Rattle.pp_peer.specs.Standing.{Beginning, own_at, own_in, StandsFor}
 use Rattle.pp_peer.specs.Flushing.{Scene, Flushes}
-use Rattle.pp_peer.specs.Greeting.{IsExpired, LetsGoAt, Drops}
+use Rattle.pp_peer.specs.Greeting.{IsSpent, LetsGoAt, Drops}
 use Rattle.pp_peer.specs.Dialling.{Tries, has_channel, is_due, after_dial, noticed, StepsDial, DialsEach, with_queue, DialsSuggested}
 use Rattle.pp_peer.specs.declared.dialling.DialState.TheVariants.{Seated}
 use Rattle.pp_peer.specs.Sending.{SendsAll}
@@ -35,7 +36,7 @@ use Rattle.pp_core.specs.Turning.{scene, without_tickets, Sends}
 use Rattle.pp_core.proofs.Keeping.{flush_goes}
 use Rattle.pp_core.proofs.Having.{had_of, wanted_had}
 use Rattle.pp_core.proofs.Asking.{HadAll}
-use Rattle.pp_core.proofs.Rooms.{may_at, Alike, slots_alike, IsOwned}
+use Rattle.pp_core.proofs.Rooms.{most_at, Alike, slots_alike, IsOwned}
 use Rattle.pp_core.proofs.Turned.{owned_alike, TurnedBelow, turned_below}
 
 -- ---- dials leave what is kept of the seats
@@ -75,16 +76,19 @@ suggested_messages (address ∷ queue) a c h = of (nat_lt (used_of a.parts.seats
 
 -- ---- what is awaited when the seats' turns begin
 
-lets_go : (now : ℕ) (o n : Option SeatState) → LetsGoAt now o n → (i : ℕ) → awaits (own_at n) i ≡ true → awaits (own_at o) i ≡ true
+pub lets_go : (now : ℕ) (o n : Option SeatState) → LetsGoAt now o n → (i : ℕ) → awaits (own_at n) i ≡ true → awaits (own_at o) i ≡ true
 lets_go now None n h i e = absurd (false≢true (ap (λ (x : Option SeatState). awaits (own_at x) i) (sym h) ∙ e))
 lets_go now (Some old) n h i e = of (h.2.own i)
   where
     left : awaits (h.0).own i ≡ true
     left = ap (λ (x : Option SeatState). awaits (own_at x) i) (sym h.1) ∙ e
 
-    of : (asked_at (h.0).own i ≡ asked_at old.own i) ⊎ (IsExpired now (asked_at old.own i) × (asked_at (h.0).own i ≡ None)) → awaits old.own i ≡ true
-    of (inl same) = ap (λ (x : Option ℕ). is_some x) (sym same) ∙ left
-    of (inr gone) = absurd (false≢true (ap (λ (x : Option ℕ). is_some x) (sym gone.1) ∙ left))
+    there : is_some (entry_of (h.0).own i) ≡ true
+    there = sym (asked_some (h.0).own i) ∙ left
+
+    of : (entry_of (h.0).own i ≡ entry_of old.own i) ⊎ (IsSpent now (entry_of old.own i) × (entry_of (h.0).own i ≡ None)) → awaits old.own i ≡ true
+    of (inl same) = asked_some old.own i ∙ ap (λ (x : Option Asking). is_some x) (sym same) ∙ there
+    of (inr gone) = absurd (false≢true (ap (λ (x : Option Asking). is_some x) (sym gone.1) ∙ there))
 
 dropped_awaits : (n : ℕ) (old new : Parts) → Drops old new → n < 64 → (i : ℕ) → awaits (own_in new.seats.seats n) i ≡ true
     → awaits (own_in old.seats.seats n) i ≡ true
@@ -133,8 +137,8 @@ flush_asks refused old new link later disk left course held x most past stands =
         far = room.far;
         is_far = room.is_far;
         begun = room.begun;
-        may = ap may_at room.there ∙ room.may;
-        few = (let few = room.few in let same = ap (λ (o : Option SeatState). length (own_at o)) room.there in omega (arith, few, same));
+        few = (let few = room.few in let same = ap (λ (o : Option SeatState). length (own_at o)) room.there in let most = ap most_at room.there in
+            omega (arith, few, same, most));
       }));
   orders = λ n lt f e i j now was is. ⊎_elim
       (λ goes. inl (subst (λ (order : Rank). GoesBefore order f.offers i j) s.speaks.order goes))

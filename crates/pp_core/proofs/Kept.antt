@@ -5,7 +5,8 @@ use Rattle.std.specs.List.{slice_get}
 use Rattle.std.proofs.Math.ListN.{set}
 use Rattle.std.proofs.lemmas.Bool.{cases_eq}
 use Rattle.std.proofs.lemmas.List.{get_or-set_other}
-use Rattle.pp_requests.specs.Moments.{asked_at}
+use Rattle.pp_requests.specs.declared.asking.Asking.{Asking}
+use Rattle.pp_requests.specs.Moments.{entry_of}
 use Rattle.pp_requests.specs.Seats.{Seating}
 use Rattle.pp_counts.specs.declared.counts.Counts.{Counts}
 use Rattle.pp_channels.specs.Seats.{Seats, channel_at, changed, with_handshake}
@@ -20,14 +21,14 @@ use Rattle.pp_seats.specs.Standing.{SeatsState}
 use Rattle.pp_seats.specs.Turning.{Turns}
 use Rattle.pp_seats.proofs.Lists.{get_set_there, get_set_other}
 use Rattle.pp_peer.specs.declared.parts.Parts.{Parts}
-use Rattle.pp_peer.specs.Greeting.{StaysBut, IsExpired}
+use Rattle.pp_peer.specs.Greeting.{StaysBut, IsSpent}
 
 -- ---- a seat's state
 
--- A seat is as it was, but for own requests that expired, and for CHOKE or UNCHOKE, which may become due.
+-- A seat is as it was, but for own requests that expired or were lost, and for CHOKE or UNCHOKE, which may become due.
 pub record StateKept (now : ℕ) (old new : SeatState) : Type 0 where
   pub rest : new ≡ record old { own = new.own; stopped = new.stopped; owes = new.owes }
-  pub own : (i : ℕ) → (asked_at new.own i ≡ asked_at old.own i) ⊎ IsExpired now (asked_at old.own i)
+  pub own : (i : ℕ) → (entry_of new.own i ≡ entry_of old.own i) ⊎ IsSpent now (entry_of old.own i)
   pub owes : old.owes ≡ true → new.owes ≡ true
 
 abbrev pub StateAt : ℕ → Option SeatState → Option SeatState → Type 0
@@ -41,10 +42,10 @@ state_none now (Some s) = (s, refl, record { rest = refl; own = λ i. inl refl; 
 pub state_same : (now : ℕ) (o p : Option SeatState) → p ≡ o → StateAt now o p
 state_same now o p same = subst (λ (x : Option SeatState). StateAt now o x) (sym same) (state_none now o)
 
-own_twice : (now : ℕ) (a b c : Option ℕ) → (b ≡ a) ⊎ IsExpired now a → (c ≡ b) ⊎ IsExpired now b → (c ≡ a) ⊎ IsExpired now a
+own_twice : (now : ℕ) (a b c : Option Asking) → (b ≡ a) ⊎ IsSpent now a → (c ≡ b) ⊎ IsSpent now b → (c ≡ a) ⊎ IsSpent now a
 own_twice now a b c (inr x) two = inr x
 own_twice now a b c (inl e) (inl f) = inl (f ∙ e)
-own_twice now a b c (inl e) (inr x) = inr (subst (λ (o : Option ℕ). IsExpired now o) e x)
+own_twice now a b c (inl e) (inr x) = inr (subst (λ (o : Option Asking). IsSpent now o) e x)
 
 pub state_twice : (now : ℕ) (o p q : Option SeatState) → StateAt now o p → StateAt now p q → StateAt now o q
 state_twice now None p q one two = let t = subst (λ (x : Option SeatState). StateAt now x q) one two in t
@@ -54,7 +55,7 @@ state_twice now (Some s) p q one two =
       t.1,
       record {
         rest = t.2.rest ∙ ap (λ (x : SeatState). record x { own = t.0.own; stopped = t.0.stopped; owes = t.0.owes }) one.2.rest;
-        own = λ i. own_twice now (asked_at s.own i) (asked_at one.0.own i) (asked_at t.0.own i) (one.2.own i) (t.2.own i);
+        own = λ i. own_twice now (entry_of s.own i) (entry_of one.0.own i) (entry_of t.0.own i) (one.2.own i) (t.2.own i);
         owes = λ due. t.2.owes (one.2.owes due);
       },
     )

@@ -43,10 +43,10 @@ use Rattle.pp_seats.specs.Standing.{SeatsState}
 use Rattle.pp_peer.specs.declared.parts.Parts.{Parts}
 use Rattle.pp_peer.specs.Delivering.{IsServedAt}
 use Rattle.pp_peer.specs.Flushing.{Scene}
-use Rattle.pp_peer.specs.Greeting.{LetsGoAt, offers_of}
+use Rattle.pp_peer.specs.Greeting.{offers_of}
 use Rattle.pp_peer.specs.Sending.{SendsAll}
 use Rattle.pp_peer.specs.Serving.{IsServed}
-use Rattle.pp_peer.specs.Speaking.{may_ask}
+use Rattle.pp_peer.specs.Speaking.{most_of}
 use Rattle.pp_peer.specs.Standing.{Beginning, IsWhole, asked_of, own_at, own_in, StandsFor}
 use Rattle.pp_peer.proofs.Dialled.{IsDialling, all_dialling}
 use Rattle.pp_core.specs.Asking.{OffersNone}
@@ -59,14 +59,14 @@ use Rattle.pp_core.proofs.Asking.{HadAll}
 use Rattle.pp_core.proofs.Askable.{IsAskable, askable}
 use Rattle.pp_core.proofs.FewNamed.{few_named}
 use Rattle.pp_core.proofs.Filling.{IsFull, MayAskAt, turns_leave}
-use Rattle.pp_core.proofs.Flushes.{in_set}
+use Rattle.pp_core.proofs.Flushes.{in_set, lets_go}
 use Rattle.pp_core.proofs.Coming.{absorbs_heard, none_heard}
 use Rattle.pp_core.proofs.Haves.{flush_heard, refusal_heard}
 use Rattle.pp_core.proofs.Having.{had_of, wanted_had, absorbs_held, flush_held}
 use Rattle.pp_core.proofs.Limits.{absorbs_limit, flush_limit}
 use Rattle.pp_core.proofs.Named.{named_later, named_then, noted_asked}
 use Rattle.pp_core.proofs.PlainBefore.{plain_then}
-use Rattle.pp_core.proofs.Rooms.{Alike, slots_alike, may_at, may_in, IsOwned}
+use Rattle.pp_core.proofs.Rooms.{Alike, slots_alike, most_at, most_in, IsOwned}
 use Rattle.pp_core.proofs.Served.{risen_or}
 use Rattle.pp_core.proofs.Staying.{flush_came, dials_messages}
 use Rattle.pp_core.proofs.Turned.{owned_alike}
@@ -106,26 +106,15 @@ had_or_asked false b had asked offers e x y z = absurd cc
 
 -- what a seat was before chunks were served
 served_state : (o p : Option SeatState) (s : SeatState) → IsServedAt o p → p ≡ Some s
-    → (was : SeatState) × (o ≡ Some was) × (may_ask was ≡ may_ask s) × (was.own ≡ s.own)
+    → (was : SeatState) × (o ≡ Some was) × (most_of was ≡ most_of s) × (was.own ≡ s.own)
 served_state None p s served there = let x : None ≡ Some s = sym served ∙ there in absurd cc
 served_state (Some was) p s served there =
     let same = same_Some served.0 s (sym served.1 ∙ there) in (
       was,
       refl,
-      sym (ap may_ask served.2) ∙ ap may_ask same,
+      sym (ap most_of served.2) ∙ ap most_of same,
       sym (ap (λ (x : SeatState). x.own) served.2) ∙ ap (λ (x : SeatState). x.own) same,
     )
-
--- where something may be asked for, nothing was given up
-let_none : (now : ℕ) (o p : Option SeatState) → LetsGoAt now o p → may_at p ≡ true → p ≡ o
-let_none now None p l may = l
-let_none now (Some s) p l may = ⊎_elim
-    (λ same. l.1 ∙ ap (λ (x : SeatState). Some x) same)
-    (λ gone.
-    let goes_on = (and_parts (not l.0.chokes) (not l.0.stopped)
-    (and_parts l.0.proven (not l.0.chokes && not l.0.stopped) (sym (ap may_at l.1) ∙ may)).1).1 in
-    absurd (false≢true (ap not (sym gone.2) ∙ goes_on)))
-    l.2.stopped
 
 -- A chunk that is awaited was asked for at some moment.
 awaited_at : (own : List Asking) (i : ℕ) → awaits own i ≡ true → (moment : ℕ) × (asked_at own i ≡ Some moment)
@@ -185,9 +174,6 @@ module _ (refused : ℕ) (old new : PeerState) (link later : LinkState) (disk le
   own_given : (n : ℕ) → own_in s.turned.seats.seats n ≡ own_in s.given.seats.seats n
   own_given n = slots.own n ∙ ap (λ (xs : List SeatState). own_in xs n) messages
 
-  may_given : (n : ℕ) → may_in s.turned.seats.seats n ≡ may_in s.given.seats.seats n
-  may_given n = slots.may n ∙ ap (λ (xs : List SeatState). may_in xs n) messages
-
   owned : IsOwned s.turned
   owned = owned_alike s.given s.turned own_given same_fetching
       (s.gives_up.stands b most past (s.drops.stands b most past stands)).fetches.owned
@@ -208,19 +194,22 @@ module _ (refused : ℕ) (old new : PeerState) (link later : LinkState) (disk le
     there_sent : channel_at course.sent.seats.table a.seat ≡ Some a.channel
     there_sent = ap (λ (x : SeatsState). channel_at x.table a.seat) (sym seats_same) ∙ a.there
 
-    was : (was : SeatState) × (slice_get s.said.parts.seats.seats a.seat ≡ Some was) × (may_ask was ≡ may_ask a.state) × (was.own ≡ a.state.own)
+    was : (was : SeatState) × (slice_get s.said.parts.seats.seats a.seat ≡ Some was) × (most_of was ≡ most_of a.state) × (was.own ≡ a.state.own)
     was = served_state (slice_get s.said.parts.seats.seats a.seat) (slice_get course.sent.seats.seats a.seat) a.state
         (s.serves.alone.states a.seat) (ap (λ (x : SeatsState). slice_get x.seats a.seat) (sym seats_same) ∙ a.state_there)
 
     own_said : own_in s.said.parts.seats.seats a.seat ≡ a.state.own
     own_said = ap own_at was.1 ∙ was.3
 
+    most_said : most_in s.said.parts.seats.seats a.seat ≡ 32
+    most_said = ap most_at was.1 ∙ was.2 ∙ a.most
+
     may_said : MayAskAt a.seat s.said.parts
     may_said = record {
       far = a.far;
       is_far = sym (s.serves.far a.seat) ∙ ap (λ (x : SeatsState). far_of (channel_at x.table a.seat)) (sym seats_same) ∙ a.is_far;
       begun = a.begun;
-      may = ap may_at was.1 ∙ was.2 ∙ a.may;
+      may = subst (λ (n : ℕ). 0 < n) (sym most_said) (omega arith);
     }
 
     -- the channel was there before, and was plain
@@ -268,26 +257,26 @@ module _ (refused : ℕ) (old new : PeerState) (link later : LinkState) (disk le
     new_named i e = let at = awaited_at a.state.own i e in asked_named i at.0 (read_story b.d life records) (a.named i at.0 at.1)
 
     -- What was awaited as the turns began was awaited before the flush.
-    own_begun : may_in s.turned.seats.seats a.seat ≡ true → (i : ℕ) → awaits (own_in s.turned.seats.seats a.seat) i ≡ true
+    own_begun : (i : ℕ) → awaits (own_in s.turned.seats.seats a.seat) i ≡ true
         → awaits (own_in old.parts.seats.seats a.seat) i ≡ true
-    own_begun asks i e = ⊎_elim
-        (λ kept. ap (λ (own : List Asking). awaits own i) (sym (dropped ∙ ap own_at kept.messages)) ∙ e)
-        (λ over. absurd (false≢true (ap (λ (own : List Asking). awaits own i) (sym (dropped ∙ over.1.own)) ∙ e)))
+    own_begun i e = ⊎_elim
+        (λ kept. ap (λ (own : List Asking). awaits own i) (sym (ap own_at kept.messages)) ∙ dropped)
+        (λ over. absurd (false≢true (ap (λ (own : List Asking). awaits own i) (sym over.1.own) ∙ dropped)))
         (s.drops.each a.seat a.low)
       where
-        dropped : own_in s.turned.seats.seats a.seat ≡ own_in s.dropped.seats.seats a.seat
-        dropped = own_given a.seat ∙ ap own_at (let_none s.dropped.seats.moment (slice_get s.dropped.seats.seats a.seat)
-            (slice_get s.given.seats.seats a.seat) (s.gives_up.each a.seat) (sym (may_given a.seat) ∙ asks))
+        dropped : awaits (own_in s.dropped.seats.seats a.seat) i ≡ true
+        dropped = lets_go s.dropped.seats.moment (slice_get s.dropped.seats.seats a.seat) (slice_get s.given.seats.seats a.seat) (s.gives_up.each a.seat) i
+            (ap (λ (own : List Asking). awaits own i) (sym (own_given a.seat)) ∙ e)
 
     -- a channel with room was not filled
     not_full : IsFull a.seat s.turned s.said.parts → ⊥
     not_full full =
         let count = few_named (λ i. is_named i (read_story b.d life records)) (chunks_of b.d) (own_in s.turned.seats.seats a.seat) full.picks
-        full.rises full.runs full.fresh (λ i e. old_named i (own_begun full.may i e))
+        full.rises full.runs full.fresh (λ i e. old_named i (own_begun i e))
         (λ i at. new_named i (ap (λ (own : List Asking). awaits own i) (sym own_said) ∙ full.awaited i at)) in
         let room = subst (λ (lines : List Line). named_count (chunks_of b.d) lines < 32) (sym (plains_are_read b.d life records may.plain)) may.room in
-        let thirty_two = full.full in
-        omega (arith, count, room, thirty_two)
+        let all = full.full in
+        omega (arith, count, room, all, most_said)
 
     -- a chunk that is offered where nothing is left to ask for
     chunk_asked : OffersNone a.seat new.parts → (i : ℕ) → i < chunks_of b.d → is_offered i (story b.d life records) ≡ true

@@ -44,9 +44,11 @@ use Rattle.pp_peer.specs.Standing.{own_at, own_in, asked_of}
 use Rattle.pp_peer.specs.Flushing.{Scene}
 use Rattle.pp_peer.specs.Greeting.{IsGreeted}
 use Rattle.pp_peer.specs.Slotting.{GrantsInTurn, TurnsLongest, TurnsNone, TurnsSlots}
-use Rattle.pp_peer.specs.Speaking.{SetsBack, SetsBackTo, may_ask, PicksFrom, SettlesIn, SpeaksTo, AttendsTo}
+use Rattle.pp_promises.specs.OwnSide.{most_asked}
+use Rattle.pp_seat.specs.Own.{room_of}
+use Rattle.pp_peer.specs.Speaking.{SetsBack, SetsBackTo, may_ask, most_of, PicksFrom, SettlesIn, SpeaksTo, AttendsTo}
 use Rattle.pp_peer.proofs.Asked.{Grown}
-use Rattle.pp_peer.proofs.Owning.{picks_are_fit, noted_after, owned_after}
+use Rattle.pp_peer.proofs.Owning.{room_fits, picks_are_fit, noted_after, owned_after}
 use Rattle.pp_peer.proofs.Went.{went_by, own_by}
 use Rattle.pp_core.specs.Asking.{AwaitsUncommitted, OffersNone, GoesBefore}
 use Rattle.pp_core.proofs.Having.{had_of}
@@ -55,13 +57,24 @@ use Rattle.pp_core.proofs.Awaiting.{IsAsked, goes_asked, agenda_first, none_canc
 
 -- ---- what is kept of a seat
 
--- whether anything may be asked for there
-abbrev pub may_at : Option SeatState → Bool
-may_at None = false
-may_at (Some s) = may_ask s
+-- how many chunks may be awaited there
+abbrev pub most_at : Option SeatState → ℕ
+most_at None = 0
+most_at (Some s) = most_of s
 
-abbrev pub may_in : List SeatState → ℕ → Bool
-may_in list seat = may_at (slice_get list seat)
+-- where some may be, something may be asked for
+pub may_where_some : (s : SeatState) (n : ℕ) → n < most_of s → may_ask s ≡ true
+may_where_some s n lt = of (may_ask s) refl lt
+  where
+    of : (b : Bool) → may_ask s ≡ b → n < cond b (most_asked s.stopped) 0 → may_ask s ≡ true
+    of true is less = is
+    of false is less = absurd (omega arith)
+
+pub most_where_may : (s : SeatState) → may_ask s ≡ true → most_of s ≡ most_asked s.stopped
+most_where_may s may = ap (λ (b : Bool). cond b (most_asked s.stopped) 0) may
+
+abbrev pub most_in : List SeatState → ℕ → ℕ
+most_in list seat = most_at (slice_get list seat)
 
 -- What is read of a seat stays, where the one that changes reads the same.
 pub at_set : {X : Type 0} (g : Option SeatState → X) (xs : List SeatState) (k : ℕ) (before after : SeatState) → slice_get xs k ≡ Some before
@@ -76,7 +89,7 @@ at_set g xs k before after there same n = ⊎_elim
 pub record Alike (p q : Parts) : Type 0 where
   pub table : q.seats.table ≡ p.seats.table
   pub own : (n : ℕ) → own_in q.seats.seats n ≡ own_in p.seats.seats n
-  pub may : (n : ℕ) → may_in q.seats.seats n ≡ may_in p.seats.seats n
+  pub may : (n : ℕ) → most_in q.seats.seats n ≡ most_in p.seats.seats n
   pub holding : q.holding ≡ p.holding
   pub fetching : q.fetching ≡ p.fetching
 
@@ -97,12 +110,12 @@ alike_twice a b c one two = record {
 
 -- where one seat changes that reads the same
 alike_set : (p q : Parts) (k : ℕ) (before after : SeatState) → slice_get p.seats.seats k ≡ Some before → after.own ≡ before.own
-    → may_ask after ≡ may_ask before
+    → most_of after ≡ most_of before
     → q.seats ≡ record p.seats { seats = set p.seats.seats k after } → q.holding ≡ p.holding → q.fetching ≡ p.fetching → Alike p q
 alike_set p q k before after there own may is holding fetching = record {
   table = ap (λ (s : SeatsState). s.table) is;
   own = λ n. ap (λ (s : SeatsState). own_in s.seats n) is ∙ at_set own_at p.seats.seats k before after there own n;
-  may = λ n. ap (λ (s : SeatsState). may_in s.seats n) is ∙ at_set may_at p.seats.seats k before after there may n;
+  may = λ n. ap (λ (s : SeatsState). most_in s.seats n) is ∙ at_set most_at p.seats.seats k before after there may n;
   holding = holding;
   fetching = fetching;
 }
@@ -112,16 +125,16 @@ back_alike seat greets news old new s = of s.known.proven greets news s.sets
   where
     of : (is_proven does : Bool) (xs : List Span) → SetsBackTo is_proven does xs seat old new → Alike old new
     of true does xs h = alike_same old new h
-    of false true xs h = alike_set old new seat h.0.before h.0.after h.0.there (ap (λ (k : SeatState). k.own) h.0.exact) (ap may_ask h.0.exact) h.0.is
+    of false true xs h = alike_set old new seat h.0.before h.0.after h.0.there (ap (λ (k : SeatState). k.own) h.0.exact) (ap most_of h.0.exact) h.0.is
         (ap (λ (p : Parts). p.holding) h.1) (ap (λ (p : Parts). p.fetching) h.1)
     of false false [] h = alike_same old new h
     of false false (x ∷ xs) h =
-        alike_set old new seat h.0.before h.0.after h.0.there (ap (λ (k : SeatState). k.own) h.0.exact) (ap may_ask h.0.exact) h.0.is
+        alike_set old new seat h.0.before h.0.after h.0.there (ap (λ (k : SeatState). k.own) h.0.exact) (ap most_of h.0.exact) h.0.is
         (ap (λ (p : Parts). p.holding) h.1) (ap (λ (p : Parts). p.fetching) h.1)
 
 turns_alike : (seat : ℕ) (old new : Parts) → Turns seat old.seats new.seats → new.holding ≡ old.holding → new.fetching ≡ old.fetching → Alike old new
 turns_alike seat old new t holding fetching =
-    alike_set old new seat t.before t.after t.there (ap (λ (k : SeatState). k.own) t.exact) (ap may_ask t.exact) t.is holding fetching
+    alike_set old new seat t.before t.after t.there (ap (λ (k : SeatState). k.own) t.exact) (ap most_of t.exact) t.is holding fetching
 
 grants_alike : (seats : List ℕ) (old new : Parts) → GrantsInTurn seats old new → Alike old new
 grants_alike [] old new g = alike_same old new g.0
@@ -147,7 +160,7 @@ attends_alike seat false old new e = alike_same old new e
 pub record Elsewhere (k : ℕ) (p q : Parts) : Type 0 where
   pub channels : (n : ℕ) → n ≢ k → channel_at q.seats.table n ≡ channel_at p.seats.table n
   pub own : (n : ℕ) → n ≢ k → own_in q.seats.seats n ≡ own_in p.seats.seats n
-  pub may : (n : ℕ) → n ≢ k → may_in q.seats.seats n ≡ may_in p.seats.seats n
+  pub may : (n : ℕ) → n ≢ k → most_in q.seats.seats n ≡ most_in p.seats.seats n
   pub holding : q.holding ≡ p.holding
 
 pub alike_elsewhere : (k : ℕ) (p q : Parts) → Alike p q → Elsewhere k p q
@@ -187,13 +200,13 @@ pub greets_elsewhere : (k moment : ℕ) (sent : Bool) (old new : Parts) (link la
 greets_elsewhere k moment true old new link later g = record {
   channels = λ n ne. ap (λ (s : SeatsState). channel_at s.table n) g.greets.is ∙ datagram_other old.seats.table k true old.seats.moment n ne;
   own = λ n ne. ap (λ (s : SeatsState). own_in s.seats n) g.greets.is;
-  may = λ n ne. ap (λ (s : SeatsState). may_in s.seats n) g.greets.is;
+  may = λ n ne. ap (λ (s : SeatsState). most_in s.seats n) g.greets.is;
   holding = ap (λ (p : Parts). p.holding) g.rest;
 }
 greets_elsewhere k moment false old new link later (inl r) = alike_elsewhere k old new (record {
   table = ap (λ (p : Parts). p.seats.table) r.rest;
   own = λ n. ap (λ (p : Parts). own_in p.seats.seats n) r.rest;
-  may = λ n. ap (λ (p : Parts). may_in p.seats.seats n) r.rest;
+  may = λ n. ap (λ (p : Parts). most_in p.seats.seats n) r.rest;
   holding = ap (λ (p : Parts). p.holding) r.rest;
   fetching = ap (λ (p : Parts). p.fetching) r.rest;
 })
@@ -280,8 +293,7 @@ pub record Room (k : ℕ) (p : Parts) : Type 0 where
   pub far : Far
   pub is_far : far_of (channel_at p.seats.table k) ≡ Some far
   pub begun : far.begun ≡ true
-  pub may : may_in p.seats.seats k ≡ true
-  pub few : length (own_in p.seats.seats k) < 32
+  pub few : length (own_in p.seats.seats k) < most_in p.seats.seats k
 
 module _ (k : ℕ) (far : Far) (greets : Bool) (refused : ℕ) (speaker left : Speaker) (a b : Scene)
     (s : SpeaksTo (record { seat = k; far = far; greets = greets }) refused speaker left a b) where
@@ -340,7 +352,7 @@ module _ (k : ℕ) (far : Far) (greets : Bool) (refused : ℕ) (speaker left : S
         ∙ sent_other s.picked.seats.table k (is_some (opening_at s.picked.seats k)) s.delivered.sent s.picked.seats.moment n ne
         ∙ ap (λ (x : SeatsState). channel_at x.table n) seats_1;
     own = read_other own_at;
-    may = read_other may_at;
+    may = read_other most_at;
     holding = spoke_holding;
   }
 
@@ -376,7 +388,8 @@ module _ (k : ℕ) (far : Far) (greets : Bool) (refused : ℕ) (speaker left : S
   picks_fit owned = subst (λ (own : List Asking). FitAll s.picks own) own_before
       (picks_are_fit (may_ask s.are_picked.known) speaker.order k s.are_picked.room s.picks a.parts.fetching s.picked.fetching
       (own_in a.parts.seats.seats) owned
-      (ap (λ (own : List Asking). s.are_picked.room + length own) (ap own_at s.are_picked.there) ∙ s.are_picked.room_is) s.are_picked.picks_from)
+      (subst (λ (own : List Asking). s.are_picked.room + length own ≤ 32) (sym (ap own_at s.are_picked.there))
+      (room_fits s.are_picked.known.stopped s.are_picked.known.own s.are_picked.room s.are_picked.room_is s.are_picked.few)) s.are_picked.picks_from)
 
   fit : IsOwned a.parts → FitAll (requested left.agenda) sp.before.own
   fit owned = subst (λ (xs : List Span). FitAll xs sp.before.own) (sym requested_are) (of sp.before.proven)
@@ -452,16 +465,20 @@ module _ (k : ℕ) (far : Far) (greets : Bool) (refused : ℕ) (speaker left : S
   not_cancelling free i =
       ⊎_elim (λ at. absurd (both_ways (has s.cancels i) (no_cancels free i) (drops i at))) (λ no. no) (cases_Bool (are_cancelling left.agenda i))
 
-  pub spoke_none : s.delivered.refused ≡ 0 → IsOwned a.parts → AwaitsUncommitted k a.parts → may_in b.parts.seats.seats k ≡ true
-      → length (own_in b.parts.seats.seats k) < 32 → OffersNone k b.parts
-  spoke_none none owned free may few = none_left speaker.order k s.are_picked.room s.picks s.cancels (own_in b.parts.seats.seats k)
+  pub spoke_none : s.delivered.refused ≡ 0 → IsOwned a.parts → AwaitsUncommitted k a.parts
+      → length (own_in b.parts.seats.seats k) < most_in b.parts.seats.seats k → OffersNone k b.parts
+  spoke_none none owned free few = none_left speaker.order k s.are_picked.room s.picks s.cancels (own_in b.parts.seats.seats k)
       a.parts.fetching s.picked.fetching b.parts.fetching picks_true settled awaited (no_cancels free) not_full
     where
       all : IsAsked left.agenda [] sp.before sp.after
       all = asked none owned
 
+      most_same : most_in b.parts.seats.seats k ≡ most_of sp.before
+      most_same = read_after most_at ∙ all.may
+
       may_before : may_ask sp.before ≡ true
-      may_before = sym all.may ∙ sym (read_after may_at) ∙ may
+      may_before = may_where_some sp.before (length (own_in b.parts.seats.seats k))
+          (subst (λ (n : ℕ). length (own_in b.parts.seats.seats k) < n) most_same few)
 
       proven : sp.before.proven ≡ true
       proven = (and_parts sp.before.proven _ may_before).0
@@ -481,10 +498,10 @@ module _ (k : ℕ) (far : Far) (greets : Bool) (refused : ℕ) (speaker left : S
       not_full full =
           let many = all.many (none_cancelled s.fills.known s.fills.due left.agenda s.fills.agenda (agenda_cancels free)) in
           let count = ap number_count are in
-          let is = s.are_picked.room_is in
-          let before = ap (λ (x : SeatState). length x.own) picked_is in
+          let is = s.are_picked.room_is ∙ ap (λ (x : SeatState). room_of x.stopped x.own) picked_is in
+          let most = most_where_may sp.before may_before in
           let after = ap (λ (own : List Asking). length own) own_after in
-          omega (arith, full, many, count, is, before, after, few)
+          omega (arith, full, many, count, is, most, most_same, after, few)
 
   -- ---- in which order
 

@@ -11,7 +11,9 @@ use Rattle.pp_terms.specs.format.Traffic.{Sent, LinkState, GainsRecords}
 use Rattle.pp_terms.specs.tree.Range.{Span, has}
 use Rattle.pp_promises.specs.Announced.{acknowledges}
 use Rattle.pp_promises.specs.OwnSide.{has_in}
-use Rattle.pp_requests.specs.Moments.{asked_at}
+use Rattle.pp_requests.specs.declared.asking.Asking.{Asking}
+use Rattle.pp_requests.specs.Moments.{asked_at, entry_of, is_lost}
+use Rattle.pp_requests.proofs.Chunks.{asked_some}
 use Rattle.pp_outside.specs.Outside.{address_of, is_same}
 use Rattle.pp_outside.specs.declared.link.Address.{Address}
 use Rattle.pp_pex.specs.Exchange.{answers}
@@ -47,7 +49,7 @@ use Rattle.pp_peer.specs.declared.parts.Parts.{Parts}
 use Rattle.pp_peer.specs.declared.speaking.Speaker.{Speaker}
 use Rattle.pp_peer.specs.declared.supporting.Supports.{Supports}
 use Rattle.pp_peer.specs.Flushing.{Scene}
-use Rattle.pp_peer.specs.Greeting.{StaysBut, IsExpired, IsGreeted}
+use Rattle.pp_peer.specs.Greeting.{StaysBut, IsSpent, IsGreeted}
 use Rattle.pp_peer.specs.Sending.{SendsAll}
 use Rattle.pp_peer.specs.Speaking.{is_taken, SpeaksTo, TurnsIf}
 use Rattle.pp_core.specs.Telling.{Tells, end_of, IsTold, HasOne, IsLasting, HasPeer, IsProven, is_new_from, Acknowledges, TellsChunk, TellsFrom, Announces, BeginsWith, Greets, cancels, Cancels, brings, asks_addresses, Exchanges, chokes, unchokes, TakesTurns}
@@ -168,21 +170,24 @@ module _ (seat : ℕ) (c : Channel) (known : SeatState) (old : Scene) (later : L
       due)))
 
   -- what isn't awaited any more is cancelled
-  pub drops : (i asked : ℕ) → asked_at known.own i ≡ Some asked → old.parts.seats.moment < asked + 10_000_000
-      → is_committed old.parts.holding.store i ≡ true
+  pub drops : (i : ℕ) (request : Asking) → entry_of known.own i ≡ Some request → old.parts.seats.moment < request.moment + 10_000_000
+      → is_lost request ≡ false → is_committed old.parts.holding.store i ≡ true
       → IsTold c (HasOne (cancels i)) old later
-  drops i asked was lately is = notes_reach seat (end_of c) old later s (HasOne (cancels i)) (cancels_note i)
+  drops i request was lately kept is = notes_reach seat (end_of c) old later s (HasOne (cancels i)) (cancels_note i)
       (said_one to.picked.seats.descriptor (cancels_note i) (cancels i) (cancel_says to.picked.seats.descriptor i))
       (cancels_all to.fills.known to.fills.due s.turn.left.agenda to.fills.agenda i
       ∙ and_from to.fills.known.proven (is_some (asked_at to.fills.known.own i) && slice_index_or to.fills.due.committed.now i false) proven
       (and_from (is_some (asked_at to.fills.known.own i)) (slice_index_or to.fills.due.committed.now i false)
-      (ap is_some (still (f.state.own i)))
+      (asked_some to.fills.known.own i ∙ ap (λ (o : Option Asking). is_some o) (still (f.state.own i)))
       (ap (λ (xs : List Bool). slice_index_or xs i false) committed ∙ is)))
     where
-      still : (asked_at to.fills.known.own i ≡ asked_at known.own i) ⊎ IsExpired old.parts.seats.moment (asked_at known.own i)
-          → asked_at to.fills.known.own i ≡ Some asked
+      still : (entry_of to.fills.known.own i ≡ entry_of known.own i) ⊎ IsSpent old.parts.seats.moment (entry_of known.own i)
+          → entry_of to.fills.known.own i ≡ Some request
       still (inl same) = same ∙ was
-      still (inr gone) = absurd (let late = subst (λ (o : Option ℕ). IsExpired old.parts.seats.moment o) was gone in omega (arith, late, lately))
+      still (inr gone) = ⊎_elim
+          (λ late. absurd (omega (arith, late, lately)))
+          (λ lost. absurd (both_ways (is_lost request) kept lost))
+          (subst (λ (o : Option Asking). IsSpent old.parts.seats.moment o) was gone)
 
   -- addresses are told, and asked for
   told_addresses : (takes : Supports) → slice_get old.parts.supports seat ≡ Some takes → slice_index_or old.parts.questions seat false ≡ true

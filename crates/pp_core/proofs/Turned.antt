@@ -139,8 +139,8 @@ spoken_at k far greets refused speaker left a b s = record {
     at owned free room (inr none) = inl (none_alike k s.said b.parts last.fetching
         (spoke_none k far greets refused speaker left old mid s.speaks (omega (arith, none))
         (owned_alike a.parts s.back first.own first.fetching owned)
-        (uncommitted_alike k a.parts s.back (first.own k) first.holding free) (sym (last.may k) ∙ room.may)
-        (let few = room.few in let same = ap (λ (xs : List Asking). length xs) (last.own k) in omega (arith, few, same))))
+        (uncommitted_alike k a.parts s.back (first.own k) first.holding free)
+        (let few = room.few in let same = ap (λ (xs : List Asking). length xs) (last.own k) in let most = last.may k in omega (arith, few, same, most))))
 
 pub turned_at : (k refused : ℕ) (speaker left : Speaker) (a b : Scene) → TurnsTo k refused speaker left a b → TurnedAt speaker.order k a b
 turned_at k refused speaker left a b t = of (far_of (channel_at a.parts.seats.table k)) refl t
@@ -235,8 +235,8 @@ below_one k refused speaker middle left a m b t turn = record {
       far = r.far;
       is_far = ap far_of (sym (one.elsewhere.channels n ne)) ∙ r.is_far;
       begun = r.begun;
-      may = sym (one.elsewhere.may n ne) ∙ r.may;
-      few = (let few = r.few in let same = ap (λ (xs : List Asking). length xs) (one.elsewhere.own n ne) in omega (arith, few, same));
+      few = (let few = r.few in let same = ap (λ (xs : List Asking). length xs) (one.elsewhere.own n ne) in let most = one.elsewhere.may n ne in
+          omega (arith, few, same, most));
     }
 
 pub turned_below : (k refused : ℕ) (speaker left : Speaker) (a b : Scene) → TurnsBelow k refused speaker left a b → TurnedBelow speaker left k a b

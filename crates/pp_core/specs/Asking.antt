@@ -16,20 +16,19 @@ use Rattle.pp_fetching.specs.Owners.{awaits}
 use Rattle.pp_seat.specs.Seats.{SeatState}
 use Rattle.pp_peer.specs.declared.parts.Parts.{Parts}
 use Rattle.pp_peer.specs.Standing.{own_in}
-use Rattle.pp_peer.specs.Speaking.{may_ask}
+use Rattle.pp_peer.specs.Speaking.{most_of}
 use Rattle.pp_core.specs.Peers.{PeerState}
 use Rattle.pp_core.specs.Turning.{Sends}
 
--- More may be asked for on the channel of a seat: this peer's handshake was sent there, it is proven, its peer doesn't choke, asking
--- hasn't stopped, and fewer than 32 chunks are awaited.
+-- More may be asked for on the channel of a seat: this peer's handshake was sent there, it is proven, its peer doesn't choke, and
+-- fewer than 32 chunks are awaited; or none, where a request expired and no datagram came since.
 pub record HasRoom (seat : ℕ) (p : Parts) : Type 0 where
   pub far : Far
   pub is_far : far_of (channel_at p.seats.table seat) ≡ Some far
   pub begun : far.begun ≡ true
   pub known : SeatState
   pub there : slice_get p.seats.seats seat ≡ Some known
-  pub may : may_ask known ≡ true
-  pub few : length known.own < 32
+  pub few : length known.own < most_of known
 
 -- No chunk that is awaited on the channel of a seat is committed; one that is would be cancelled, and leave room for the next flush.
 abbrev pub AwaitsUncommitted : ℕ → Parts → Type 0

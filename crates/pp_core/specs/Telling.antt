@@ -8,7 +8,8 @@ use Rattle.pp_terms.specs.format.Traffic.{Record, Sent, LinkState, GainsRecords}
 use Rattle.pp_terms.specs.tree.Range.{Span, within, has}
 use Rattle.pp_promises.specs.Announced.{acknowledges}
 use Rattle.pp_promises.specs.OwnSide.{has_in}
-use Rattle.pp_requests.specs.Moments.{asked_at}
+use Rattle.pp_requests.specs.declared.asking.Asking.{Asking}
+use Rattle.pp_requests.specs.Moments.{entry_of, is_lost}
 use Rattle.pp_outside.specs.Outside.{address_of, is_same}
 use Rattle.pp_outside.specs.declared.link.Address.{Address}
 use Rattle.pp_outside.specs.declared.link.Address.TheVariants.{V4, V6}
@@ -139,10 +140,11 @@ abbrev pub cancels : ℕ → Message → Bool
 cancels i (Cancel span) = within span i
 cancels i _ = false
 
--- A CANCEL of each committed chunk went on the channel on which it had been asked for, less than 10 seconds ago.
+-- A CANCEL of each committed chunk went on the channel on which it had been asked for, less than 10 seconds ago, unless that request
+-- was lost.
 abbrev pub Cancels : Scene → LinkState → Type 0
-Cancels old later = (seat i asked : ℕ) (c : Channel) → (h : IsProven seat c old.parts)
-    → asked_at h.peer.known.own i ≡ Some asked → old.parts.seats.moment < asked + 10_000_000
+Cancels old later = (seat i : ℕ) (request : Asking) (c : Channel) → (h : IsProven seat c old.parts)
+    → entry_of h.peer.known.own i ≡ Some request → old.parts.seats.moment < request.moment + 10_000_000 → is_lost request ≡ false
     → is_committed old.parts.holding.store i ≡ true → IsTold c (HasOne (cancels i)) old later
 
 -- ---- addresses of other peers

@@ -5,6 +5,7 @@ use Rattle.std.proofs.lemmas.Bool.{cases_Bool, or_left, or_right}
 use Rattle.std.proofs.lemmas.List.Folds.{list_any-append}
 use Rattle.pp_terms.specs.tree.Range.{Span, within, has}
 use Rattle.pp_ranges.proofs.Runs.{append_has}
+use Rattle.pp_requests.proofs.Chunks.{asked_spared}
 use Rattle.pp_requests.specs.declared.asking.Asking.{Asking}
 use Rattle.pp_requests.specs.Moments.{asked_at}
 use Rattle.pp_draft.specs.declared.note.Note.{Note}
@@ -111,10 +112,10 @@ module _ (came left : ℕ → Type 0) (now : ℕ) (back : Bool) (more : List Not
       let rest = sent_own notes h.0 new h.2 (none_first (notes ++ more) a) (subst (λ (xs : List Span). FitAll xs h.0.own) (sym a) tt) r
       (λ i at. c i (or_right (within range i) (are_cancelling (notes ++ more) i) at)) in
       record {
-        more_are = λ i e. ⊎_elim (λ was. inl (no_more_one i (within range i) old.own h.0.own (h.1.1 i) was)) (λ it. inr it) (rest.more_are i e);
+        more_are = λ i e. ⊎_elim (λ was. inl (no_more_one i (within range i) old.own h.0.own (asked_spared (within range i) i old.own h.0.own (h.1.1 i)) was)) (λ it. inr it) (rest.more_are i e);
         fewer_are = λ i e. ⊎_elim (λ mid. rest.fewer_are i mid)
             (λ here. inr (c i (or_left (within range i) (are_cancelling (notes ++ more) i) here)))
-            (cancelled_one range i (within range i) old.own h.0.own refl (h.1.1 i) e);
+            (cancelled_one range i (within range i) old.own h.0.own refl (asked_spared (within range i) i old.own h.0.own (h.1.1 i)) e);
         first = rest.first;
         fit = rest.fit;
       }

@@ -84,18 +84,18 @@ some_expired : (now m : ℕ) (o : Option ℕ) → o ≡ Some m → m + 10_000_00
 some_expired now m o is le = subst (λ (e : Option ℕ). IsExpired now e) (sym is) le
 
 -- One request of a seat that expired or was lost was taken out.
-record GivesOne (k i : ℕ) (p q : SeatsState) : Type 0 where
-  before : SeatState
-  after : SeatState
-  there : slice_get p.seats k ≡ Some before
-  entry : Asking
-  entered : entry_of before.own i ≡ Some entry
-  spent : IsSpent p.moment (Some entry)
-  taken : ChangesEntry i None before.own after.own
-  rest : after ≡ record before { own = after.own; stopped = after.stopped }
-  stopped : (after.stopped ≡ before.stopped) ⊎ (IsExpired p.moment (asked_at before.own i) × (after.stopped ≡ true))
-  is : q ≡ record p { seats = set p.seats k after }
-  stands : (x : Setting) (most : ℕ) (past : List Record) → seats.StandsFor x most p past → seats.StandsFor x most q past
+pub record GivesOne (k i : ℕ) (p q : SeatsState) : Type 0 where
+  pub before : SeatState
+  pub after : SeatState
+  pub there : slice_get p.seats k ≡ Some before
+  pub entry : Asking
+  pub entered : entry_of before.own i ≡ Some entry
+  pub spent : IsSpent p.moment (Some entry)
+  pub taken : ChangesEntry i None before.own after.own
+  pub rest : after ≡ record before { own = after.own; stopped = after.stopped }
+  pub stopped : (after.stopped ≡ before.stopped) ⊎ (IsExpired p.moment (asked_at before.own i) × (after.stopped ≡ true))
+  pub is : q ≡ record p { seats = set p.seats k after }
+  pub stands : (x : Setting) (most : ℕ) (past : List Record) → seats.StandsFor x most p past → seats.StandsFor x most q past
 
 entry_asked : (own : List Asking) (i m : ℕ) → asked_at own i ≡ Some m → (x : Asking) × (entry_of own i ≡ Some x) × (x.moment ≡ m)
 entry_asked own i m is = of (entry_of own i) refl (sym (asked_entry own i) ∙ is)
