@@ -225,7 +225,7 @@ module _ (k : ℕ) (far : Far) (greets : Bool) (refused : ℕ) (speaker left : S
         awaited = awaited;
         fresh = λ i at. ap (λ (own : List Asking). awaits own i) (read_before own_at) ∙ absent s.picks picks_fit i at;
         rises = subst (λ (own : List Asking). IsRisingFrom 0 own) (sym (ap own_at s.are_picked.there)) s.are_picked.rises;
-        full = (let is = s.are_picked.room_is ∙ ap (λ (x : SeatState). room_of x.stopped x.own) picked_is in
+        full = (let is = s.are_picked.room_is ∙ sym (ap (λ (x : SeatState). room_of x.stopped x.own) picked_is) in
             let before = ap (λ (own : List Asking). length own) (read_before own_at) in
             let most = most_where_may sp.before may_before in
             omega (arith, full, is, before, most, most_same));

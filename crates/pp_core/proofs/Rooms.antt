@@ -498,7 +498,7 @@ module _ (k : ℕ) (far : Far) (greets : Bool) (refused : ℕ) (speaker left : S
       not_full full =
           let many = all.many (none_cancelled s.fills.known s.fills.due left.agenda s.fills.agenda (agenda_cancels free)) in
           let count = ap number_count are in
-          let is = s.are_picked.room_is ∙ ap (λ (x : SeatState). room_of x.stopped x.own) picked_is in
+          let is = s.are_picked.room_is ∙ sym (ap (λ (x : SeatState). room_of x.stopped x.own) picked_is) in
           let most = most_where_may sp.before may_before in
           let after = ap (λ (own : List Asking). length own) own_after in
           omega (arith, full, many, count, is, most, most_same, after, few)
