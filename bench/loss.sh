@@ -17,7 +17,7 @@ cp -r "$root/crates.txt" "$root/HANDLES" "$folder/"
 for crate in $(sed -n 's/^\(pp_[a-z]*\):.*/\1/p' "$root/crates.txt"); do
     mkdir -p "$folder/crates/$crate"
     cp -r "$root/crates/$crate/src" "$root/crates/$crate/specs" "$root/crates/$crate/proofs" "$folder/crates/$crate/"
-    [ ! -d "$root/crates/$crate/out" ] || cp -r "$root/crates/$crate/out" "$folder/crates/$crate/"
+
 done
 echo 'loss: pp_terms pp_outside pp_tree pp_avail pp_store pp_core arrayvec' >>"$folder/crates.txt"
 touch "$program/specs/Lib.antt" "$program/proofs/Lib.antt"

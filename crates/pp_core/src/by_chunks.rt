@@ -25,7 +25,7 @@ pub(crate) fn fetcher(alloc: Global) -> Result<Side, Fail> {
 }
 
 // The datagram in which a seeder sends chunk 0 at moment 6, with the hashes of its path.
-fn served(alloc: Global) -> Result<Vec<u8>, Fail> {
+pub(crate) fn served(alloc: Global) -> Result<Vec<u8>, Fail> {
     let mut side = Side::full(alloc)?;
     proves(&mut side, PEER, &OURS, 5);
     side.hears(PEER, 6, &[&OURS, &request(0, 0)]);
@@ -118,13 +118,13 @@ pub(crate) fn disk_of_zeros(alloc: Global, size: u64) -> Result<(Descriptor, Mem
 
 // A peer that fetches chunks of a seeder, both by channels of the same number.
 #[derive(Drop)]
-struct Pair {
-    seeder: Side,
-    fetcher: Side,
+pub(crate) struct Pair {
+    pub(crate) seeder: Side,
+    pub(crate) fetcher: Side,
 }
 
 impl Pair {
-    fn new(alloc: Global) -> Result<Pair, Fail> {
+    pub(crate) fn new(alloc: Global) -> Result<Pair, Fail> {
         let (swarm, disk) = disk_of_zeros(alloc, 25_600)?;
         let options = options(swarm.root().bytes());
         let mut seeder = Side::open(alloc, &swarm, None, &[], disk)?;
@@ -142,7 +142,7 @@ impl Pair {
     }
 
     // The seeder is asked for a chunk, what it sends comes to the other, and the seeder is told so.
-    fn passes(&mut self, chunk: u8) -> bool {
+    pub(crate) fn passes(&mut self, chunk: u8) -> bool {
         self.seeder.hears(PEER, 5, &[&OURS, &request(chunk, chunk)]);
         let done = match self.seeder.next() {
             Some(bytes) => self.fetcher.takes(PEER, 8, &[&bytes]),

@@ -10,7 +10,7 @@ use pp_tree::{Descriptor, Digest, Method};
 use std::alloc::Global;
 use std::test::*;
 
-const OTHER: Address = Address::V4([10, 0, 0, 3], 7000);
+pub(crate) const OTHER: Address = Address::V4([10, 0, 0, 3], 7000);
 
 // An acknowledgement of chunks, with this delay in microseconds.
 pub(crate) fn ack(first: u8, last: u8, delay: u8) -> [u8; 17] {

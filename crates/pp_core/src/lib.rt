@@ -8,6 +8,8 @@ mod by_counts;
 #[cfg(test)]
 mod by_datagrams;
 #[cfg(test)]
+mod by_loss;
+#[cfg(test)]
 mod by_rows;
 mod opening;
 mod peer;

@@ -88,13 +88,30 @@ impl End {
     }
 }
 
-// What one sent comes to the other, or all but each fifth datagram: how many turns it takes to hear that, and that nothing comes then.
-fn passes(from: &mut End, to: &mut End, at: u64, loses: bool) -> u32 {
+// Which datagrams of an end are lost, by their numbers from 0.
+#[derive(Clone, Copy)]
+enum Loss {
+    Nothing,
+    EachFifth,
+    Only(usize),
+}
+
+impl Loss {
+    fn takes(self, n: usize) -> bool {
+        match self {
+            Loss::Nothing => false,
+            Loss::EachFifth => n % 5 == 4,
+            Loss::Only(lost) => n == lost,
+        }
+    }
+}
+
+// What one sent comes to the other, but for what is lost: how many turns it takes to hear that, and that nothing comes then.
+fn passes(from: &mut End, to: &mut End, at: u64, loss: Loss) -> u32 {
     let sent = from.link.sent();
     let mut turns = 1u32;
     for n in from.passed..sent {
-        let is_lost = loses && n % 5 == 4;
-        if !is_lost && to.expects(from.address, at, from.link.sent_bytes(n)) {
+        if !loss.takes(n) && to.expects(from.address, at, from.link.sent_bytes(n)) {
             turns = turns.saturating_add(1);
         }
     }
@@ -103,8 +120,8 @@ fn passes(from: &mut End, to: &mut End, at: u64, loses: bool) -> u32 {
 }
 
 // What one sent comes to the other, which takes its turns.
-fn meets(from: &mut End, to: &mut End, at: u64, loses: bool) -> bool {
-    let turns = passes(from, to, at, loses);
+fn meets(from: &mut End, to: &mut End, at: u64, loss: Loss) -> bool {
+    let turns = passes(from, to, at, loss);
     to.expects_nothing(at) && to.turns(turns)
 }
 
@@ -160,14 +177,15 @@ impl Pair {
         Ok(Pair { seeder, fetcher })
     }
 
-    // What each sent comes to the other, in each of some rounds, so many microseconds apart.
-    fn meets(&mut self, rounds: u64, apart: u64, loses: bool) -> bool {
+    // What each sent comes to the other, in each of some rounds, so many microseconds apart; of the seeder's datagrams and of the
+    // fetcher's these are lost.
+    fn meets(&mut self, rounds: u64, apart: u64, seeders: Loss, fetchers: Loss) -> bool {
         for round in 0..rounds {
             let at = round.saturating_mul(apart);
-            if !meets(&mut self.seeder, &mut self.fetcher, at, loses) {
+            if !meets(&mut self.seeder, &mut self.fetcher, at, seeders) {
                 return false;
             }
-            if !meets(&mut self.fetcher, &mut self.seeder, at, loses) {
+            if !meets(&mut self.fetcher, &mut self.seeder, at, fetchers) {
                 return false;
             }
         }
@@ -199,8 +217,8 @@ struct Shown {
 }
 
 impl Pair {
-    fn shows(&mut self, rounds: u64, apart: u64, loses: bool) -> Result<Shown, Fail> {
-        let has_met = self.meets(rounds, apart, loses);
+    fn shows(&mut self, rounds: u64, apart: u64, loss: Loss) -> Result<Shown, Fail> {
+        let has_met = self.meets(rounds, apart, loss, loss);
         Ok(Shown {
             has_all: has_met && self.has_all(),
             is_right: self.is_right()?,
@@ -210,14 +228,14 @@ impl Pair {
 }
 
 // What a pair shows after so many rounds, so many microseconds apart.
-fn meeting(alloc: Global, rounds: u64, apart: u64, loses: bool) -> Result<Shown, Fail> {
+fn meeting(alloc: Global, rounds: u64, apart: u64, loss: Loss) -> Result<Shown, Fail> {
     let mut pair = Pair::new(alloc)?;
-    pair.shows(rounds, apart, loses)
+    pair.shows(rounds, apart, loss)
 }
 
 #[test]
 fn a_fetch_and_a_seeding_meet(rt: HostRuntime) -> Result<(), Fail> {
-    let shown = meeting(rt.alloc(), 8, 100_000, false)?;
+    let shown = meeting(rt.alloc(), 8, 100_000, Loss::Nothing)?;
     assert!(rt; shown.has_all);
     assert!(rt; shown.is_right);
     assert!(rt; shown.is_kept);
@@ -226,7 +244,7 @@ fn a_fetch_and_a_seeding_meet(rt: HostRuntime) -> Result<(), Fail> {
 
 #[test]
 fn a_fetch_ends_where_each_fifth_datagram_is_lost(rt: HostRuntime) -> Result<(), Fail> {
-    let shown = meeting(rt.alloc(), 64, 4_500_000, true)?;
+    let shown = meeting(rt.alloc(), 64, 4_500_000, Loss::EachFifth)?;
     assert!(rt; shown.has_all);
     assert!(rt; shown.is_right);
     Ok(())
@@ -234,8 +252,35 @@ fn a_fetch_ends_where_each_fifth_datagram_is_lost(rt: HostRuntime) -> Result<(),
 
 #[test]
 fn all_is_kept_where_each_fifth_datagram_is_lost(rt: HostRuntime) -> Result<(), Fail> {
-    let shown = meeting(rt.alloc(), 8, 4_500_000, true)?;
+    let shown = meeting(rt.alloc(), 8, 4_500_000, Loss::EachFifth)?;
     assert!(rt; shown.is_right);
     assert!(rt; shown.is_kept);
+    Ok(())
+}
+
+// Whether a fetch ends within 15 seconds where these datagrams are lost.
+fn ends(alloc: Global, seeders: Loss, fetchers: Loss) -> Result<bool, Fail> {
+    let mut pair = Pair::new(alloc)?;
+    Ok(pair.meets(150, 100_000, seeders, fetchers) && pair.has_all())
+}
+
+// How many of the first datagrams of each end may be lost, one at a time: those of the seeder, and those of the fetcher.
+fn may_be_lost(alloc: Global, below: usize) -> Result<(usize, usize), Fail> {
+    let mut of_seeder: usize = 0;
+    let mut of_fetcher: usize = 0;
+    for n in 0..below {
+        let seeder_ends = ends(alloc, Loss::Only(n), Loss::Nothing)?;
+        of_seeder = of_seeder.saturating_add(usize::from(seeder_ends));
+        let fetcher_ends = ends(alloc, Loss::Nothing, Loss::Only(n))?;
+        of_fetcher = of_fetcher.saturating_add(usize::from(fetcher_ends));
+    }
+    Ok((of_seeder, of_fetcher))
+}
+
+// All but one: the fetcher's first datagram behind the reply, which shows its address. Without that the seeder drops the channel after ten
+// seconds, as the fetcher begins to ask again.
+#[test]
+fn a_fetch_ends_whichever_other_datagram_is_lost(rt: HostRuntime) -> Result<(), Fail> {
+    assert_eq!(rt; may_be_lost(rt.alloc(), 16)?, (16, 15));
     Ok(())
 }
