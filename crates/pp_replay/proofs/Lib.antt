@@ -1,1 +1,3 @@
 pub mod DrawnLines
+pub mod RowsAndWords
+pub mod Digits

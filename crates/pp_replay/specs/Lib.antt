@@ -1,1 +1,4 @@
 pub mod DrawnLines
+pub mod Lines
+pub mod Numbers
+pub mod Views
