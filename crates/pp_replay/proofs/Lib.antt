@@ -1,3 +1,4 @@
 pub mod DrawnLines
 pub mod RowsAndWords
 pub mod Digits
+pub mod Pairs

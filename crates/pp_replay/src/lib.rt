@@ -1,13 +1,18 @@
 //! Rehearsals: schedules of several peers, with troubles that a number draws.
 #![tactic(auto)]
 
+mod datagram;
 mod fault;
 mod lines;
+mod names;
 mod numbers;
 mod rehearsing;
+mod types;
 
+pub use datagram::Hex;
 pub use fault::{ScheduleFault, ScheduleKind};
 pub use rehearsing::rehearsal;
+pub use types::{Act, Device, Role, Step};
 
 #[cfg(test)]
 mod tests;
