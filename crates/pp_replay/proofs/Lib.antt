@@ -2,3 +2,5 @@ pub mod DrawnLines
 pub mod RowsAndWords
 pub mod Digits
 pub mod Pairs
+pub mod StepWords
+pub mod Dialled

@@ -4,3 +4,4 @@ pub mod Numbers
 pub mod Views
 pub mod Written
 pub mod StepNames
+pub mod Arity

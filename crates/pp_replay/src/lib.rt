@@ -1,12 +1,15 @@
 //! Rehearsals: schedules of several peers, with troubles that a number draws.
 #![tactic(auto)]
 
+mod arity;
 mod datagram;
 mod fault;
 mod lines;
 mod names;
 mod numbers;
 mod rehearsing;
+mod roles;
+mod steps;
 mod types;
 
 pub use datagram::Hex;

@@ -1,6 +1,7 @@
 // Lines of a text, and words of a line.
 ghost use Rattle.std.specs.Prelude.{◌≡◌, ◌≢◌, ◌<◌, [], ◌∷◌, ◌++◌, All, length, nat_le, ◌==◌, count_by, MatchOption};
 ghost use Rattle.pp_world.specs.ScheduleRead.{rows_of, words_of};
+ghost use Rattle.pp_replay.specs.Arity.{are_none};
 ghost use Rattle.pp_replay.specs.Lines.{as_row, words_left};
 
 /// A line, without the line feed that ends it.
@@ -79,6 +80,12 @@ impl<'a> Words<'a> {
         let (word, behind) = first_word(line);
         self.rest = behind.rest;
         Some(word)
+    }
+
+    pub(crate) fn is_empty(&self) -> bool
+        ensures { result ≡ are_none (words_left self.now) }
+    {
+        self.rest.is_none()
     }
 
     /// Whether there are at most 15.

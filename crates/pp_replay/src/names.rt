@@ -1,9 +1,11 @@
 // Words that name something.
-ghost use Rattle.std.specs.Prelude.{◌≡◌, option_map};
-ghost use Rattle.pp_world.specs.ScheduleRead.{order_of, device_of};
-ghost use Rattle.pp_replay.specs.Views.{as_order, as_device};
+ghost use Rattle.std.specs.Prelude.{◌≡◌};
+ghost use Rattle.pp_world.specs.ScheduleFault as wrong;
+ghost use Rattle.pp_world.specs.ScheduleRead.{found, order_of, device_of};
+ghost use Rattle.pp_replay.specs.Views.{viewed, as_order, as_device, as_kind};
 ghost use Rattle.pp_replay.specs.StepNames.{step_named};
 
+use crate::fault::ScheduleKind;
 use crate::types::Device;
 use pp_avail::Rank;
 
@@ -22,33 +24,33 @@ pub(crate) enum StepName {
     Start,
 }
 
-pub(crate) fn order_of(word: &[u8]) -> Option<Rank>
-    ensures { option_map as_order result ≡ order_of word.now }
+pub(crate) fn order_of(word: &[u8]) -> Result<Rank, ScheduleKind>
+    ensures { viewed as_order as_kind result ≡ found wrong.Line (order_of word.now) }
 {
     if word == b"sequential".as_slice() {
-        Some(Rank::Sequential)
+        Ok(Rank::Sequential)
     } else if word == b"rarest".as_slice() {
-        Some(Rank::Rarest)
+        Ok(Rank::Rarest)
     } else {
-        None
+        Err(ScheduleKind::Line)
     }
 }
 
-pub(crate) fn device_of(word: &[u8]) -> Option<Device>
-    ensures { option_map as_device result ≡ device_of word.now }
+pub(crate) fn device_of(word: &[u8]) -> Result<Device, ScheduleKind>
+    ensures { viewed as_device as_kind result ≡ found wrong.Line (device_of word.now) }
 {
     if word == b"read".as_slice() {
-        Some(Device::Read)
+        Ok(Device::Read)
     } else if word == b"write".as_slice() {
-        Some(Device::Write)
+        Ok(Device::Write)
     } else if word == b"sync".as_slice() {
-        Some(Device::Sync)
+        Ok(Device::Sync)
     } else if word == b"send".as_slice() {
-        Some(Device::Send)
+        Ok(Device::Send)
     } else if word == b"receive".as_slice() {
-        Some(Device::Receive)
+        Ok(Device::Receive)
     } else {
-        None
+        Err(ScheduleKind::Line)
     }
 }
 
