@@ -4,3 +4,5 @@ pub mod Digits
 pub mod Pairs
 pub mod StepWords
 pub mod Dialled
+pub mod ContentWords
+pub mod RolesRead

@@ -5,3 +5,5 @@ pub mod Views
 pub mod Written
 pub mod StepNames
 pub mod Arity
+pub mod Begun
+pub mod Roles

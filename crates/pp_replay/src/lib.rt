@@ -2,8 +2,10 @@
 #![tactic(auto)]
 
 mod arity;
+mod content;
 mod datagram;
 mod fault;
+mod head;
 mod lines;
 mod names;
 mod numbers;

@@ -13,6 +13,12 @@ pub enum Role {
     },
 }
 
+impl Default for Role {
+    fn default() -> Role {
+        Role::Seeds
+    }
+}
+
 /// The kinds of calls of a device that can be ordered to fail.
 #[derive(Clone, Copy, Debug, PartialEq, Eq)]
 pub enum Device {
