@@ -33,8 +33,8 @@ content_with_is chunk size shift =
     by_tests (is_number chunk) (is_chunk_size (number_of chunk)) (is_number size) (nat_le 1 (number_of size)) (nat_le (number_of size) (2 ^ 20))
     (is_number shift) (nat_le (number_of shift) 255) (number_of chunk) (number_of size) (number_of shift)
     ∙ ap (λ (x : Bool). content_by (chunk_in chunk) (number_in 1 (2 ^ 20) size)
-        (where_true (is_number shift && x && nat_le (number_of shift) 255) wrong.Number (number_of shift)))
-      (sym (le-leb 0 (number_of shift) (omega arith)))
+    (where_true (is_number shift && x && nat_le (number_of shift) 255) wrong.Number (number_of shift)))
+    (sym (le-leb 0 (number_of shift) (omega arith)))
 
 -- of three words behind the name
 abbrev with_three : Result (List ℕ × List ℕ × List ℕ) ScheduleKind → (List ℕ × List ℕ × List ℕ → Result Schedule ScheduleKind) → Result Schedule ScheduleKind
@@ -53,8 +53,8 @@ pub content_words : (words ws : List (List ℕ)) (name chunk size shift : List �
     → Ok (chunk, size, shift) ≡ only_three ws → content_with (codes "content") chunk size shift ≡ content_in words
 content_words words ws name chunk size shift is named three =
     sym (ap content_in is ∙ content_in_is name ws
-        ∙ ap (λ (r : Result (List ℕ × List ℕ × List ℕ) ScheduleKind). with_three r (λ p. content_with name p.0 p.1 p.2)) (sym three)
-        ∙ ap (λ (n : List ℕ). content_with n chunk size shift) named)
+    ∙ ap (λ (r : Result (List ℕ × List ℕ × List ℕ) ScheduleKind). with_three r (λ p. content_with name p.0 p.1 p.2)) (sym three)
+    ∙ ap (λ (n : List ℕ). content_with n chunk size shift) named)
 
 -- a test that two texts differ failed
 pub not_different : (name word text : List ℕ) (r : Bool) → r ≡ not (bytes_eq name word) → r ≡ false → word ≡ text → name ≡ text

@@ -11,4 +11,3 @@ behind_peers ps r = r >>= λ more. Ok (ps ++ more)
 pub record AreDialled (all ws : List (List ℕ)) (ps : List ℕ) : Type 0 where
   pub read : peers_in all ≡ behind_peers ps (peers_in ws)
   pub few : length ps + length ws ≤ 15
-

@@ -6,3 +6,4 @@ pub mod StepWords
 pub mod Dialled
 pub mod ContentWords
 pub mod RolesRead
+pub mod StepLines

@@ -7,3 +7,4 @@ pub mod StepNames
 pub mod Arity
 pub mod Begun
 pub mod Roles
+pub mod Left

@@ -9,14 +9,18 @@ mod head;
 mod lines;
 mod names;
 mod numbers;
+mod reading;
 mod rehearsing;
 mod roles;
+mod schedule;
 mod steps;
 mod types;
 
 pub use datagram::Hex;
 pub use fault::{ScheduleFault, ScheduleKind};
+pub use reading::read_schedule;
 pub use rehearsing::rehearsal;
+pub use schedule::{Schedule, Steps};
 pub use types::{Act, Device, Role, Step};
 
 #[cfg(test)]

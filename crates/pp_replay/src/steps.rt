@@ -1,5 +1,5 @@
 // The words of a step.
-ghost use Rattle.std.specs.Prelude.{◌≡◌};
+ghost use Rattle.std.specs.Prelude.{◌≡◌, ◌≤◌, OnOk};
 ghost use Rattle.pp_world.specs.ScheduleRead.{words_of, step_in, run_in, forge_in, fail_in, crash_in, step_at};
 ghost use Rattle.pp_replay.specs.Arity.{only_peer};
 ghost use Rattle.pp_replay.specs.Lines.{as_row, words_left};
@@ -19,7 +19,8 @@ const MOST_LINES: u32 = 65_536;
 
 /// The step on a line of this number, in a schedule of so many peers.
 pub(crate) fn step_at<'a>(peers: u8, line: u32, row: &Row<'a>) -> Result<Step<'a>, ScheduleKind>
-    ensures { viewed as_step as_kind result ≡ step_at peers line (as_row row.now) }
+    ensures step { viewed as_step as_kind result ≡ step_at peers line (as_row row.now) }
+    ensures low { OnOk result (line ≤ 65536) }
 {
     if line > MOST_LINES {
         return Err(ScheduleKind::Long);

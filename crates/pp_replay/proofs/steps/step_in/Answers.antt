@@ -13,4 +13,4 @@ returns-in-Some c =
     let rest = words_left c.first_word.result.1 in
     c.step_for.ensures
     ∙ sym (ap (step_in c.args.peers) c.first_word.ensures ∙ step_of_is c.args.peers name rest
-        ∙ ap (λ (o : Option StepName). found wrong.Line o >>= λ n. step_for n c.args.peers rest) (sym c.step_named.ensures ∙ c.in-Some.is))
+    ∙ ap (λ (o : Option StepName). found wrong.Line o >>= λ n. step_for n c.args.peers rest) (sym c.step_named.ensures ∙ c.in-Some.is))
