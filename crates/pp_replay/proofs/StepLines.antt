@@ -1,14 +1,16 @@
 -- Lines of steps, read one by one.
 use Rattle.std.proofs.Common.{◌≡◌, ℕ, ◌+◌, ◌≤◌, ◌<◌, ◌^◌, nat_le, Bool, true, List, [], ◌∷◌, length, Result, Ok, Err, refl, sym, ◌∙◌, ap, subst, arith}
-use Rattle.std.specs.Prelude.{IsOk}
+use Rattle.std.specs.Prelude.{IsOk, IfOk}
 use Rattle.std.specs.Result.{result_unwrap_or}
 use Rattle.std.proofs.lemmas.Bool.{false≢true, leb-true, le-leb, lt-leb}
-use Rattle.pp_world.specs.Schedule.{Schedule, Role, Step, most_lines, most_text}
+use Rattle.pp_world.specs.Schedule.{Schedule, IsSchedule, Role, Step, most_lines, most_text}
 use Rattle.pp_world.specs.ScheduleFault as wrong
 use Rattle.pp_world.specs.ScheduleFault.{ScheduleFault, ScheduleKind, fault}
 use Rattle.pp_world.specs.ScheduleRead.{◌>>=◌, wants, Row, Declared, rows_of, words_of, step_in, step_at, steps_in, on_line, peers_declared, all_declared, peers_end, read_rest, read_first, read_schedule}
 use Rattle.pp_world.proofs.Numbers.{bind_ok, wants_ok, value_or}
-use Rattle.pp_world.proofs.Texts.{on_line_ok}
+use Rattle.pp_world.proofs.Texts.{on_line_ok, text_read}
+use Rattle.pp_replay.specs.declared.fault.ScheduleFault as seen
+use Rattle.pp_replay.specs.Views.{viewed, same, as_fault}
 use Rattle.pp_replay.specs.Left.{IsReadable, steps_left}
 use Rattle.pp_replay.specs.Roles.{declared}
 
@@ -120,3 +122,8 @@ pub begins : (text : List ℕ) → length text ≤ 2 ^ 20 → read_schedule text
 unfolding read_schedule
 begins text fits =
     ap (λ (b : Bool). wants b (fault 0 wrong.Long) >>= λ so. read_first (rows_of text)) (le-leb (length text) most_text fits)
+
+-- A result that is what the definition reads is a schedule that keeps the limits, or a fault.
+pub is_schedule : (text : List ℕ) (r : Result Schedule seen.ScheduleFault) → viewed same as_fault r ≡ read_schedule text → IfOk r IsSchedule
+is_schedule text (Ok s) is = (text_read text s (sym is)).1
+is_schedule text (Err f) is = tt

@@ -14,7 +14,7 @@ use crate::numbers::number_in;
 const MOST_SIZE: u64 = 1_048_576;
 
 /// Sizes in bytes, and the first byte.
-#[derive(Clone, Copy)]
+#[derive(Clone, Copy, Debug)]
 pub(crate) struct Content {
     pub chunk: u32,
     pub size: u32,

@@ -24,4 +24,6 @@ pub use schedule::{Schedule, Steps};
 pub use types::{Act, Device, Role, Step};
 
 #[cfg(test)]
+mod reading_tests;
+#[cfg(test)]
 mod tests;

@@ -1,5 +1,6 @@
 // Reading the text of a schedule.
-ghost use Rattle.std.specs.Prelude.{◌≡◌, ◌+◌, ◌≤◌, Err, IsOk, MatchResult};
+ghost use Rattle.std.specs.Prelude.{◌≡◌, ◌+◌, ◌≤◌, Err, IsOk, IfOk, MatchResult};
+ghost use Rattle.pp_world.specs.Schedule.{IsSchedule};
 ghost use Rattle.pp_world.specs.ScheduleRead.{rows_of, steps_in, read_rest, read_schedule};
 ghost use Rattle.pp_replay.specs.Begun.{as_begun};
 ghost use Rattle.pp_replay.specs.Views.{viewed, same, as_fault};
@@ -17,7 +18,9 @@ const MOST_TEXT: usize = 1_048_576;
 /// Reads the text of a schedule: its first line, the line of its content, a line for each peer, and one for each step. Each
 /// line is looked at once, and nothing is kept but the roles.
 pub fn read_schedule(text: &[u8]) -> Result<Schedule<'_>, ScheduleFault>
-    ensures { viewed same as_fault result ≡ read_schedule text.now }
+    ensures read { viewed same as_fault result ≡ read_schedule text.now }
+    // What was read is a schedule that keeps the limits.
+    ensures schedule { IfOk result IsSchedule }
 {
     if text.len() > MOST_TEXT {
         return Err(fault(0, ScheduleKind::Long));

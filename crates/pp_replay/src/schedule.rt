@@ -11,7 +11,7 @@ use arrayvec::ArrayVec;
 use std::marker::Model;
 
 /// A content, the peers that share it, and what happens to them. Made by `read_schedule`, whose text it borrows.
-#[derive(Drop)]
+#[derive(Debug, Drop)]
 pub struct Schedule<'a> {
     pub(crate) content: Content,
     pub(crate) roles: ArrayVec<Role, 16>,
@@ -32,7 +32,7 @@ impl<'a> Model for Schedule<'a> {
 }
 
 /// The steps of a schedule that are left.
-#[derive(Drop)]
+#[derive(Debug, Drop)]
 pub struct Steps<'a> {
     peers: u8,
     text: &'a [u8],
