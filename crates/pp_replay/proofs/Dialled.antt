@@ -1,7 +1,7 @@
 -- The numbers of dialled peers, read one by one.
-use Rattle.std.proofs.Common.{◌≡◌, ℕ, suc, ◌+◌, ◌≤◌, List, [], ◌∷◌, ◌++◌, length, Result, Ok, Err, refl, sym, ◌∙◌, ap, arith, append_assoc, append-nil, length-append}
+use Rattle.std.proofs.Common.{◌≡◌, ℕ, ◌+◌, ◌≤◌, List, ◌++◌, length, Result, Ok}
 use Rattle.pp_world.specs.ScheduleFault.{ScheduleKind}
-use Rattle.pp_world.specs.ScheduleRead.{◌>>=◌, peer_in, peers_in}
+use Rattle.pp_world.specs.ScheduleRead.{◌>>=◌, peers_in}
 
 -- these numbers, and then those that are read
 abbrev pub behind_peers : List ℕ → Result (List ℕ) ScheduleKind → Result (List ℕ) ScheduleKind

@@ -7,3 +7,4 @@ pub mod Dialled
 pub mod ContentWords
 pub mod RolesRead
 pub mod StepLines
+pub mod ContentBytes

@@ -1,8 +1,7 @@
 -- Lines of peers, read one by one.
-use Rattle.std.proofs.Common.{◌≡◌, ℕ, ◌+◌, ◌≤◌, List, [], ◌∷◌, ◌++◌, length, map}
+use Rattle.std.proofs.Common.{◌≡◌, ℕ, ◌+◌, ◌≤◌, List, ◌++◌, length}
 use Rattle.pp_world.specs.Schedule.{Role}
 use Rattle.pp_world.specs.ScheduleRead.{Declared, rows_of, peers_declared, all_declared}
-use Rattle.pp_world.specs.ScheduleFault.{ScheduleFault}
 use Rattle.pp_replay.specs.Roles.{declared}
 
 -- these roles, and then those that are read

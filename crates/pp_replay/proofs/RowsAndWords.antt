@@ -1,10 +1,10 @@
 -- How a text begins with a line, and a line with a word.
-use Rattle.std.proofs.Common.{◌≡◌, ◌≢◌, ℕ, suc, ◌+◌, ◌<◌, ◌==◌, Bool, true, false, cond, nat_lt, nat_le, List, [], ◌∷◌, ◌++◌, length, refl, sym, ◌∙◌, ap, arith, length-append}
+use Rattle.std.proofs.Common.{◌≡◌, ◌≢◌, ℕ, suc, ◌+◌, ◌<◌, ◌==◌, Bool, true, false, cond, nat_lt, nat_le, List, [], ◌∷◌, ◌++◌, length, sym, ◌∙◌, ap, arith, length-append}
 use Rattle.std.specs.Prelude.{All, count_by}
 use Rattle.std.proofs.lemmas.Bool.{ne_eqb, cond-false}
 use Rattle.std.proofs.lemmas.List.Elements.{All-head, All-tail}
 use Rattle.std.proofs.lemmas.List.Sums.{sum_by-cons}
-use Rattle.pp_world.specs.ScheduleRead.{Row, rows_of, row_with, rows_with, words_of, word_with, words_with}
+use Rattle.pp_world.specs.ScheduleRead.{Row, rows_of, row_with, rows_with, words_of, word_with}
 use Rattle.pp_world.proofs.Lines.{Lacks, ended, line_rows, some_word, word_last, word_front}
 
 pub lacks_all : (x : ℕ) (text : List ℕ) → All (λ b. b ≢ x) text → Lacks x text

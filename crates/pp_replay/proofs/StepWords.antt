@@ -1,18 +1,18 @@
 -- The words of steps, by their number.
-use Rattle.std.proofs.Common.{◌≡◌, ℕ, ◌^◌, ◌-◌, ◌==◌, Bool, true, false, cond, Option, Some, None, Result, Ok, Err, List, [], ◌∷◌, codes, is_some, not, refl, sym, ◌∙◌, ap}
+use Rattle.std.proofs.Common.{◌≡◌, ℕ, ◌^◌, ◌-◌, Bool, true, false, cond, Option, Some, None, Result, Ok, Err, List, [], ◌∷◌, codes, is_some, not, refl, sym, ◌∙◌, ap}
 use Rattle.std.specs.Str.{bytes_eq}
 use Rattle.std.proofs.lemmas.Bool.{false≢true}
 use denote.Ref.{Bor}
 use Rattle.pp_world.specs.Schedule.{Act, Step, Once, Run, Forge, Fail, Crash}
 use Rattle.pp_world.specs.ScheduleFault as wrong
 use Rattle.pp_world.specs.ScheduleFault.{ScheduleKind}
-use Rattle.pp_world.specs.ScheduleRead.{◌>>=◌, found, number_in, peer_in, one_of, datagram_in, device_of, one_peer, run_in, forge_in, fail_in, crash_in, step_of, words_of}
+use Rattle.pp_world.specs.ScheduleRead.{◌>>=◌, found, number_in, peer_in, one_of, datagram_in, device_of, one_peer, run_in, forge_in, fail_in, crash_in, step_of}
 use Rattle.pp_world.proofs.Lines.{some_word}
 use Rattle.pp_replay.specs.declared.names.StepName.{StepName}
 use Rattle.pp_replay.specs.declared.names.StepName.TheVariants as name
 use Rattle.pp_replay.specs.StepNames.{step_named, step_for}
 use Rattle.pp_replay.specs.Lines.{words_in}
-use Rattle.pp_replay.specs.Arity.{are_none, only_one, only_two, only_three, only_peer}
+use Rattle.pp_replay.specs.Arity.{are_none, only_two, only_three, only_peer}
 
 -- no word is left exactly where no text is
 pub none_left : (rest : Option (Bor (List ℕ))) (r : Bool) → is_some rest ≡ not r → r ≡ are_none (words_in rest)

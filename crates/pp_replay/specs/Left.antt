@@ -1,5 +1,5 @@
 -- A text as the steps that it spells.
-use Rattle.std.specs.Prelude.{ℕ, ◌<◌, ◌≤◌, List, [], Result, Ok, length, map, IsOk}
+use Rattle.std.specs.Prelude.{ℕ, ◌≤◌, List, [], length, map, IsOk}
 use Rattle.std.specs.Result.{result_unwrap_or}
 use Rattle.pp_world.specs.Schedule as terms
 use Rattle.pp_world.specs.ScheduleRead.{rows_of, steps_in}

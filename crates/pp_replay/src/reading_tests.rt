@@ -195,12 +195,10 @@ fn reads_three_peers(rt: HostRuntime) -> Result<(), Fail> {
     let schedule = read_schedule(THREE_PEERS)?;
     let content = (schedule.chunk(), schedule.size(), schedule.shift());
     assert_eq!(rt; content, (1_024, 7_000, 5));
-    let first = (
-        schedule.byte_at(0),
-        schedule.byte_at(3),
-        schedule.byte_at(256),
-    );
-    assert_eq!(rt; first, (5, 26, 6));
+    let mut first = [0; 4];
+    schedule.write_content(0, &mut first);
+    assert_eq!(rt; first, [5, 12, 19, 26]);
+    assert_eq!(rt; schedule.byte_at(256), 6);
     assert_eq!(rt; schedule.peers(), 3);
     assert!(rt; are_roles_of_three(schedule.roles()));
     assert!(rt; are_steps_of_three(&mut schedule.steps()));

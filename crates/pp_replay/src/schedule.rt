@@ -1,6 +1,6 @@
 // A schedule that was read, and its steps.
-ghost use Rattle.std.specs.Prelude.{◌≡◌, ◌^◌, ◌<◌, [], ◌∷◌, length, map, MatchOption};
-ghost use Rattle.pp_world.specs.Schedule.{byte_at};
+ghost use Rattle.std.specs.Prelude.{◌≡◌, ◌+◌, ◌^◌, ◌<◌, ◌≤◌, [], ◌∷◌, length, map, MatchOption};
+ghost use Rattle.pp_world.specs.Schedule.{byte_at, content_from};
 ghost use Rattle.pp_replay.specs.Views.{as_role, as_step};
 
 use crate::content::Content;
@@ -103,6 +103,18 @@ impl<'a> Schedule<'a> {
     {
         let sum = u32::from(self.content.shift) + 7 * place + place / 256 + place / 65_536;
         (sum % 256) as u8
+    }
+
+    /// Writes bytes of the content, as many as there is room for, from a place on.
+    pub fn write_content(&self, from: u32, into: &mut [u8])
+        requires { from + length into.old ≤ 2 ^ 20 }
+        ensures { into.new ≡ content_from self.now.shift from (length into.old) }
+    {
+        let mut place = from;
+        for byte in into.iter_mut() {
+            *byte = self.byte_at(place);
+            place += 1;
+        }
     }
 }
 

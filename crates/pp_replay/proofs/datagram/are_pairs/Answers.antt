@@ -1,4 +1,4 @@
-use Rattle.std.proofs.Common.{◌≡◌, ℕ, ◌%◌, ◌==◌, Bool, ◌&&◌, length, ap, sym, ◌∙◌}
+use Rattle.std.proofs.Common.{ℕ, ◌%◌, ◌==◌, Bool, ◌&&◌, length, ap, sym, ◌∙◌}
 use Rattle.std.specs.List.{list_all}
 use Rattle.std.proofs.lemmas.Bool.{ne_eqb}
 use Rattle.pp_terms.specs.format.DescriptorRead.{is_lower_hex}

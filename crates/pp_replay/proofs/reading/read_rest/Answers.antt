@@ -1,9 +1,9 @@
-use Rattle.std.proofs.Common.{◌≡◌, ℕ, ◌+◌, ◌≤◌, List, Ok, length, map, rules, sym, ◌∙◌, ap, subst, arith}
+use Rattle.std.proofs.Common.{◌≡◌, ℕ, ◌+◌, List, Ok, length, map, rules, sym, ◌∙◌, ap, subst}
 use Rattle.std.specs.Prelude.{IsOk}
 use Rattle.std.proofs.lemmas.List.{length-map}
 use Rattle.pp_world.specs.ScheduleRead.{rows_of, all_declared, steps_in}
 use Rattle.pp_replay.specs.declared.types.Role.{Role}
-use Rattle.pp_replay.specs.Begun.{begun, as_begun}
+use Rattle.pp_replay.specs.Begun.{as_begun}
 use Rattle.pp_replay.specs.Left.{steps_left}
 use Rattle.pp_replay.specs.Views.{as_role}
 use Rattle.pp_replay.proofs.StepLines.{read_from, rest_is}

@@ -1,4 +1,4 @@
-use Rattle.std.proofs.Common.{◌≡◌, length, rules, sym, ◌∙◌, ap}
+use Rattle.std.proofs.Common.{length, rules, sym, ◌∙◌, ap}
 use Rattle.pp_replay.proofs.Pairs.{decoded}
 use Rattle.pp_replay.proofs.datagram.Hex.decode.Goals as goal
 

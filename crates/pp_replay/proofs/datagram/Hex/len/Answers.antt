@@ -1,4 +1,4 @@
-use Rattle.std.proofs.Common.{length, ap, ◌∙◌, arith}
+use Rattle.std.proofs.Common.{length, ap, arith}
 use Rattle.pp_replay.proofs.Pairs.{length-bytes_in}
 use Rattle.pp_replay.proofs.datagram.Hex.len.Goals as goal
 
