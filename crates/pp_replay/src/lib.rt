@@ -1,4 +1,5 @@
-//! Rehearsals: schedules of several peers, with troubles that a number draws.
+//! Schedules of several peers that share a content: how their texts are read, with no memory taken; and rehearsals, which are
+//! schedules with troubles that a number draws.
 #![tactic(auto)]
 
 mod arity;

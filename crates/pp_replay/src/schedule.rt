@@ -19,7 +19,7 @@ pub struct Schedule<'a> {
 }
 
 impl<'a> Model for Schedule<'a> {
-    ghost use Rattle.std.specs.Prelude.{◌≤◌, length, map};
+    ghost use Rattle.std.specs.Prelude.{length};
     ghost use Rattle.pp_world.specs.Schedule as terms;
 
     ghost Value = { terms.Schedule };
