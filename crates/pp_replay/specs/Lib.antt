@@ -1,1 +1,10 @@
 pub mod DrawnLines
+pub mod Lines
+pub mod Numbers
+pub mod Views
+pub mod Written
+pub mod StepNames
+pub mod Arity
+pub mod Begun
+pub mod Roles
+pub mod Left

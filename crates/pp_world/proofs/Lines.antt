@@ -74,11 +74,11 @@ words_back (c ∷ cs) = by (words_back cs) (c == 32) refl
     by back false e = ap (λ (x : List (List ℕ)). words (word_with c x)) before.2 ∙ word_back c before.0 before.1
         ∙ ap (λ (x : List (List ℕ)). c ∷ words x) (sym before.2) ∙ ap (λ (x : List ℕ). c ∷ x) back
 
-word_last : (w : List ℕ) → Lacks 32 w → words_of w ≡ w ∷ []
+pub word_last : (w : List ℕ) → Lacks 32 w → words_of w ≡ w ∷ []
 word_last [] all = refl
 word_last (c ∷ cs) all = ap (words_with c) (word_last cs all.1) ∙ cond-false (c == 32) ([] ∷ cs ∷ []) (word_with c (cs ∷ [])) all.0
 
-word_front : (w rest : List ℕ) → Lacks 32 w → words_of (w ++ 32 ∷ rest) ≡ w ∷ words_of rest
+pub word_front : (w rest : List ℕ) → Lacks 32 w → words_of (w ++ 32 ∷ rest) ≡ w ∷ words_of rest
 word_front [] rest all = refl
 word_front (c ∷ cs) rest all = ap (words_with c) (word_front cs rest all.1)
     ∙ cond-false (c == 32) ([] ∷ cs ∷ words_of rest) (word_with c (cs ∷ words_of rest)) all.0

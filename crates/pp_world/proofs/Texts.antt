@@ -72,7 +72,7 @@ text_of s =
 row_is : (row : Row) → row.is_ended ≡ true → row ≡ ended row.text
 row_is row e = ap (λ (b : Bool). record { text = row.text; is_ended = b }) e
 
-on_line_ok : {A : Type 0} (n : ℕ) (r : Result A ScheduleKind) (x : A) → on_line n r ≡ Ok x → r ≡ Ok x
+pub on_line_ok : {A : Type 0} (n : ℕ) (r : Result A ScheduleKind) (x : A) → on_line n r ≡ Ok x → r ≡ Ok x
 on_line_ok n (Ok y) x h = ap (λ z. Ok z) (ap (value_or y) h)
 on_line_ok n (Err e) x h = absurd (let never : Err (fault n e) ≡ Ok x = h in cc)
 
