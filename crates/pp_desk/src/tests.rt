@@ -26,6 +26,36 @@ const TO: Receiver = Receiver {
     channel: 7,
 };
 
+// Delivers notes, behind a handshake from a channel where one is named. The tests need little of what this call does.
+fn delivers<L: Link>(
+    seat: &mut Seat,
+    opening: Option<u32>,
+    notes: &[Note],
+    descriptor: &Descriptor,
+    link: &mut L,
+) -> Delivered
+    requires content { seat.old.told.chunks ≡ chunks_of descriptor.now }
+    requires plain { AllByRecursion IsPlain notes.now }
+    requires inside { AllByRecursion (IsInside descriptor.now) notes.now }
+    requires few { length notes.now < 2 ^ 32 }
+    ensures { seat.new.told.chunks ≡ seat.old.told.chunks }
+{
+    let outgoing = Outgoing {
+        to: TO,
+        sent_at: 5,
+        opening,
+        notes,
+    };
+    deliver(
+        seat,
+        &outgoing,
+        descriptor,
+        &mut [0; 16384],
+        &NullDisk::new(),
+        link,
+    )
+}
+
 // Delivers one note, and tells whether the link took it.
 fn took(
     seat: &mut Seat,
@@ -42,22 +72,7 @@ fn took(
     if refuses {
         link.fail_next(Call::Send);
     }
-    let notes = [note];
-    let outgoing = Outgoing {
-        to: TO,
-        sent_at: 5,
-        opening: None,
-        notes: &notes,
-    };
-    let delivered = deliver(
-        seat,
-        &outgoing,
-        descriptor,
-        &mut [0; 16384],
-        &NullDisk::new(),
-        link,
-    );
-    delivered.sent == 1
+    delivers(seat, None, &[note], descriptor, link).sent == 1
 }
 
 // Delivers four notes, of which one is refused, and tells whether the seat has a slot, its room and its cursor.
@@ -138,33 +153,6 @@ impl Link for Refusing {
     }
 }
 
-fn delivers(
-    seat: &mut Seat,
-    notes: &[Note],
-    descriptor: &Descriptor,
-    link: &mut Refusing,
-) -> Delivered
-    requires content { seat.old.told.chunks ≡ chunks_of descriptor.now }
-    requires plain { AllByRecursion IsPlain notes.now }
-    requires inside { AllByRecursion (IsInside descriptor.now) notes.now }
-    requires few { length notes.now < 2 ^ 32 }
-{
-    let outgoing = Outgoing {
-        to: TO,
-        sent_at: 5,
-        opening: None,
-        notes,
-    };
-    deliver(
-        seat,
-        &outgoing,
-        descriptor,
-        &mut [0; 16384],
-        &NullDisk::new(),
-        link,
-    )
-}
-
 // Delivers so many HAVEs of nine bytes each.
 #[tactic(auto, using(crate::proofs::Delivering::same_plain, pp_draft::proofs::Filling::same_inside))]
 fn delivers_many(
@@ -181,7 +169,7 @@ fn delivers_many(
         return Ok(None);
     }
     let notes = vec![in alloc; Note::Have { range }; count as usize]?;
-    Ok(Some(delivers(seat, &notes, descriptor, link)))
+    Ok(Some(delivers(seat, None, &notes, descriptor, link)))
 }
 
 // 3,643 HAVEs are two full datagrams of 1,820, and one of three.
@@ -202,9 +190,16 @@ fn a_refused_datagram_in_the_middle(rt: HostRuntime) -> Result<(), Fail> {
         set_back: true,
     };
     let delivered = delivers_many(rt.alloc(), 3643, &mut seat, &descriptor, &mut link)?;
-    assert_eq!(rt; delivered, Some(want));
-    assert_eq!(rt; seat.cursor(), 1);
+    assert_eq!(rt; (delivered, seat.cursor()), (Some(want), 1));
     Ok(())
+}
+
+// How many bytes the first of two datagrams has, and whether the second has these.
+fn sent_two(link: &MemoryLink, second: &[u8]) -> Option<(usize, bool)> {
+    if link.sent() != 2 {
+        return None;
+    }
+    Some((link.sent_bytes(0).len(), link.sent_bytes(1) == second))
 }
 
 #[test]
@@ -222,9 +217,7 @@ fn the_others_go_with_their_bytes(rt: HostRuntime) -> Result<(), Fail> {
     let want = [
         0, 0, 0, 7, 3, 0, 0, 0, 1, 0, 0, 0, 6, 3, 0, 0, 0, 1, 0, 0, 0, 6, 3, 0, 0, 0, 1, 0, 0, 0, 6,
     ];
-    assert_eq!(rt; link.link.sent(), 2);
-    assert_eq!(rt; link.link.sent_bytes(0).len(), 16384);
-    assert_eq!(rt; link.link.sent_bytes(1)[..], want[..]);
+    assert_eq!(rt; sent_two(&link.link, &want), Some((16384, true)));
     Ok(())
 }
 
@@ -300,15 +293,38 @@ fn delivers_abc(
     Ok(Some(delivered))
 }
 
+// The same twice.
+fn delivers_twice(
+    alloc: Global,
+    seat: &mut Seat,
+    link: &mut MemoryLink,
+) -> Result<[Option<Result<bool, Unread>>; 2], AllocError> {
+    let first = delivers_abc(alloc, seat, None, link)?;
+    Ok([first, delivers_abc(alloc, seat, None, link)?])
+}
+
 #[test]
 fn delivers_a_chunk_once(rt: HostRuntime) -> Result<(), AllocError> {
     let mut link = MemoryLink::new(rt.alloc())?;
     let mut seat = asked(rt.alloc())?;
-    let first = delivers_abc(rt.alloc(), &mut seat, None, &mut link)?;
-    assert_eq!(rt; first, Some(Ok(true)));
-    let second = delivers_abc(rt.alloc(), &mut seat, None, &mut link)?;
-    assert_eq!(rt; second, None);
+    let delivered = delivers_twice(rt.alloc(), &mut seat, &mut link)?;
+    assert_eq!(rt; delivered, [Some(Ok(true)), None]);
     Ok(())
+}
+
+// Whether one datagram was sent, of these parts.
+fn has_sent(link: &MemoryLink, parts: &[&[u8]]) -> bool {
+    if link.sent() != 1 {
+        return false;
+    }
+    let mut rest = link.sent_bytes(0);
+    for part in parts {
+        match rest.strip_prefix(part) {
+            Some(behind) => rest = behind,
+            None => return false,
+        }
+    }
+    rest.is_empty()
 }
 
 #[test]
@@ -320,13 +336,20 @@ fn a_chunk_goes_behind_its_hash(rt: HostRuntime) -> Result<(), AllocError> {
     let data = [
         1, 0, 0, 0, 0, 0, 0, 0, 0, 0, 0, 0, 0, 0, 0, 1, 2, b'a', b'b', b'c',
     ];
-    assert_eq!(rt; link.sent(), 1);
-    let bytes = link.sent_bytes(0);
-    assert_eq!(rt; bytes.len(), 65);
-    assert_eq!(rt; bytes[..13], hash[..]);
-    assert_eq!(rt; bytes[13..45], ROOT[..]);
-    assert_eq!(rt; bytes[45..], data[..]);
+    assert!(rt; has_sent(&link, &[&hash, &ROOT, &data]));
     Ok(())
+}
+
+// What becomes of a chunk that has this fault, or else is refused, and which chunk is next.
+fn gives_up(
+    alloc: Global,
+    fault: Option<Unread>,
+) -> Result<(Option<Result<bool, Unread>>, Option<u32>), AllocError> {
+    let mut link = MemoryLink::new(alloc)?;
+    link.fail_next(Call::Send);
+    let mut seat = asked(alloc)?;
+    let delivered = delivers_abc(alloc, &mut seat, fault, &mut link)?;
+    Ok((delivered, seat.next()))
 }
 
 // One that can't be read, or that the link refuses, is given up.
@@ -336,12 +359,7 @@ fn a_chunk_that_does_not_go_is_let_go(rt: HostRuntime) -> Result<(), AllocError>
         (Some(Unread::Damaged), Err(Unread::Damaged)),
         (None, Ok(false)),
     ] {
-        let mut link = MemoryLink::new(rt.alloc())?;
-        link.fail_next(Call::Send);
-        let mut seat = asked(rt.alloc())?;
-        let delivered = delivers_abc(rt.alloc(), &mut seat, fault, &mut link)?;
-        assert_eq!(rt; delivered, Some(want));
-        assert_eq!(rt; seat.next(), None);
+        assert_eq!(rt; gives_up(rt.alloc(), fault)?, (Some(want), None));
     }
     Ok(())
 }
@@ -362,18 +380,14 @@ fn a_greeting_has_the_swarm(rt: HostRuntime) -> Result<(), AllocError> {
         assert!(rt; false);
         return Ok(());
     };
-    let mut link = MemoryLink::new(rt.alloc())?;
-    assert!(rt; greets(&descriptor, 0x0a0b0c0d, 0, &mut link));
     let front = [
         0, 0, 0, 0, 0, 0x0a, 0x0b, 0x0c, 0x0d, 0, 1, 1, 1, 2, 0, 0x20,
     ];
     let options = [3, 1, 4, 2, 6, 2, 8, 2, 0xfe, 0xf8, 9, 0, 0, 4, 0, 0xff];
-    assert_eq!(rt; link.sent(), 1);
-    let bytes = link.sent_bytes(0);
-    assert_eq!(rt; bytes.len(), 64);
-    assert_eq!(rt; bytes[..16], front[..]);
-    assert_eq!(rt; bytes[16..48], ROOT[..]);
-    assert_eq!(rt; bytes[48..], options[..]);
+    let mut link = MemoryLink::new(rt.alloc())?;
+    let greeted = greets(&descriptor, 0x0a0b0c0d, 0, &mut link);
+    let sent = has_sent(&link, &[&front, &ROOT, &options]);
+    assert_eq!(rt; (greeted, sent), (true, true));
     Ok(())
 }
 
@@ -387,22 +401,38 @@ fn reply(
     if seat.chunks() != descriptor.chunks() || range.last() >= descriptor.chunks() {
         return None;
     }
+    let opening = Some(0x0a0b0c0d);
     let notes = [Note::Have { range }];
-    let outgoing = Outgoing {
-        to: TO,
-        sent_at: 5,
-        opening: Some(0x0a0b0c0d),
-        notes: &notes,
-    };
-    let delivered = deliver(
-        seat,
-        &outgoing,
-        descriptor,
-        &mut [0; 16384],
-        &NullDisk::new(),
-        link,
-    );
-    Some(delivered)
+    Some(delivers(seat, opening, &notes, descriptor, link))
+}
+
+// Two replies, of which the first is refused: what became of each, how many datagrams were sent by then, and the cursor.
+fn replies(
+    seat: &mut Seat,
+    range: ChunkRange,
+    descriptor: &Descriptor,
+    link: &mut MemoryLink,
+) -> [(Option<Delivered>, usize, u32); 2] {
+    link.fail_next(Call::Send);
+    let refused = reply(seat, range, descriptor, link);
+    let first = (refused, link.sent(), seat.cursor());
+    let taken = reply(seat, range, descriptor, link);
+    [first, (taken, link.sent(), seat.cursor())]
+}
+
+// The first nine bytes of the first datagram and those behind its 64th, if it has 73.
+fn ends_of(link: &MemoryLink) -> Option<([u8; 9], [u8; 9])> {
+    if link.sent() == 0 {
+        return None;
+    }
+    let bytes = link.sent_bytes(0);
+    if bytes.len() != 73 {
+        return None;
+    }
+    let mut ends = ([0; 9], [0; 9]);
+    ends.0.copy_from_slice(&bytes[..9]);
+    ends.1.copy_from_slice(&bytes[64..]);
+    Some(ends)
 }
 
 #[test]
@@ -416,28 +446,20 @@ fn a_reply_takes_notes_along(rt: HostRuntime) -> Result<(), Fail> {
     };
     let mut link = MemoryLink::new(rt.alloc())?;
     let mut seat = Seat::new(rt.alloc(), 7, 1024)?;
-    link.fail_next(Call::Send);
-    let refused = reply(&mut seat, range, &descriptor, &mut link);
-    let want = Delivered {
+    let seen = replies(&mut seat, range, &descriptor, &mut link);
+    let refused = Delivered {
         sent: 0,
         refused: 1,
         set_back: true,
     };
-    assert_eq!(rt; refused, Some(want));
-    assert_eq!(rt; (link.sent(), seat.cursor()), (0, 0));
-    let sent = reply(&mut seat, range, &descriptor, &mut link);
-    let want = Delivered {
+    let sent = Delivered {
         sent: 1,
         refused: 0,
         set_back: false,
     };
-    assert_eq!(rt; sent, Some(want));
-    assert_eq!(rt; (link.sent(), seat.cursor()), (1, 7));
-    let bytes = link.sent_bytes(0);
-    assert_eq!(rt; bytes.len(), 73);
+    assert_eq!(rt; seen, [(Some(refused), 0, 0), (Some(sent), 1, 7)]);
     let front = [0, 0, 0, 7, 0, 0x0a, 0x0b, 0x0c, 0x0d];
-    assert_eq!(rt; bytes[..9], front[..]);
-    assert_eq!(rt; bytes[64..], [3, 0, 0, 0, 0, 0, 0, 0, 6][..]);
+    assert_eq!(rt; ends_of(&link), Some((front, [3, 0, 0, 0, 0, 0, 0, 0, 6])));
     Ok(())
 }
 
@@ -447,11 +469,10 @@ fn a_close_is_a_handshake_from_channel_0(rt: HostRuntime) -> Result<(), AllocErr
         assert!(rt; false);
         return Ok(());
     };
-    let mut link = MemoryLink::new(rt.alloc())?;
-    assert!(rt; greets(&descriptor, 0, 7, &mut link));
-    assert_eq!(rt; link.sent(), 1);
     let want = [0, 0, 0, 7, 0, 0, 0, 0, 0, 0xff];
-    assert_eq!(rt; link.sent_bytes(0)[..], want[..]);
+    let mut link = MemoryLink::new(rt.alloc())?;
+    let closed = greets(&descriptor, 0, 7, &mut link);
+    assert_eq!(rt; (closed, has_sent(&link, &[&want])), (true, true));
     Ok(())
 }
 

@@ -69,19 +69,39 @@ impl Scene {
     }
 }
 
-#[test]
-fn an_address_is_dialled_again_after_30_seconds(rt: HostRuntime) -> Result<(), Fail> {
-    let mut scene = Scene::new(rt.alloc())?;
+// How many handshakes were sent by these moments.
+fn sent(scene: &mut Scene, dials: &mut Dials) -> [usize; 6] {
+    let mut sent = [0; 6];
+    for (sent, (at, _)) in sent.iter_mut().zip(TURNS) {
+        *sent = scene.turn(dials, at);
+    }
+    sent
+}
+
+// The same at two moments more. Of two suggestions the first has a channel.
+fn sent_more(scene: &mut Scene, dials: &mut Dials) -> [usize; 2] {
+    scene.parts.pex.suggest(&PEER);
+    scene.parts.pex.suggest(&OTHER);
+    [
+        scene.turn(dials, 41 * SECOND),
+        scene.turn(dials, 42 * SECOND),
+    ]
+}
+
+fn dialled(alloc: Global) -> Result<([usize; 6], [usize; 2]), Fail> {
+    let mut scene = Scene::new(alloc)?;
     let mut told = ArrayVec::new();
     told.push(PEER);
     let mut dials = Dials::new(&told);
-    for (at, sent) in TURNS {
-        assert_eq!(rt; scene.turn(&mut dials, at), sent);
-    }
-    // Of two suggestions the first has a channel.
-    scene.parts.pex.suggest(&PEER);
-    scene.parts.pex.suggest(&OTHER);
-    assert_eq!(rt; scene.turn(&mut dials, 41 * SECOND), 3);
-    assert_eq!(rt; scene.turn(&mut dials, 42 * SECOND), 3);
+    Ok((
+        sent(&mut scene, &mut dials),
+        sent_more(&mut scene, &mut dials),
+    ))
+}
+
+#[test]
+fn an_address_is_dialled_again_after_30_seconds(rt: HostRuntime) -> Result<(), Fail> {
+    let seen = dialled(rt.alloc())?;
+    assert_eq!(rt; seen, (TURNS.map(|(_, sent)| sent), [3, 3]));
     Ok(())
 }

@@ -85,22 +85,62 @@ impl Scene {
     }
 }
 
+impl Scene {
+    // Nine peers open channels. Whether the disk did what was to be done.
+    fn opens_nine(&mut self, bytes: &[u8]) -> bool {
+        for host in 0..9u8 {
+            if !self.opens(bytes, host) {
+                return false;
+            }
+        }
+        true
+    }
+
+    // Before it is time: whether the eighth has a slot, who waits, and the turn that is due on the first channel.
+    fn before(&mut self) -> Option<(bool, Option<u8>, Option<Turn>)> {
+        if !self.waits(29_999_999) {
+            return None;
+        }
+        let due = self.parts.seats.seat(0).due();
+        Some((
+            self.parts.slots.has(7),
+            self.parts.slots.first_waiting(),
+            due,
+        ))
+    }
+
+    // When it is time: the turns that are due on the first two.
+    fn turns(&mut self) -> Option<[Option<Turn>; 2]> {
+        if !self.waits(30_000_000) {
+            return None;
+        }
+        let seats = &self.parts.seats;
+        Some([seats.seat(0).due(), seats.seat(1).due()])
+    }
+
+    // The first gives up its slot: whether the ninth has one, and who waits.
+    fn behind(&mut self) -> (bool, Option<u8>) {
+        self.parts.give_up_slot(0);
+        (self.parts.slots.has(8), self.parts.slots.first_waiting())
+    }
+}
+
 #[test]
 fn the_longest_slot_goes_to_the_ninth_channel(rt: HostRuntime) -> Result<(), Fail> {
-    let mut scene = Scene::new(rt.alloc())?;
     let bytes = greeting(rt.alloc())?;
-    for host in 0..9u8 {
-        assert!(rt; scene.opens(&bytes, host));
-    }
-    assert!(rt; scene.waits(29_999_999));
-    assert!(rt; scene.parts.slots.has(7));
-    assert_eq!(rt; scene.parts.slots.first_waiting(), Some(8));
-    assert_eq!(rt; scene.parts.seats.seat(0).due(), None);
-    assert!(rt; scene.waits(30_000_000));
-    assert_eq!(rt; scene.parts.seats.seat(0).due(), Some(Turn::Choke));
-    assert_eq!(rt; scene.parts.seats.seat(1).due(), None);
-    scene.parts.give_up_slot(0);
-    assert!(rt; scene.parts.slots.has(8));
-    assert_eq!(rt; scene.parts.slots.first_waiting(), Some(0));
+    let mut scene = Scene::new(rt.alloc())?;
+    let opened = scene.opens_nine(&bytes);
+    let seen = (scene.before(), scene.turns(), scene.behind());
+    assert_eq!(rt;
+        (opened, seen),
+        (
+            true,
+            (
+                Some((true, Some(8), None)),
+                Some([Some(Turn::Choke), None]),
+                (true, Some(0))
+            )
+        )
+    );
     Ok(())
 }

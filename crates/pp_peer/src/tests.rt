@@ -242,123 +242,185 @@ fn noted(turns: u64, sent: u64, note: Note) -> Counts {
     counts
 }
 
+impl Scene {
+    // A datagram comes. What is counted then, if the disk did what was to be done.
+    fn counts(&mut self, at: u64, parts: &[&[u8]]) -> Option<Counts> {
+        if !self.hear(PEER, at, parts) {
+            return None;
+        }
+        Some(self.parts.counts)
+    }
+
+    // Whether the greeting was sent, the chunk is asked for, and it was sent; how many were given up; and the counts.
+    fn served(&mut self) -> ([bool; 3], Option<u32>, Counts)
+        requires { self.old.parts.holding.store.descriptor ≡ self.old.swarm }
+    {
+        let greeting: [&[u8]; 6] = [&THEIRS, &[0], &OURS, &FRONT, &ROOT, &REST];
+        // The hash of the one leaf, which is the root, and the chunk behind it.
+        let chunk: [&[u8]; 6] = [&THEIRS, &INTEGRITY, &ROOT, &DATA, &SIX, b"abc"];
+        let greeted = self.has_sent(0, &greeting);
+        let asked = self.hear(PEER, 6, &[&OURS, &REQUEST]);
+        let given_up = self.serve();
+        let sent = self.has_sent(1, &chunk);
+        ([greeted, asked, sent], given_up, self.parts.counts)
+    }
+
+    // A channel is closed and opened again. Whether the closing is heard, a handshake goes then, the opening is heard, and a
+    // handshake goes that names the next channel.
+    fn reopened(&mut self) -> [bool; 5] {
+        let closed = self.hear(PEER, 7, &[&OURS, &CLOSING]);
+        let too_soon = self.greet();
+        let opened = self.opens(PEER);
+        let greeted = self.greet();
+        let reply: [&[u8]; 6] = [&THEIRS, &[0], &OURS_NEXT, &FRONT, &ROOT, &REST];
+        [closed, too_soon, opened, greeted, self.has_sent(1, &reply)]
+    }
+
+    // A peer is dialled and replies. Whether the handshake was sent, and the reply heard.
+    fn replied(&mut self, bitmap: &[u8; 2]) -> (Option<bool>, bool) {
+        let dialled = self.dial(PEER);
+        let reply: [&[u8]; 7] = [
+            &OURS,
+            &GREETING,
+            &FRONT,
+            &ROOT,
+            &BEFORE_BITMAP,
+            bitmap,
+            &BEHIND_BITMAP,
+        ];
+        (dialled, self.hear(PEER, 6, &reply))
+    }
+}
+
+// What is counted once a datagram came at moment 5, without a channel.
+fn counts_at_first(alloc: Global, parts: &[&[u8]]) -> Result<Option<Counts>, Fail> {
+    let mut scene = Scene::of_abc(alloc)?;
+    Ok(scene.counts(5, parts))
+}
+
+// What is counted once a datagram came at moment 6, where the first channel is open.
+fn counts_on_channel(alloc: Global, parts: &[&[u8]]) -> Result<Option<Counts>, Fail> {
+    let mut scene = Scene::greeted(alloc)?;
+    Ok(scene.counts(6, parts))
+}
+
 #[test]
 fn a_chunk_that_is_asked_for_is_served(rt: HostRuntime) -> Result<(), Fail> {
-    let mut scene = Scene::greeted(rt.alloc())?;
-    assert!(rt; scene.has_sent(0, &[&THEIRS, &[0], &OURS, &FRONT, &ROOT, &REST]));
-    assert!(rt; scene.hear(PEER, 6, &[&OURS, &REQUEST]));
-    assert_eq!(rt; scene.serve(), Some(0));
-    // The hash of the one leaf, which is the root, and the chunk behind it.
-    assert!(rt; scene.has_sent(1, &[&THEIRS, &INTEGRITY, &ROOT, &DATA, &SIX, b"abc"]));
-    assert_eq!(rt; scene.parts.counts, counted(2, 2));
+    let seen = Scene::greeted(rt.alloc())?.served();
+    assert_eq!(rt; seen, ([true; 3], Some(0), counted(2, 2)));
     Ok(())
+}
+
+// What a handshake with this bitmap tells.
+fn told(alloc: Global, swarm: &Descriptor, bitmap: &[u8; 2]) -> Result<Supports, AllocError> {
+    let parts: [&[u8]; 7] = [
+        &NONE,
+        &GREETING,
+        &FRONT,
+        &ROOT,
+        &BEFORE_BITMAP,
+        bitmap,
+        &BEHIND_BITMAP,
+    ];
+    let bytes = joined(alloc, &parts)?;
+    Ok(supported(&bytes, swarm))
 }
 
 #[test]
 fn a_handshake_tells_what_its_peer_takes(rt: HostRuntime) -> Result<(), Fail> {
     let swarm = Descriptor::new(Digest::new(ROOT), 1024, 3, Method::Range32)?;
     for (bitmap, requests, v6) in BITMAPS {
-        let bytes = joined(
-            rt.alloc(),
-            &[
-                &NONE,
-                &GREETING,
-                &FRONT,
-                &ROOT,
-                &BEFORE_BITMAP,
-                &bitmap,
-                &BEHIND_BITMAP,
-            ],
-        )?;
-        assert_eq!(rt; supported(&bytes, &swarm), Supports { requests, v6 });
+        let supports = told(rt.alloc(), &swarm, &bitmap)?;
+        assert_eq!(rt; supports, Supports { requests, v6 });
     }
     assert_eq!(rt; supported(&NONE, &swarm), Supports::ALL);
     Ok(())
 }
 
+// What becomes of the reply, whether its datagram is awaited, and what the first two channels' peers take.
+fn awaited(
+    alloc: Global,
+    bitmap: &[u8; 2],
+) -> Result<((Option<bool>, bool), bool, [Supports; 2]), Fail> {
+    let mut scene = Scene::of_abc(alloc)?;
+    let replied = scene.replied(bitmap);
+    let [first, second, ..] = scene.parts.supports;
+    Ok((replied, scene.parts.to_prove[0], [first, second]))
+}
+
 #[test]
 fn a_reply_awaits_a_datagram(rt: HostRuntime) -> Result<(), Fail> {
-    let mut scene = Scene::of_abc(rt.alloc())?;
-    assert_eq!(rt; scene.dial(PEER), Some(true));
     let (bitmap, requests, v6) = BITMAPS[1];
-    assert!(rt;
-        scene.hear(
-            PEER,
-            6,
-            &[
-                &OURS,
-                &GREETING,
-                &FRONT,
-                &ROOT,
-                &BEFORE_BITMAP,
-                &bitmap,
-                &BEHIND_BITMAP
-            ]
-        )
-    );
-    assert!(rt; scene.parts.to_prove[0]);
-    assert_eq!(rt; scene.parts.supports[0], Supports { requests, v6 });
-    assert_eq!(rt; scene.parts.supports[1], Supports::ALL);
+    let seen = awaited(rt.alloc(), &bitmap)?;
+    let supports = [Supports { requests, v6 }, Supports::ALL];
+    assert_eq!(rt; seen, ((Some(true), true), true, supports));
     Ok(())
+}
+
+// What becomes of the channel, and the counts.
+fn reopened(alloc: Global) -> Result<([bool; 5], Counts), Fail> {
+    let mut scene = Scene::greeted(alloc)?;
+    Ok((scene.reopened(), scene.parts.counts))
 }
 
 #[test]
 fn a_channel_that_was_closed_is_opened_again(rt: HostRuntime) -> Result<(), Fail> {
-    let mut scene = Scene::greeted(rt.alloc())?;
-    assert!(rt; scene.hear(PEER, 7, &[&OURS, &CLOSING]));
-    assert!(rt; !scene.greet());
-    assert!(rt; scene.opens(PEER));
-    assert!(rt; scene.greet());
-    assert!(rt; scene.has_sent(1, &[&THEIRS, &[0], &OURS_NEXT, &FRONT, &ROOT, &REST]));
-    assert_eq!(rt; scene.parts.counts, counted(3, 2));
+    let seen = reopened(rt.alloc())?;
+    assert_eq!(rt; seen, ([true, false, true, true, true], counted(3, 2)));
     Ok(())
 }
 
 #[test]
 fn a_short_datagram_is_counted(rt: HostRuntime) -> Result<(), Fail> {
-    let mut scene = Scene::of_abc(rt.alloc())?;
-    assert!(rt; scene.hear(PEER, 5, &[&[1, 2, 3]]));
-    assert_eq!(rt; scene.parts.counts, noted(1, 0, Note::Short));
+    let parts: [&[u8]; 1] = [&[1, 2, 3]];
+    let counts = counts_at_first(rt.alloc(), &parts)?;
+    assert_eq!(rt; counts, Some(noted(1, 0, Note::Short)));
     Ok(())
 }
 
 #[test]
 fn a_datagram_for_no_channel_is_a_strangers(rt: HostRuntime) -> Result<(), Fail> {
-    let mut scene = Scene::of_abc(rt.alloc())?;
-    assert!(rt; scene.hear(PEER, 5, &[&OURS]));
-    assert_eq!(rt; scene.parts.counts, noted(1, 0, Note::Stranger));
+    let parts: [&[u8]; 1] = [&OURS];
+    let counts = counts_at_first(rt.alloc(), &parts)?;
+    assert_eq!(rt; counts, Some(noted(1, 0, Note::Stranger)));
     Ok(())
+}
+
+// Whether a handshake is heard and answered, and what is counted then.
+fn answered(alloc: Global, handshake: &[&[u8]]) -> Result<([bool; 2], Counts), Fail> {
+    let mut scene = Scene::of_abc(alloc)?;
+    let seen = [scene.hear(PEER, 5, handshake), scene.greet()];
+    Ok((seen, scene.parts.counts))
 }
 
 #[test]
 fn a_handshake_of_another_swarm_is_refused(rt: HostRuntime) -> Result<(), Fail> {
-    let mut scene = Scene::of_abc(rt.alloc())?;
-    assert!(rt; scene.hear(PEER, 5, &[&NONE, &GREETING, &FRONT, &OTHER_ROOT, &REST]));
-    assert!(rt; !scene.greet());
-    assert_eq!(rt; scene.parts.counts, noted(1, 0, Note::RefusedHandshake));
+    let handshake: [&[u8]; 5] = [&NONE, &GREETING, &FRONT, &OTHER_ROOT, &REST];
+    let seen = answered(rt.alloc(), &handshake)?;
+    assert_eq!(rt; seen, ([true, false], noted(1, 0, Note::RefusedHandshake)));
     Ok(())
 }
 
 #[test]
 fn a_channels_number_alone_keeps_it_alive(rt: HostRuntime) -> Result<(), Fail> {
-    let mut scene = Scene::greeted(rt.alloc())?;
-    assert!(rt; scene.hear(PEER, 6, &[&OURS]));
-    assert_eq!(rt; scene.parts.counts, noted(2, 1, Note::KeepAlive));
+    let parts: [&[u8]; 1] = [&OURS];
+    let counts = counts_on_channel(rt.alloc(), &parts)?;
+    assert_eq!(rt; counts, Some(noted(2, 1, Note::KeepAlive)));
     Ok(())
 }
 
 #[test]
 fn a_faulty_message_cuts_its_datagram(rt: HostRuntime) -> Result<(), Fail> {
-    let mut scene = Scene::greeted(rt.alloc())?;
-    assert!(rt; scene.hear(PEER, 6, &[&OURS, &FAULTY, &CLOSING]));
-    assert_eq!(rt; scene.parts.counts, noted(2, 1, Note::Cut));
+    let parts: [&[u8]; 3] = [&OURS, &FAULTY, &CLOSING];
+    let counts = counts_on_channel(rt.alloc(), &parts)?;
+    assert_eq!(rt; counts, Some(noted(2, 1, Note::Cut)));
     Ok(())
 }
 
 #[test]
 fn a_chunk_outside_the_content_is_counted(rt: HostRuntime) -> Result<(), Fail> {
-    let mut scene = Scene::greeted(rt.alloc())?;
-    assert!(rt; scene.hear(PEER, 6, &[&OURS, &HAVE_FIVE]));
-    assert_eq!(rt; scene.parts.counts, noted(2, 1, Note::Outside));
+    let parts: [&[u8]; 2] = [&OURS, &HAVE_FIVE];
+    let counts = counts_on_channel(rt.alloc(), &parts)?;
+    assert_eq!(rt; counts, Some(noted(2, 1, Note::Outside)));
     Ok(())
 }

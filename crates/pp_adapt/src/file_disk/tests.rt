@@ -47,45 +47,79 @@ fn refused<R: Files<File = File> + AllocGlobal + Drop>(
     }
 }
 
+// How many calls were refused, and how many of these weren't readings.
+fn counted<R: Files<File = File>>(disk: &FileDisk<R>) -> (u64, u64) {
+    (disk.faults(), disk.hard())
+}
+
+// Byte 0 is written. What readings of bytes 2, 0 and 2 answer.
+fn readings(disk: &mut impl Disk) -> Result<[Result<u8, DiskFault>; 3], DiskFault> {
+    disk.write_at(0, b"x")?;
+    Ok([one(disk, 2), one(disk, 0), one(disk, 2)])
+}
+
 #[test]
 fn a_reading_elsewhere_is_not_refused(rt: HostRuntime) -> Result<(), Fail> {
     fs::write(&rt, "elsewhere", b"abc".as_slice())?;
     let mut disk = sealed(&rt, "elsewhere")?;
-    disk.write_at(0, b"x")?;
-    assert_eq!(rt; one(&mut disk, 2), Ok(b'c'));
-    assert_eq!(rt; one(&mut disk, 0), Err(DiskFault));
-    assert_eq!(rt; one(&mut disk, 2), Ok(b'c'));
-    assert_eq!(rt; (disk.faults(), disk.hard()), (1, 0));
+    let seen = (readings(&mut disk), counted(&disk));
+    let read = [Ok(b'c'), Err(DiskFault), Ok(b'c')];
+    assert_eq!(rt; seen, (Ok(read), (1, 0)));
     Ok(())
+}
+
+// What a writing, a sync and a question for the length answer.
+fn calls(disk: &mut impl Disk) -> ([Result<(), DiskFault>; 2], Result<u64, DiskFault>) {
+    ([disk.write_at(2, b"x"), disk.sync()], disk.len())
 }
 
 #[test]
 fn a_refused_gathered_write_is_final(rt: HostRuntime) -> Result<(), Fail> {
     let mut disk = refused(&rt, "final")?;
-    assert_eq!(rt; disk.write_at(2, b"x"), Err(DiskFault));
-    assert_eq!(rt; disk.sync(), Err(DiskFault));
-    assert_eq!(rt; disk.len(), Err(DiskFault));
-    assert_eq!(rt; (disk.faults(), disk.hard()), (4, 3));
+    let seen = (calls(&mut disk), counted(&disk));
+    let answers = ([Err(DiskFault), Err(DiskFault)], Err(DiskFault));
+    assert_eq!(rt; seen, (answers, (4, 3)));
     Ok(())
 }
 
 #[test]
 fn a_refused_gathered_write_is_not_done(rt: HostRuntime) -> Result<(), Fail> {
-    let mut disk = refused(&rt, "sealed")?;
-    assert_eq!(rt; one(&mut disk, 1), Err(DiskFault));
+    let read = one(&mut refused(&rt, "sealed")?, 1);
+    assert_eq!(rt; read, Err(DiskFault));
     assert_eq!(rt; fs::read(&rt, "sealed")?.as_slice(), b"abc".as_slice());
     Ok(())
+}
+
+// Writes to another file. How long that is.
+fn writes_anew(disk: &mut impl Disk) -> Result<u64, DiskFault> {
+    disk.attach("new")?;
+    disk.write_at(0, b"x")?;
+    disk.sync()?;
+    disk.len()
 }
 
 #[test]
 fn an_attachment_begins_anew(rt: HostRuntime) -> Result<(), Fail> {
     let mut disk = refused(&rt, "old")?;
-    disk.attach("new")?;
-    disk.write_at(0, b"x")?;
-    disk.sync()?;
-    assert_eq!(rt; disk.len()?, 1);
-    assert_eq!(rt; (disk.faults(), disk.hard()), (1, 0));
+    let seen = (writes_anew(&mut disk), counted(&disk));
+    assert_eq!(rt; seen, (Ok(1), (1, 0)));
     Ok(())
+}
+
+// Gathers a write. Whether a call behind it is refused.
+fn is_refused(disk: &mut impl Disk, call: u8) -> Result<bool, DiskFault> {
+    disk.write_at(1, b"x")?;
+    let refused = match call {
+        0 => disk.len().is_err(),
+        1 => disk.sync().is_err(),
+        _ => disk.write_at(1 << 30, b"x").is_err(),
+    };
+    Ok(refused)
+}
+
+// What a writing and a sync answer.
+fn later(disk: &mut impl Disk) -> [Result<(), DiskFault>; 2] {
+    [disk.write_at(1, b"x"), disk.sync()]
 }
 
 // The call that meets the refusal is refused and is hard, whichever it is but a reading.
@@ -94,17 +128,14 @@ fn a_refused_gathered_write_is_counted(rt: HostRuntime) -> Result<(), Fail> {
     fs::write(&rt, "sealed", b"abc".as_slice())?;
     for call in 0..3 {
         let mut disk = sealed(&rt, "sealed")?;
-        disk.write_at(1, b"x")?;
-        let refused = match call {
-            0 => disk.len().is_err(),
-            1 => disk.sync().is_err(),
-            _ => disk.write_at(1 << 30, b"x").is_err(),
-        };
-        assert!(rt; refused, "at {call}");
-        assert_eq!(rt; (disk.faults(), disk.hard()), (1, 1), "at {call}");
-        assert_eq!(rt; disk.write_at(1, b"x"), Err(DiskFault), "at {call}");
-        assert_eq!(rt; disk.sync(), Err(DiskFault), "at {call}");
-        assert_eq!(rt; disk.hard(), 3, "at {call}");
+        let seen = (is_refused(&mut disk, call), counted(&disk));
+        let behind = (later(&mut disk), disk.hard());
+        let refused = [Err(DiskFault), Err(DiskFault)];
+        assert_eq!(rt;
+            (seen, behind),
+            ((Ok(true), (1, 1)), (refused, 3)),
+            "at {call}"
+        );
     }
     Ok(())
 }

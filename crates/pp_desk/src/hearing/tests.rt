@@ -18,16 +18,23 @@ enum Kind {
     Cancel,
 }
 
-// Hears such a message at moment 20, with a delay of 100 and a digest of sevens.
+// Hears a message at moment 20. The tests need little of what this call does.
+fn heard<'m>(seat: &mut Seat, message: &'m Message<'m>) -> Option<Note>
+    requires { IsNoData (message_of message.now) }
+{
+    hear(seat, message, 20)
+}
+
+// Hears such a message, with a delay of 100 and a digest of sevens.
 fn hears(seat: &mut Seat, kind: Kind, first: u64, last: u64) -> Option<Note> {
     let span = Span { first, last };
     let digest = Digest::new([7; 32]);
     match kind {
-        Kind::Have => hear(seat, &Message::Have { span }, 20),
-        Kind::Ack => hear(seat, &Message::Ack { span, delay: 100 }, 20),
-        Kind::Integrity => hear(seat, &Message::Integrity { span, digest }, 20),
-        Kind::Request => hear(seat, &Message::Request { span }, 20),
-        Kind::Cancel => hear(seat, &Message::Cancel { span }, 20),
+        Kind::Have => heard(seat, &Message::Have { span }),
+        Kind::Ack => heard(seat, &Message::Ack { span, delay: 100 }),
+        Kind::Integrity => heard(seat, &Message::Integrity { span, digest }),
+        Kind::Request => heard(seat, &Message::Request { span }),
+        Kind::Cancel => heard(seat, &Message::Cancel { span }),
     }
 }
 
@@ -138,13 +145,25 @@ fn claims_of_a_proven_channel_count(rt: HostRuntime) -> Result<(), Fail> {
     Ok(())
 }
 
+// Asks for chunks 0 and 1.
+fn ask(seat: &mut Seat) -> bool {
+    match inside(Span { first: 0, last: 1 }, seat.chunks()) {
+        Some(range) => {
+            seat.said_request(range, 5);
+            true
+        }
+        None => false,
+    }
+}
+
 // Asks for chunks 0 and 1, and hears a message. Answers whether the seat may ask, and how many chunks more.
 fn asks<'m>(seat: &mut Seat, message: &'m Message<'m>) -> Option<(bool, u32)>
     requires { IsNoData (message_of message.now) }
 {
-    let range = inside(Span { first: 0, last: 1 }, seat.chunks())?;
-    seat.said_request(range, 5);
-    hear(seat, message, 20);
+    if !ask(seat) {
+        return None;
+    }
+    heard(seat, message);
     Some((seat.may_ask(), seat.room()))
 }
 
