@@ -10,8 +10,8 @@ use Rattle.pp_peer.specs.Slotting.{TurnsSlots}
 use Rattle.pp_peer.specs.Speaking.{SpeaksAll}
 use Rattle.pp_peer.specs.Serving.{OnlySeats, ServesBelow}
 
--- Channels whose time is over were dropped, own requests that expired or were lost given up, addresses dialled, slots turned; then it was said on
--- each channel what was due there, and chunks were served. So many datagrams and chunks were given up.
+-- Channels whose time is over were dropped, own requests that expired or were lost given up, addresses dialled, slots turned; then
+-- what was due on each channel was said there, and chunks were served. So many datagrams and chunks were given up.
 pub record SendsAll (dials lefts : List Dial) (speaker left : Speaker) (refused : ℕ) (old new : Scene) : Type 0 where
   pub dropped : Parts
   pub drops : Drops old.parts dropped

@@ -27,7 +27,7 @@ abbrev pub names_in : ℕ → Message → Bool
 names_in i (Request span) = within span i
 names_in i _ = false
 
--- it has told by HAVE that it has the chunk
+-- the other peer has told by HAVE that it has the chunk
 abbrev pub is_offered : ℕ → List Line → Bool
 is_offered i [] = false
 is_offered i (Heard now m ∷ before) = has_in i m || is_offered i before
@@ -82,12 +82,12 @@ abbrev pub request_for : ℕ → List OwnRequest → Option OwnRequest
 request_for i [] = None
 request_for i (q ∷ qs) = if q.chunk == i then Some q else request_for i qs
 
--- it, while it is outstanding
+-- a request, while it is outstanding
 abbrev pub outstanding : ℕ → Option OwnRequest → Option OwnRequest
 outstanding now None = None
 outstanding now (Some q) = if is_outstanding now q then Some q else None
 
--- those of chunks outside a span stay
+-- requests of chunks outside a span stay
 abbrev pub without_requests : Span → List OwnRequest → List OwnRequest
 without_requests span requests = filter (λ q. not (within span q.chunk)) requests
 
@@ -134,7 +134,7 @@ has_expired (Heard now m ∷ before) = false
 has_expired (Said now m ∷ before) = false
 has_expired (Taken now ∷ before) = list_any (is_expired now) (own_requests before)
 
--- of the story with a wait's record the last
+-- whether a story stops asking, by its last record
 abbrev pub stops_asking : Record → List Line → Bool
 stops_asking (Received at sender bytes) story = has_expired story
 stops_asking (Quiet at) story = has_expired story

@@ -117,7 +117,7 @@ impl Asked {
         holds(&self.entries, i)
     }
 
-    /// Takes out a chunk, and answers its entry, if it was asked for. No number above the greatest chunk's ever was.
+    // Takes out a chunk, and answers its entry, if it was asked for. No number above the greatest chunk's ever was.
     fn take_out(&mut self, i: u64) -> Option<Asking>
         ensures entry { result ≡ entry_of self.old i }
         ensures taken { ChangesEntry i None self.old self.new }

@@ -66,7 +66,8 @@ AllPassSaid (m ∷ ms) = PassesSaid m × AllPassSaid ms
 -- leave, and those of REQUESTs come in. One that has expired or is lost leaves at any time.
 pub record LinesKeepAwaited : Type 0 where
   pub others : (line : Line) (own : List Asking) → PassesOwn line → KeepsAwaited line own own
-  pub answer : (i now sent_at : ℕ) (bytes : List ℕ) (old new : List Asking) → Answers now i old new → KeepsAwaited (Heard now (Data i sent_at bytes)) old new
+  pub answer : (i now sent_at : ℕ) (bytes : List ℕ) (old new : List Asking) → Answers now i old new
+      → KeepsAwaited (Heard now (Data i sent_at bytes)) old new
   pub choke : (now : ℕ) (story : List Line) → AreAwaited [] (Heard now Choke ∷ story)
   pub cancel : (now : ℕ) (span : Span) (old new : List Asking) → ((i : ℕ) → entry_of new i ≡ (if within span i then None else entry_of old i))
       → KeepsAwaited (Said now (Cancel span)) old new
@@ -77,8 +78,8 @@ pub record LinesKeepAwaited : Type 0 where
   pub passed : (now : ℕ) (ms : List Message) (own : List Asking) → AllPassSaid ms → AllKeepAwaited now ms own own
   pub twice : (now : ℕ) (ms more : List Message) (old mid new : List Asking) → AllKeepAwaited now ms old mid → AllKeepAwaited now more mid new
       → AllKeepAwaited now (ms ++ more) old new
-  pub expired : (now i : ℕ) (story : List Line) (old new : List Asking) → IsLeastExpired old now i → ChangesEntry i None old new → now ≤ clock story
-      → AreAwaited old story → AreAwaited new story
+  pub expired : (now i : ℕ) (story : List Line) (old new : List Asking) → IsLeastExpired old now i → ChangesEntry i None old new
+      → now ≤ clock story → AreAwaited old story → AreAwaited new story
   pub lost : (i : ℕ) (story : List Line) (old new : List Asking) → IsLeastLost old i → ChangesEntry i None old new
       → AreAwaited old story → AreAwaited new story
 
