@@ -1,13 +1,17 @@
 #!/usr/bin/env bash
 # How fast a fetch goes over a way that loses datagrams, by the way's own clock: one seeder and one fetcher over memory links, with 10
 # milliseconds each way and no bound on the rate, where each datagram is lost by the throw of a die with 1,000 faces. What is printed
-# is a rate by that clock, so it doesn't depend on the machine; the program is run by `rt try`, without a proof.
-# Usage: bench/loss.sh [CHUNKS] [LOST], 4096 chunks of 1,024 bytes and 10 datagrams of 1,000 lost unless given.
+# is a rate by that clock, so it doesn't depend on the machine; the program is run by `rt try`, without a proof. A wait that brings
+# nothing ends after a tenth of a second, and sooner behind a datagram where that is asked for: then a burst's chunks are committed, and
+# acknowledged, when it has ended.
+# Usage: bench/loss.sh [CHUNKS] [LOST] [WAIT], 1024 chunks of 1,024 bytes, 10 datagrams of 1,000 lost and 100 milliseconds of a wait
+# behind a datagram unless given.
 set -eu
 
 root=$(cd -- "$(dirname -- "$(readlink -f -- "${BASH_SOURCE[0]}")")/.." >/dev/null && pwd -P)
-chunks=${1:-4096}
+chunks=${1:-1024}
 lost=${2:-10}
+wait=${3:-100}
 
 folder=$(mktemp -d)
 trap 'rm -rf -- "$folder"' EXIT
@@ -22,7 +26,7 @@ done
 echo 'loss: pp_terms pp_outside pp_tree pp_avail pp_store pp_core arrayvec' >>"$folder/crates.txt"
 touch "$program/specs/Lib.antt" "$program/proofs/Lib.antt"
 
-sed -e "s/CHUNKS_HERE/$chunks/" -e "s/LOST_HERE/$lost/" >"$program/src/main.rt" <<'END'
+sed -e "s/CHUNKS_HERE/$chunks/" -e "s/LOST_HERE/$lost/" -e "s/WAIT_HERE/$wait/" >"$program/src/main.rt" <<'END'
 //! A fetch over a way that loses datagrams.
 #![tactic(auto)]
 
@@ -40,17 +44,18 @@ const CHUNKS: u64 = CHUNKS_HERE;
 // Of a thousand datagrams.
 const LOST: u64 = LOST_HERE;
 
-// Microseconds: a way's length, a step of the clock, a wait, and when the run is given up.
+// Microseconds: a way's length, a step of the clock, a wait and one behind a datagram, and when the run is given up.
 const WAY: u64 = 10_000;
 const STEP: u64 = 1_000;
 const WAIT: u64 = 100_000;
+const BEHIND: u64 = WAIT_HERE * 1_000;
 const END: u64 = 40_000_000_000;
 
 const SEEDER: Address = Address::V4([10, 0, 0, 1], 7000);
 const FETCHER: Address = Address::V4([10, 0, 0, 2], 7000);
 
 // A peer with its devices; of each datagram that it sent the moment at which it comes, none for one that is lost; how many of them
-// came; and when the peer last took a turn.
+// came; when the peer last took a turn, and how long it waits now.
 #[derive(Drop)]
 struct End {
     address: Address,
@@ -60,6 +65,7 @@ struct End {
     comes: Vec<Option<u64>>,
     came: usize,
     turned: u64,
+    waits: u64,
 }
 
 #[derive(Drop)]
@@ -107,13 +113,15 @@ fn hears(from: &mut End, to: &mut End, die: &mut Die, now: u64) {
                     at: now,
                 };
                 to.turn(&event, bytes, die, now);
+                to.waits = BEHIND;
             }
             None => {}
         }
         from.came += 1;
     }
-    if to.turned + WAIT <= now {
+    if to.turned + to.waits <= now {
         to.turn(&Event::Quiet { at: now }, &[], die, now);
+        to.waits = WAIT;
     }
 }
 
@@ -133,6 +141,7 @@ fn end_of(alloc: Global, swarm: &Descriptor, address: Address, dials: bool, mut 
         comes: Vec::new(alloc),
         came: 0,
         turned: 0,
+        waits: WAIT,
     })
 }
 
@@ -155,7 +164,7 @@ fn fetched(alloc: Global) -> Option<u64> {
 fn main(rt: HostRuntime) {
     if let Some(took) = fetched(rt.alloc()) {
         let rate = CHUNKS * 1024 * 1000 / took;
-        let _ = println!(rt; "{CHUNKS} chunks, {LOST} of 1000 lost: {} ms, {rate} kB/s", took / 1000);
+        let _ = println!(rt; "{CHUNKS} chunks, {LOST} of 1000 lost, waits of {} ms: {} ms, {rate} kB/s", BEHIND / 1000, took / 1000);
     }
 }
 END
