@@ -5,3 +5,6 @@ pub mod Steps
 pub mod Roles
 pub mod Contents
 pub mod Texts
+pub mod WorldExamples
+pub mod KeptExamples
+pub mod BrokenWorlds

@@ -1,11 +1,13 @@
-//! What is to happen to several peers that share a content: schedules, how they are written and read, and rehearsals, which are
-//! schedules made of random words.
+//! What is to happen to several peers that share a content, and what then happens: schedules, how they are written and read,
+//! rehearsals, which are schedules made of random words, and the worlds that a schedule and its peers make.
 //!
 //! Its functions do nothing. Their contracts are a law of the definitions, and worked examples of them.
 #![tactic(auto)]
 
+ghost use Rattle.pp_world.specs.BrokenWorlds.{BrokenWorlds};
 ghost use Rattle.pp_world.specs.ScheduleExamples.{SchedulesThatRead, SchedulesThatDont, Rehearses};
 ghost use Rattle.pp_world.specs.ScheduleRead.{SchedulesRead};
+ghost use Rattle.pp_world.specs.WorldExamples.{SmallWorlds, ActExamples, KeptExamples};
 
 /// A text is read as a schedule exactly where it is the text of that schedule, which keeps the limits.
 pub fn laws_of_schedules()
@@ -17,4 +19,16 @@ pub fn worked_schedules()
     ensures read { SchedulesThatRead }
     ensures refused { SchedulesThatDont }
     ensures rehearsal { Rehearses }
+{}
+
+/// A small world of two peers, with its moves; single acts; and a peer that keeps what it announced.
+pub fn worked_worlds()
+    ensures small { SmallWorlds }
+    ensures acts { ActExamples }
+    ensures kept { KeptExamples }
+{}
+
+/// Moves that no peer makes, and worlds that break a promise.
+pub fn broken_worlds()
+    ensures { BrokenWorlds }
 {}
