@@ -1,5 +1,5 @@
--- What the books of a world have in common: any two have the same digest at each node that both have, or there are two texts
--- with one digest.
+-- What the books of a world have in common: any two have the same digest at each node that both have, or there are
+-- two texts with one digest.
 use Rattle.std.specs.Prelude.{◌≡◌, ◌⊎◌, ℕ, ◌+◌, ◌<◌, ◌^◌, Some, List, Contains}
 use Rattle.pp_terms.specs.format.Descriptor.{Descriptor, chunks_of, height_of}
 use Rattle.pp_terms.specs.tree.Book.{LookUp, PairsClash}
@@ -13,8 +13,8 @@ pub record IsBelow (d : Descriptor) (n k j : ℕ) : Type 0 where
   pub layer : k + n ≡ height_of d
   pub within : j < 2 ^ n
 
--- Two books have the same digest of a node that both have, or at some ancestor of it the pairs that they join differ and have
--- the same digest.
+-- Two books have the same digest of a node that both have, or at some ancestor of it the pairs that they join differ
+-- and have the same digest.
 abbrev pub BooksAgree : Descriptor → (one other : LookUp) → Type 0
 BooksAgree d one other = (n k j : ℕ) (x y : List ℕ) → IsBelow d n k j → one k j ≡ Some x → other k j ≡ Some y
     → (x ≡ y) ⊎ BooksClash one other n k j
@@ -25,7 +25,8 @@ HaveClashed d one other = (n : ℕ) × (k : ℕ) × (j : ℕ) × IsBelow d n k j
 
 abbrev pub HasLeftTree : Descriptor → (content : List ℕ) → LookUp → Type 0
 HasLeftTree d content book =
-    (n : ℕ) × (k : ℕ) × (j : ℕ) × IsBelow d n k j × PairsClash (pair (leaf_of content d.chunk) (chunks_of d)) book n k j
+    (n : ℕ) × (k : ℕ) × (j : ℕ) × IsBelow d n k j
+    × PairsClash (pair (leaf_of content d.chunk) (chunks_of d)) book n k j
 
 -- The session is one of some peer's of the world.
 pub record IsSession (w : World) (s : Session) : Type 0 where

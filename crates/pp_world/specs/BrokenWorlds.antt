@@ -1,5 +1,5 @@
--- Moves that no peer makes, and worlds in which a promise is broken: each is refused. Where a promise has premises, the broken
--- world meets them all.
+-- Moves that no peer makes, and worlds in which a promise is broken: each is refused. Where a promise has premises,
+-- the broken world meets them all.
 use Rattle.std.specs.Prelude.{ℕ, true, false, Some, None, List, [], ◌∷◌, ◌++◌, codes, replicate}
 use Rattle.pp_terms.specs.Example.{abc}
 use Rattle.pp_terms.specs.disk.Calls.{Crashed}
@@ -23,7 +23,10 @@ use Rattle.pp_world.specs.WorldExamples.{small, bare, taught, mark, session_with
 
 -- a peer that stopped in a turn in which nothing failed
 abbrev pub gave_up : PeerState
-gave_up = record opened_peer { is_running = false; sessions = session_with bare (mark 0 1 ∷ []) (Quiet 20000 ∷ []) ∷ [] }
+gave_up = record opened_peer {
+  is_running = false;
+  sessions = session_with bare (mark 0 1 ∷ []) (Quiet 20000 ∷ []) ∷ [];
+}
 
 -- peer 0 after a crash that did the pending write
 abbrev pub unscathed_0 : PeerState
@@ -53,7 +56,8 @@ ask = number 7 ++ 8 ∷ number 0 ++ number 0
 
 -- the digest of the one peak, and the chunk
 abbrev pub chunk : List ℕ
-chunk = number 9 ++ 4 ∷ number 0 ++ number 0 ++ replicate 32 5 ++ 1 ∷ number 0 ++ number 0 ++ number 0 ++ number 0 ++ codes "abc"
+chunk = number 9 ++ 4 ∷ number 0 ++ number 0 ++ replicate 32 5
+    ++ 1 ∷ number 0 ++ number 0 ++ number 0 ++ number 0 ++ codes "abc"
 
 abbrev pub sender_past : List Record
 sender_past = Received 2 (address_of 1) ask ∷ Sent 0 (address_of 1) reply ∷ Received 1 (address_of 1) dial ∷ []

@@ -1,4 +1,5 @@
--- What each move does to a world. Seven of the nine acts are functions on one peer; a turn and an opening are relations.
+-- What each move does to a world. Seven of the nine acts are functions on one peer; a turn and an opening are
+-- relations.
 use Rattle.std.specs.Prelude.{◌≡◌, ◌⊎◌, ℕ, zero, suc, ◌+◌, false, if◌then◌else◌, Some, List, [], ◌∷◌, ◌++◌, take, drop, slice_get, slice_set, MatchBool}
 use Rattle.pp_terms.specs.disk.Calls.{Crashed, history_of, crash_image}
 use Rattle.pp_terms.specs.format.Descriptor.{Descriptor}

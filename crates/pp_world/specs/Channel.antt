@@ -1,6 +1,6 @@
--- Channels that are surely open: opened by the first handshake with their numbers, replied to, not closed, and never left silent
--- for too long. A life of the traffic need not be one: nothing on a link shows that a channel's time was over, or that a reply
--- was dropped because its number was another channel's.
+-- Channels that are surely open: opened by the first handshake with their numbers, replied to, not closed, and never
+-- left silent for too long. A life of the traffic need not be one: nothing on a link shows that a channel's time was
+-- over, or that a reply was dropped because its number was another channel's.
 use Rattle.std.specs.Prelude.{◌≡◌, true, false, not, List, MatchBool}
 use Rattle.pp_terms.specs.format.Descriptor.{Descriptor}
 use Rattle.pp_terms.specs.format.Traffic.{Record}
@@ -13,8 +13,8 @@ pub record IsOpenAnswer (d : Descriptor) (life : Life) (past : List Record) : Ty
   pub opened : is_at (greets d life) life.opening past ≡ true
   pub new : some_until (greets d life) life.opening past ≡ false
 
--- This peer opened the channel, and dialled its number at that address for the first time. The first handshake that came on it
--- is the reply, and until then none for channel 0 came from that address.
+-- This peer opened the channel, and dialled its number at that address for the first time. The first handshake that
+-- came on it is the reply, and until then none for channel 0 came from that address.
 pub record IsOpenDial (d : Descriptor) (life : Life) (past : List Record) : Type 0 where
   pub opened : is_at (answers d life) life.opening past ≡ true
   pub new : some_until (answers d life) life.opening past ≡ false

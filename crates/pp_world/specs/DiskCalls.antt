@@ -21,8 +21,8 @@ IsCall (Refused place bytes) = Unit {0}
 IsCall Synced = Unit {0}
 IsCall (Crashed image) = ⊥
 
--- The disk gained these calls. As many were refused as orders were used up, and no order is new. A reading, and a sync that
--- was refused, change nothing and are none of these calls.
+-- The disk gained these calls. As many were refused as orders were used up, and no order is new. A reading, and a
+-- sync that was refused, change nothing and are none of these calls.
 pub record MakesCalls (old new : PeerState) : Type 0 where
   pub calls : List Did
   pub made : new.disk ≡ record old.disk { done = old.disk.done ++ calls }

@@ -28,8 +28,8 @@ new_session old new book = record {
   book = book;
 }
 
--- The peer opened its store: an empty file, or one that begins with the header. Its link is new, and nothing of it is ordered
--- to fail. What waits for the peer goes on waiting.
+-- The peer opened its store: an empty file, or one that begins with the header. Its link is new, and nothing of it is
+-- ordered to fail. What waits for the peer goes on waiting.
 pub record Opens (d : Descriptor) (old new : PeerState) : Type 0 where
   pub calls : MakesCalls old new
   pub begins : IsAnothers d (reads_of old) → ⊥

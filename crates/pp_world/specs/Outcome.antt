@@ -1,4 +1,5 @@
--- What a replay answers: the peers at the end of a schedule's worlds, some numbers of each, and what is promised of them all.
+-- What a replay answers: the peers at the end of a schedule's worlds, some numbers of each, and what is promised of
+-- them all.
 use Rattle.std.specs.Prelude.{◌≡◌, ℕ, ◌+◌, ◌<◌, Bool, false, ◌&&◌, ◌||◌, List, [], ◌∷◌, ◌++◌, length, map, codes, decimal, count_by, slice_index_or}
 use Rattle.std.specs.List.{AllByRecursion, list_any, range_with_len}
 use Rattle.pp_terms.specs.command.Report.{line, ranges_text, AreRanges}
@@ -31,14 +32,15 @@ is_announced_in d i (Sent moment receiver bytes ∷ before) =
 
 -- how many chunks the peer announced, each counted once, in whatever sessions
 abbrev pub announced_count : Descriptor → PeerState → ℕ
-announced_count d x = count_by (λ i. list_any (λ s. is_announced_in d i s.traffic) x.sessions) (range_with_len 0 (chunks_of d))
+announced_count d x =
+    count_by (λ i. list_any (λ s. is_announced_in d i s.traffic) x.sessions) (range_with_len 0 (chunks_of d))
 
 -- the chunk is held in an image behind an open gate
 abbrev pub is_held : Descriptor → List ℕ → ℕ → Bool
 is_held d image i = is_open d image i && holds d image i
 
--- A peer at the end, with the number of its openings that succeeded, that of the chunks that it announced, and which chunks are
--- held in what its disk reads.
+-- A peer at the end, with the number of its openings that succeeded, that of the chunks that it announced, and which
+-- chunks are held in what its disk reads.
 pub record PeerEnd : Type 0 where
   pub state : PeerState
   pub lives : ℕ
@@ -64,8 +66,8 @@ AreLines p (x ∷ xs) text = (ranges : List Span) × (rest : List ℕ) × AreRan
 
 -- ---- each session by itself
 
--- What is seen of one run: the book that it left, how many turns it took, what its link carried, and its disk and its link
--- before and after.
+-- What is seen of one run: the book that it left, how many turns it took, what its link carried, and its disk and its
+-- link before and after.
 pub record SessionRun : Type 0 where
   pub book : LookUp
   pub turns : ℕ
@@ -100,14 +102,15 @@ pub record IsRun (Promises : RunPromise) (d : Descriptor) (role : Role) (x : Pee
 -- Every session of every peer does; the peers stand in the order of their roles.
 abbrev pub AreRuns : RunPromise → Descriptor → List Role → List PeerState → Type 0
 AreRuns Promises d [] [] = Unit {0}
-AreRuns Promises d (role ∷ roles) (x ∷ xs) = AllByRecursion (IsRun Promises d role x) x.sessions × AreRuns Promises d roles xs
+AreRuns Promises d (role ∷ roles) (x ∷ xs) =
+    AllByRecursion (IsRun Promises d role x) x.sessions × AreRuns Promises d roles xs
 AreRuns Promises d [] (x ∷ xs) = ⊥
 AreRuns Promises d (role ∷ roles) [] = ⊥
 
 -- ---- the whole
 
--- These peers are the end of worlds of the schedule, in which every session keeps the promises of a run, what was announced
--- survives, datagrams are atomic and books agree.
+-- These peers are the end of worlds of the schedule, in which every session keeps the promises of a run, what was
+-- announced survives, datagrams are atomic and books agree.
 pub record IsOutcome (Promises : RunPromise) (s : Schedule) (ends : List PeerEnd) : Type 0 where
   pub last : World
   pub before : List World

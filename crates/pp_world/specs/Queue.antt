@@ -1,5 +1,5 @@
--- What waits for the peers: each datagram that is sent to a peer's address joins that peer's queue, whether the peer runs or
--- not, and the oldest is taken first.
+-- What waits for the peers: each datagram that is sent to a peer's address joins that peer's queue, whether the peer
+-- runs or not, and the oldest is taken first.
 use Rattle.std.specs.Prelude.{ℕ, ◌+◌, nat_lt, ◌&&◌, if◌then◌else◌, List, [], ◌∷◌, ◌++◌, length}
 use Rattle.pp_terms.specs.format.Traffic.{Address, same_address, Record, Received, Quiet, Sent}
 use Rattle.pp_world.specs.World.{Queued, PeerState, address_of}

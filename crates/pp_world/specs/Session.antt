@@ -1,19 +1,20 @@
--- A session: what a peer does from one opening of its store until it stops. Its book, what its link carried, and how far the
--- peer's devices were at the points where a session may be looked at. (A life, in the definitions on traffic, is a channel.)
+-- A session: what a peer does from one opening of its store until it stops. Its book, what its link carried, and how
+-- far the peer's devices were at the points where a session may be looked at. (A life, in the definitions on traffic,
+-- is a channel.)
 use Rattle.std.specs.Prelude.{ℕ, Some, None, List, [], ◌∷◌, length}
 use Rattle.pp_terms.specs.format.Traffic.{Record, LinkState}
 use Rattle.pp_terms.specs.tree.Book.{LookUp}
 
--- How many calls had changed the disk, how many calls of it were refused, all and those but readings, and how many records
--- the session's link had. The disk's moment alone wouldn't tell what was pending then.
+-- How many calls had changed the disk, how many calls of it were refused, all and those but readings, and how many
+-- records the session's link had. The disk's moment alone wouldn't tell what was pending then.
 pub record Mark : Type 0 where
   pub calls : ℕ
   pub faults : ℕ
   pub hard : ℕ
   pub records : ℕ
 
--- The marks of the beginning and the end of the opening, and of the end of each turn, the newest first; the records of the
--- link, the newest first; how many calls of the link were refused; and the book.
+-- The marks of the beginning and the end of the opening, and of the end of each turn, the newest first; the records
+-- of the link, the newest first; how many calls of the link were refused; and the book.
 pub record Session : Type 0 where
   pub began : Mark
   pub opened : Mark

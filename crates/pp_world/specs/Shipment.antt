@@ -1,5 +1,5 @@
--- Datagrams are atomic: once a chunk has reached a peer that had asked for it, with the hashes that the peer lacked, the chunk is
--- stored there, whatever else was lost, late or out of order.
+-- Datagrams are atomic: once a chunk has reached a peer that had asked for it, with the hashes that the peer lacked,
+-- the chunk is stored there, whatever else was lost, late or out of order.
 use Rattle.std.specs.Prelude.{◌≡◌, ◌⊎◌, ℕ, ◌<◌, Bool, true, nat_le, ◌&&◌, ◌||◌, Some, List, [], ◌∷◌, ◌++◌, length, slice_get, Contains}
 use Rattle.pp_terms.specs.disk.Image.{holds}
 use Rattle.pp_terms.specs.format.Descriptor.{Descriptor}
@@ -49,8 +49,8 @@ IsGenuine d life q own w (Received at sender bytes ∷ before) =
 IsGenuine d life q own w (Quiet at ∷ before) = IsGenuine d life q own w before
 IsGenuine d life q own w (Sent moment receiver bytes ∷ before) = IsGenuine d life q own w before
 
--- The sender sent the shipment on this channel, behind messages with hashes, as the other peer had asked. Nothing that had come on
--- the channel was forged.
+-- The sender sent the shipment on this channel, behind messages with hashes, as the other peer had asked. Nothing
+-- that had come on the channel was forged.
 pub record SentChunk (d : Descriptor) (w : World) (it : Shipment) (life : Life) : Type 0 where
   pub peer : PeerState
   pub here : slice_get w.peers it.sender ≡ Some peer
@@ -62,7 +62,8 @@ pub record SentChunk (d : Descriptor) (w : World) (it : Shipment) (life : Life) 
   pub front : List Message
   pub sent_at : ℕ
   pub content : List ℕ
-  pub messages : (read d (Sent moment (address_of it.receiver) it.bytes)).messages.read ≡ front ++ Data it.chunk sent_at content ∷ []
+  pub messages : (read d (Sent moment (address_of it.receiver) it.bytes)).messages.read
+      ≡ front ++ Data it.chunk sent_at content ∷ []
   pub number : (read d (Sent moment (address_of it.receiver) it.bytes)).channel ≡ Some life.remote
   pub to : life.address ≡ address_of it.receiver
   pub answers : AnswersOn d (window_of d) past life it.chunk front
@@ -87,17 +88,18 @@ pub record TookIn (d : Descriptor) (old new : World) (it : Shipment) (life : Lif
   pub from : life.address ≡ address_of it.sender
   pub is_open : IsOpen d life session.traffic
 
--- Between two worlds each shipment that was sent before and is taken in now is stored: the receiver's disk reads the chunk's bytes,
--- whose gate may still be closed. Else a write or a sync of that disk was refused, or the sender's book clashes with the
--- receiver's book or with the content's tree.
+-- Between two worlds each shipment that was sent before and is taken in now is stored: the receiver's disk reads the
+-- chunk's bytes, whose gate may still be closed. Else a write or a sync of that disk was refused, or the sender's
+-- book clashes with the receiver's book or with the content's tree.
 abbrev pub StoresShipments : Descriptor → (content : List ℕ) → (old new : World) → Type 0
 StoresShipments d content old new = (it : Shipment) (life life' : Life) → (out : SentChunk d old it life)
     → (took : TookIn d old new it life') → AreEnds life life'
     → (holds d (reads_of took.after) it.chunk ≡ true) ⊎ ((took.before.hard < took.after.hard)
     ⊎ (HaveClashed d out.session.book took.session'.book ⊎ HasLeftTree d content out.session.book))
 
--- So it is from each world to the next; the newest stands first.
+-- Shipments are stored between each world and the next; the newest world stands first.
 abbrev pub DatagramsAreAtomic : Descriptor → (content : List ℕ) → List World → Type 0
 DatagramsAreAtomic d content [] = Unit {0}
 DatagramsAreAtomic d content (new ∷ []) = Unit {0}
-DatagramsAreAtomic d content (new ∷ old ∷ before) = StoresShipments d content old new × DatagramsAreAtomic d content (old ∷ before)
+DatagramsAreAtomic d content (new ∷ old ∷ before) =
+    StoresShipments d content old new × DatagramsAreAtomic d content (old ∷ before)

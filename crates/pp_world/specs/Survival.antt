@@ -1,5 +1,6 @@
--- What survives restarts: a chunk that a peer announced in any session is held, behind the header and an open gate, in what the
--- disk reads at the end of each later opening that succeeds, and stands in each image that a crash at any later moment leaves.
+-- What survives restarts: a chunk that a peer announced in any session is held, behind the header and an open gate,
+-- in what the disk reads at the end of each later opening that succeeds, and stands in each image that a crash at any
+-- later moment leaves.
 use Rattle.std.specs.Prelude.{List, [], ◌∷◌}
 use Rattle.std.specs.List.{AllByRecursion}
 use Rattle.pp_terms.specs.disk.Calls.{Calls}
@@ -14,9 +15,9 @@ use Rattle.pp_world.specs.World.{PeerState, World, reads_at, disk_since}
 abbrev pub FindsAnnounced : Descriptor → Calls → (s later : Session) → Type 0
 FindsAnnounced d disk s later = EachAnnounced d (λ moment i. StandsIn d (reads_at disk later.opened) i) s.traffic
 
--- Every image was sound as the session's opening began, so gates could be believed. From then on to the end of all calls of the
--- disk, later sessions and crashes included, each image has what stood in every image then, and what the session announced
--- since it was announced. Each later session found that.
+-- Every image was sound as the session's opening began, so gates could be believed. From then on to the end of all
+-- calls of the disk, later sessions and crashes included, each image has what stood in every image then, and what the
+-- session announced since it was announced. Each later session found that.
 pub record Outlasts (d : Descriptor) (disk : Calls) (later : List Session) (s : Session) : Type 0 where
   pub sound : BeganSound d (disk_since disk s)
   pub keeps : Keeps d (disk_since disk s) s.traffic

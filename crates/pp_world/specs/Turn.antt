@@ -43,8 +43,8 @@ with_turn s added book old new = record s {
   book = book;
 }
 
--- The peer waited, took in what came and sent what was due; its link gained these records, the newest first. Only where a
--- write or a sync was refused in this turn the peer stopped, and then it sent nothing.
+-- The peer waited, took in what came and sent what was due; its link gained these records, the newest first. Only
+-- where a write or a sync was refused in this turn the peer stopped, and then it sent nothing.
 pub record TakesTurn (clock : ℕ) (old : PeerState) (added : List Record) (new : PeerState) : Type 0 where
   pub session : Session
   pub earlier : List Session

@@ -11,8 +11,9 @@ pub record Queued : Type 0 where
   pub sender : Address
   pub bytes : List ℕ
 
--- The disk with all its calls, the oldest first, and how many of its calls were refused, all and those but readings; the calls
--- that are to fail; the queue, the oldest first; and the sessions, the newest first. A peer that runs is in the newest.
+-- The disk with all its calls, the oldest first, and how many of its calls were refused, all and those but readings;
+-- the calls that are to fail; the queue, the oldest first; and the sessions, the newest first. A peer that runs is in
+-- the newest.
 pub record PeerState : Type 0 where
   pub disk : Calls
   pub faults : ℕ

@@ -20,8 +20,8 @@ use Rattle.pp_world.specs.Worlds.{swarm_of, empty_disk, idle, AreWorlds}
 
 -- ---- the small world
 
--- Two peers fetch from each other. Two datagrams are forged for peer 0; both peers take a turn; peer 0 crashes, and peer 1 is
--- stopped and started again.
+-- Two peers fetch from each other. Two datagrams are forged for peer 0; both peers take a turn; peer 0 crashes, and
+-- peer 1 is stopped and started again.
 abbrev pub small : Schedule
 small = record {
   chunk = 256;
@@ -91,9 +91,10 @@ greeting = 0 ∷ 0 ∷ 0 ∷ 0 ∷ []
 abbrev pub second : List ℕ
 second = 0 ∷ 0 ∷ 0 ∷ 1 ∷ []
 
--- its records: the first datagram came, and two went
+-- the records of peer 0: the first datagram came, and two went
 abbrev pub records_0 : List Record
-records_0 = Sent 1 (address_of 1) second ∷ Sent 1 (address_of 1) greeting ∷ Received 20000 (address_of 1) (0xab ∷ []) ∷ []
+records_0 =
+    Sent 1 (address_of 1) second ∷ Sent 1 (address_of 1) greeting ∷ Received 20000 (address_of 1) (0xab ∷ []) ∷ []
 
 abbrev pub turned_0 : PeerState
 turned_0 = peer_with (disk_with written) (queued 1 (0xcd ∷ []) ∷ []) (session_with bare (mark 3 3 ∷ []) records_0 ∷ [])
@@ -122,7 +123,7 @@ restarted_with book = record turned_1 { sessions = session_with book [] [] ∷ t
 abbrev pub world : (clock : ℕ) → PeerState → PeerState → World
 world clock x y = record { clock = clock; peers = x ∷ y ∷ [] }
 
--- all its worlds, the newest first
+-- all worlds of the small schedule, the newest first
 abbrev pub small_worlds : List World
 small_worlds =
     world 20000 crashed_0 (restarted_with bare)
@@ -153,11 +154,13 @@ failed = record (peer_with (disk_with (Refused 0 (1 ∷ []) ∷ [])) []
     { faults = 1; hard = 1; is_running = false }
 
 pub record ActExamples : Type 0 where
-  -- of two datagrams that wait the first is lost, comes once more behind the second, or comes behind it alone; a forged one comes last
+  -- of two datagrams that wait the first is lost, comes once more behind the second, or comes behind it alone; a
+  -- forged one comes last
   pub lost : (with_loss forged_0).queue ≡ queued 1 (0xcd ∷ []) ∷ []
   pub repeated : (with_repeat forged_0).queue ≡ queued 1 (0xab ∷ []) ∷ queued 1 (0xcd ∷ []) ∷ queued 1 (0xab ∷ []) ∷ []
   pub delayed : (with_delay forged_0).queue ≡ queued 1 (0xcd ∷ []) ∷ queued 1 (0xab ∷ []) ∷ []
-  pub forged : (with_forged 0 second forged_0).queue ≡ queued 1 (0xab ∷ []) ∷ queued 1 (0xcd ∷ []) ∷ queued 0 second ∷ []
+  pub forged : (with_forged 0 second forged_0).queue
+      ≡ queued 1 (0xab ∷ []) ∷ queued 1 (0xcd ∷ []) ∷ queued 0 second ∷ []
   -- what is sent to an address joins that queue alone, the oldest first
   pub joined : queue_after (address_of 0) (address_of 1) records_0 [] ≡ queued 0 greeting ∷ queued 0 second ∷ []
   pub elsewhere : queue_after (address_of 0) (address_of 2) records_0 [] ≡ []
@@ -189,4 +192,5 @@ pub record KeptExamples : Type 0 where
   pub survives : AnnouncedSurvives abc (world 0 keeper (idle empty_disk))
   -- two openings; one chunk, announced twice and counted once, which is held
   pub numbers : IsEndOf abc (end_of keeper 2 1 (true ∷ []))
-  pub said : peer_line 0 (end_of keeper 2 1 (true ∷ [])) (record { first = 0; last = 0 } ∷ []) ≡ line (codes "peer 0 lives 2 announced 1 held 0-0")
+  pub said : peer_line 0 (end_of keeper 2 1 (true ∷ [])) (record { first = 0; last = 0 } ∷ [])
+      ≡ line (codes "peer 0 lives 2 announced 1 held 0-0")

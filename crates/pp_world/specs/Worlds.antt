@@ -31,7 +31,15 @@ HasDisk d content (Fetches order dialled) disk = disk ≡ empty_disk
 
 -- a peer that was never started
 abbrev pub idle : Calls → PeerState
-idle disk = record { disk = disk; faults = 0; hard = 0; orders = no_orders; is_running = false; queue = []; sessions = [] }
+idle disk = record {
+  disk = disk;
+  faults = 0;
+  hard = 0;
+  orders = no_orders;
+  is_running = false;
+  queue = [];
+  sessions = [];
+}
 
 pub record IsNew (d : Descriptor) (content : List ℕ) (role : Role) (x : PeerState) : Type 0 where
   pub disk : HasDisk d content role x.disk

@@ -1,5 +1,6 @@
-//! What is to happen to several peers that share a content, and what then happens: schedules, how they are written and read,
-//! rehearsals, which are schedules made of random words, and the worlds that a schedule and its peers make.
+//! What is to happen to several peers that share a content: schedules, how they are written and read, and rehearsals, which
+//! are schedules made of random words. And what then happens: the worlds that a schedule and its peers make, and the promises
+//! on all of them.
 //!
 //! Its functions do nothing. Their contracts are a law of the definitions, and worked examples of them.
 #![tactic(auto)]
