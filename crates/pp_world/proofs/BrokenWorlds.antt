@@ -13,6 +13,7 @@ use Rattle.pp_terms.specs.format.Traffic.{Record, Received, Quiet, Sent}
 use Rattle.pp_terms.specs.tree.Book.{LookUp}
 use Rattle.pp_terms.specs.tree.Tree.{node, height}
 use Rattle.pp_traffic.specs.Life.{IsLife}
+use Rattle.pp_world.proofs.WorldExamples.{is_anothers}
 use Rattle.pp_world.specs.Agreement.{HaveClashed, HasLeftTree, AllBooksAgree}
 use Rattle.pp_world.specs.Change.{Acts}
 use Rattle.pp_world.specs.Channel.{IsOpen}
@@ -25,8 +26,8 @@ use Rattle.pp_world.specs.Survival.{AnnouncedSurvives}
 use Rattle.pp_world.specs.Turn.{TakesTurn}
 use Rattle.pp_world.specs.World.{PeerState, World, address_of}
 use Rattle.pp_world.specs.Worlds.{swarm_of, empty_disk, idle}
-use Rattle.pp_world.specs.WorldExamples.{small, taught, session_with, peer_with, opened_peer, forged_0, turned_0, turned_1, stopped_1, restarted_with, world, keeper, end_of}
-use Rattle.pp_world.specs.BrokenWorlds.{gave_up, unscathed_0, three, dial, reply, ask, chunk, sender_past, receiver_past, sender_life, receiver_life, nothing, sender, receiver, lost_chunk, announcer, forgetful, wrecked, root_is, two_roots, BrokenWorlds}
+use Rattle.pp_world.specs.WorldExamples.{small, taught, session_with, peer_with, opened_peer, forged_0, greeting, failing, with_file, turned_0, turned_1, stopped_1, restarted_with, world, keeper, end_of}
+use Rattle.pp_world.specs.BrokenWorlds.{gave_up, sent_last, unscathed_0, three, dial, reply, ask, chunk, sender_past, receiver_past, sender_life, receiver_life, nothing, sender, receiver, lost_chunk, announcer, forgetful, wrecked, root_is, two_roots, BrokenWorlds}
 
 -- ---- moves
 
@@ -55,6 +56,17 @@ newest new t = no_other (Received 20000 (address_of 1) (0xcd ∷ [])) t.sent new
 
 stops : TakesTurn 20000 opened_peer (Quiet 20000 ∷ []) gave_up → ⊥
 stops t = ⊎_elim (λ e. cc) (λ e. omega (arith, e.2)) t.goes_on
+
+-- nothing stands before the event where nothing was sent
+none_sent : (r : Record) (sent : List Record) → sent ≡ [] → r ∷ Quiet 20000 ∷ [] ≡ sent ++ Quiet 20000 ∷ [] → ⊥
+none_sent r [] none e = cc
+none_sent r (x ∷ xs) none e = cc
+
+sends : TakesTurn 20000 failing (Sent 0 (address_of 1) greeting ∷ Quiet 20000 ∷ []) sent_last → ⊥
+sends t = ⊎_elim (λ e. cc) (λ e. none_sent (Sent 0 (address_of 1) greeting) t.sent e.1 t.gained) t.goes_on
+
+another : (new : PeerState) → Opens (swarm_of small) with_file new → ⊥
+another new o = o.begins is_anothers
 
 shut : FailsToOpen three (idle empty_disk) (idle empty_disk) → ⊥
 shut f = ⊎_elim (λ a. omega (arith, a.some)) (λ e. omega (arith, e)) f.cause
@@ -247,6 +259,8 @@ broken_worlds = record {
   deaf = deaf;
   newest = newest;
   stops = stops;
+  sends = sends;
+  another = another;
   shut = shut;
   remembers = remembers;
   unscathed = unscathed;

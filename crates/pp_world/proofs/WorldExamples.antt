@@ -1,15 +1,16 @@
 -- The small world, move by move, and single acts.
 use Rattle.std.proofs.Common.{◌≡◌, inl, inr, true, [], ◌∷◌, refl, arith}
 use Rattle.pp_terms.specs.disk.Calls.{Refused}
+use Rattle.pp_terms.specs.disk.Store.{header}
 use Rattle.pp_terms.specs.format.Traffic as traffic
 use Rattle.pp_terms.specs.format.Traffic.{Quiet}
-use Rattle.pp_world.specs.Opening.{Opens}
+use Rattle.pp_world.specs.Opening.{IsAnothers, Opens, FailsToOpen}
 use Rattle.pp_world.specs.Orders.{no_orders, has_order}
 use Rattle.pp_world.specs.Schedule.{Device, Read, Write, Sync, Send, Receive}
 use Rattle.pp_world.specs.Turn.{TakesTurn}
-use Rattle.pp_world.specs.World.{address_of}
+use Rattle.pp_world.specs.World.{reads_of, address_of}
 use Rattle.pp_world.specs.Worlds.{swarm_of, idle, empty_disk}
-use Rattle.pp_world.specs.WorldExamples.{small, bare, taught, session_with, opened_peer, forged_0, written, greeting, second, records_0, turned_0, waiting_1, records_1, turned_1, stopped_1, restarted_with, failing, failed, SmallWorlds, ActExamples}
+use Rattle.pp_world.specs.WorldExamples.{small, bare, taught, session_with, opened_peer, forged_0, written, greeting, second, records_0, turned_0, waiting_1, records_1, turned_1, stopped_1, restarted_with, failing, failed, deafened, deafened_after, with_file, failing_sync, SmallWorlds, ActExamples}
 
 opening : Opens (swarm_of small) (idle empty_disk) opened_peer
 opening = record {
@@ -143,8 +144,71 @@ failing_turn = record {
   goes_on = inr (refl, refl, omega arith);
 }
 
+deafened_turn : TakesTurn 20000 deafened [] deafened_after
+deafened_turn = record {
+  session = session_with bare [] [];
+  earlier = [];
+  was = refl;
+  calls = record {
+    calls = [];
+    made = refl;
+    are_calls = tt;
+    ordered = λ call e. absurd (none call e);
+    writes = refl;
+    faults = refl;
+    hard = refl;
+  };
+  sent = [];
+  gained = refl;
+  went = tt;
+  waited = refl;
+  book = bare;
+  is = refl;
+  queue = refl;
+  goes_on = inl refl;
+}
+
+-- two bytes aren't the beginning of a header
+pub is_anothers : IsAnothers (swarm_of small) (reads_of with_file)
+unfolding header
+is_anothers = record { some = omega arith; differs = λ begins. let e : 1 ≡ 0x50 = begins 0 (omega arith) in omega (arith, e) }
+
+another : FailsToOpen (swarm_of small) with_file with_file
+another = record {
+  calls = record { calls = []; made = refl; are_calls = tt; ordered = λ call e. e; writes = refl; faults = refl; hard = refl };
+  cause = inl is_anothers;
+  same = refl;
+  stopped = refl;
+  queue = refl;
+}
+
+unsynced : FailsToOpen (swarm_of small) failing_sync (record (idle empty_disk) { faults = 1; hard = 1 })
+unsynced = record {
+  calls = record {
+    calls = [];
+    made = refl;
+    are_calls = tt;
+    ordered = λ call e. absurd (none call e);
+    writes = refl;
+    faults = refl;
+    hard = refl;
+  };
+  cause = inr (omega arith);
+  same = refl;
+  stopped = refl;
+  queue = refl;
+}
+
 pub act_examples : ActExamples
 act_examples = record {
+  rounds = refl;
+  stays = refl;
+  crashes = refl;
+  fits = refl;
+  overflows = refl;
+  waits = deafened_turn;
+  another = another;
+  unsynced = unsynced;
   lost = refl;
   repeated = refl;
   delayed = refl;

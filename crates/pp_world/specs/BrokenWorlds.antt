@@ -17,7 +17,7 @@ use Rattle.pp_world.specs.Survival.{AnnouncedSurvives}
 use Rattle.pp_world.specs.Turn.{TakesTurn}
 use Rattle.pp_world.specs.World.{PeerState, World, address_of}
 use Rattle.pp_world.specs.Worlds.{swarm_of, empty_disk, idle}
-use Rattle.pp_world.specs.WorldExamples.{small, bare, taught, mark, session_with, disk_with, peer_with, opened_peer, forged_0, written, turned_0, turned_1, crashed_0, stopped_1, restarted_with, world, announcing, stored, keeper, end_of}
+use Rattle.pp_world.specs.WorldExamples.{small, bare, taught, mark, session_with, disk_with, peer_with, opened_peer, forged_0, greeting, failing, failed, with_file, written, turned_0, turned_1, crashed_0, stopped_1, restarted_with, world, announcing, stored, keeper, end_of}
 
 -- ---- moves
 
@@ -26,6 +26,13 @@ abbrev pub gave_up : PeerState
 gave_up = record opened_peer {
   is_running = false;
   sessions = session_with bare (mark 0 1 ∷ []) (Quiet 20000 ∷ []) ∷ [];
+}
+
+-- a peer that stopped in a turn in which a write failed, and sent a datagram then
+abbrev pub sent_last : PeerState
+sent_last = record failed {
+  sessions = session_with bare (record { calls = 1; faults = 1; hard = 1; records = 2 } ∷ [])
+      (Sent 0 (address_of 1) greeting ∷ Quiet 20000 ∷ []) ∷ [];
 }
 
 -- peer 0 after a crash that did the pending write
@@ -115,7 +122,10 @@ pub record BrokenWorlds : Type 0 where
   pub newest : (new : PeerState) → TakesTurn 20000 forged_0 (Received 20000 (address_of 1) (0xcd ∷ []) ∷ []) new → ⊥
   -- a peer stops, and nothing failed
   pub stops : TakesTurn 20000 opened_peer (Quiet 20000 ∷ []) gave_up → ⊥
-  -- an empty file isn't opened, and nothing failed
+  -- a peer stops since a write failed, and still sends a datagram
+  pub sends : TakesTurn 20000 failing (Sent 0 (address_of 1) greeting ∷ Quiet 20000 ∷ []) sent_last → ⊥
+  -- a file that is another's is opened; an empty one isn't, and nothing failed
+  pub another : (new : PeerState) → Opens (swarm_of small) with_file new → ⊥
   pub shut : FailsToOpen three (idle empty_disk) (idle empty_disk) → ⊥
   -- a restart with the book of the session before
   pub remembers : Opens (swarm_of small) stopped_1 (restarted_with taught) → ⊥

@@ -1,5 +1,5 @@
 -- A small world, and small peers that keep what they announced.
-use Rattle.std.specs.Prelude.{◌≡◌, ℕ, Bool, true, false, Some, List, [], ◌∷◌, ◌++◌, codes}
+use Rattle.std.specs.Prelude.{◌≡◌, ℕ, Bool, true, false, Some, List, [], ◌∷◌, ◌++◌, length, replicate, codes}
 use Rattle.pp_terms.specs.Example.{abc, store_of_abc}
 use Rattle.pp_terms.specs.command.Commands.{Sequential, Rarest}
 use Rattle.pp_terms.specs.command.Report.{line}
@@ -7,11 +7,13 @@ use Rattle.pp_terms.specs.disk.Calls.{Did, Wrote, Refused, Synced, Crashed, Call
 use Rattle.pp_terms.specs.disk.Image.{known}
 use Rattle.pp_terms.specs.format.Traffic.{Record, Received, Quiet, Sent}
 use Rattle.pp_terms.specs.tree.Book.{LookUp}
-use Rattle.pp_world.specs.Change.{with_loss, with_repeat, with_delay, with_forged}
+use Rattle.pp_world.specs.Change.{while_running, with_loss, with_repeat, with_delay, with_forged, with_crash}
+use Rattle.pp_world.specs.Move.{Wait, Make, moves_of_step}
+use Rattle.pp_world.specs.Opening.{FailsToOpen}
 use Rattle.pp_world.specs.Orders.{no_orders}
 use Rattle.pp_world.specs.Outcome.{PeerEnd, IsEndOf, peer_line}
 use Rattle.pp_world.specs.Queue.{queue_after}
-use Rattle.pp_world.specs.Schedule.{Fetches, Forge, Crash, Stop, Start, Once, Run, Schedule}
+use Rattle.pp_world.specs.Schedule.{Fetches, Turn, Forge, Crash, Stop, Start, Once, Run, Schedule}
 use Rattle.pp_world.specs.Session.{Mark, Session}
 use Rattle.pp_world.specs.Survival.{AnnouncedSurvives}
 use Rattle.pp_world.specs.Turn.{TakesTurn}
@@ -153,7 +155,28 @@ failed = record (peer_with (disk_with (Refused 0 (1 ∷ []) ∷ [])) []
     (session_with bare (record { calls = 1; faults = 1; hard = 1; records = 1 } ∷ []) (Quiet 20000 ∷ []) ∷ []))
     { faults = 1; hard = 1; is_running = false }
 
+-- a wait of this peer is to fail; and the peer after a turn in which it did
+abbrev pub deafened : PeerState
+deafened = record forged_0 { orders = record no_orders { receive = true } }
+
+abbrev pub deafened_after : PeerState
+deafened_after = record forged_0 { sessions = record (session_with bare (mark 0 0 ∷ []) []) { refused = 1 } ∷ [] }
+
+-- peers that were never started: with a file of two bytes, and with a sync that is to fail
+abbrev pub with_file : PeerState
+with_file = idle (disk_with (Wrote 0 (1 ∷ 2 ∷ []) ∷ []))
+
+abbrev pub failing_sync : PeerState
+failing_sync = record (idle empty_disk) { orders = record no_orders { sync = true } }
+
+-- a queue of so many datagrams
+abbrev pub many : ℕ → List Queued
+many count = replicate count (queued 0 second)
+
 pub record ActExamples : Type 0 where
+  -- rounds are unfolded into waits and turns
+  pub rounds : moves_of_step 2 (Run 2 5)
+      ≡ Wait 5 ∷ Make (Turn 0) ∷ Make (Turn 1) ∷ Wait 5 ∷ Make (Turn 0) ∷ Make (Turn 1) ∷ []
   -- of two datagrams that wait the first is lost, comes once more behind the second, or comes behind it alone; a
   -- forged one comes last
   pub lost : (with_loss forged_0).queue ≡ queued 1 (0xcd ∷ []) ∷ []
@@ -161,11 +184,22 @@ pub record ActExamples : Type 0 where
   pub delayed : (with_delay forged_0).queue ≡ queued 1 (0xcd ∷ []) ∷ queued 1 (0xab ∷ []) ∷ []
   pub forged : (with_forged 0 second forged_0).queue
       ≡ queued 1 (0xab ∷ []) ∷ queued 1 (0xcd ∷ []) ∷ queued 0 second ∷ []
+  -- nothing happens to the queue of a peer that doesn't run, but a crash happens to its disk
+  pub stays : while_running with_loss stopped_1 ≡ stopped_1
+  pub crashes : (with_crash 0 (record turned_0 { is_running = false })).disk ≡ disk_with (written ++ Crashed (1 ∷ 2 ∷ []) ∷ [])
   -- what is sent to an address joins that queue alone, the oldest first
   pub joined : queue_after (address_of 0) (address_of 1) records_0 [] ≡ queued 0 greeting ∷ queued 0 second ∷ []
   pub elsewhere : queue_after (address_of 0) (address_of 2) records_0 [] ≡ []
+  -- one that is sent while 1,024 wait is lost
+  pub fits : length (queue_after (address_of 0) (address_of 1) (Sent 1 (address_of 1) second ∷ []) (many 1023)) ≡ 1024
+  pub overflows : length (queue_after (address_of 0) (address_of 1) (Sent 1 (address_of 1) second ∷ []) (many 1024)) ≡ 1024
+  -- a wait was refused in a turn: no datagram is taken
+  pub waits : TakesTurn 20000 deafened [] deafened_after
   -- a write was refused in a turn: the peer stops, and sends nothing
   pub stops : TakesTurn 20000 failing (Quiet 20000 ∷ []) failed
+  -- an opening is refused, since the file is another's, or since a sync failed
+  pub another : FailsToOpen (swarm_of small) with_file with_file
+  pub unsynced : FailsToOpen (swarm_of small) failing_sync (record (idle empty_disk) { faults = 1; hard = 1 })
 
 -- ---- peers that announced chunk 0
 
