@@ -8,3 +8,4 @@ pub mod Texts
 pub mod WorldExamples
 pub mod KeptExamples
 pub mod BrokenWorlds
+pub mod OutcomeExample

@@ -12,7 +12,7 @@ use Rattle.pp_world.specs.World.{reads_of, address_of}
 use Rattle.pp_world.specs.Worlds.{swarm_of, idle, empty_disk}
 use Rattle.pp_world.specs.WorldExamples.{small, bare, taught, session_with, opened_peer, forged_0, written, greeting, second, records_0, turned_0, waiting_1, records_1, turned_1, stopped_1, restarted_with, failing, failed, deafened, deafened_after, with_file, failing_sync, SmallWorlds, ActExamples}
 
-opening : Opens (swarm_of small) (idle empty_disk) opened_peer
+pub opening : Opens (swarm_of small) (idle empty_disk) opened_peer
 opening = record {
   calls = record { calls = []; made = refl; are_calls = tt; ordered = λ call e. e; writes = refl; faults = refl; hard = refl };
   begins = λ a. omega (arith, a.some);

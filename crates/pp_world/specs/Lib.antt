@@ -20,3 +20,4 @@ pub mod Shipment
 pub mod Outcome
 pub mod WorldExamples
 pub mod BrokenWorlds
+pub mod OutcomeExample

@@ -6,6 +6,7 @@
 #![tactic(auto)]
 
 ghost use Rattle.pp_world.specs.BrokenWorlds.{BrokenWorlds};
+ghost use Rattle.pp_world.specs.OutcomeExample.{OutcomeExamples};
 ghost use Rattle.pp_world.specs.ScheduleExamples.{SchedulesThatRead, SchedulesThatDont, Rehearses};
 ghost use Rattle.pp_world.specs.ScheduleRead.{SchedulesRead};
 ghost use Rattle.pp_world.specs.WorldExamples.{SmallWorlds, ActExamples, KeptExamples};
@@ -22,11 +23,12 @@ pub fn worked_schedules()
     ensures rehearsal { Rehearses }
 {}
 
-/// A small world of two peers, with its moves; single acts; and a peer that keeps what it announced.
+/// A small world of two peers, with its moves; single acts; a peer that keeps what it announced; and a whole outcome.
 pub fn worked_worlds()
     ensures small { SmallWorlds }
     ensures acts { ActExamples }
     ensures kept { KeptExamples }
+    ensures outcome { OutcomeExamples }
 {}
 
 /// Moves that no peer makes, and worlds that break a promise.
