@@ -9,3 +9,4 @@ pub mod WorldExamples
 pub mod KeptExamples
 pub mod BrokenWorlds
 pub mod OutcomeExample
+pub mod MarkLaws

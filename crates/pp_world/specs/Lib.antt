@@ -21,3 +21,4 @@ pub mod Outcome
 pub mod WorldExamples
 pub mod BrokenWorlds
 pub mod OutcomeExample
+pub mod MarkLaws

@@ -12,7 +12,7 @@ use Rattle.pp_world.specs.Move.{Wait, Make, moves_of_step}
 use Rattle.pp_world.specs.Opening.{FailsToOpen}
 use Rattle.pp_world.specs.Orders.{no_orders}
 use Rattle.pp_world.specs.Outcome.{PeerEnd, IsEndOf, peer_line}
-use Rattle.pp_world.specs.Queue.{queue_after}
+use Rattle.pp_world.specs.Queue.{queue_with, queue_after}
 use Rattle.pp_world.specs.Schedule.{Fetches, Turn, Forge, Crash, Stop, Start, Once, Run, Schedule}
 use Rattle.pp_world.specs.Session.{Mark, Session}
 use Rattle.pp_world.specs.Survival.{AnnouncedSurvives}
@@ -186,13 +186,14 @@ pub record ActExamples : Type 0 where
       ≡ queued 1 (0xab ∷ []) ∷ queued 1 (0xcd ∷ []) ∷ queued 0 second ∷ []
   -- nothing happens to the queue of a peer that doesn't run, but a crash happens to its disk
   pub stays : while_running with_loss stopped_1 ≡ stopped_1
-  pub crashes : (with_crash 0 (record turned_0 { is_running = false })).disk ≡ disk_with (written ++ Crashed (1 ∷ 2 ∷ []) ∷ [])
+  pub crashes : (with_crash 0 (record turned_0 { is_running = false })).disk
+      ≡ disk_with (written ++ Crashed (1 ∷ 2 ∷ []) ∷ [])
   -- what is sent to an address joins that queue alone, the oldest first
   pub joined : queue_after (address_of 0) (address_of 1) records_0 [] ≡ queued 0 greeting ∷ queued 0 second ∷ []
   pub elsewhere : queue_after (address_of 0) (address_of 2) records_0 [] ≡ []
   -- one that is sent while 1,024 wait is lost
-  pub fits : length (queue_after (address_of 0) (address_of 1) (Sent 1 (address_of 1) second ∷ []) (many 1023)) ≡ 1024
-  pub overflows : length (queue_after (address_of 0) (address_of 1) (Sent 1 (address_of 1) second ∷ []) (many 1024)) ≡ 1024
+  pub fits : length (queue_with (address_of 0) (address_of 1) (Sent 1 (address_of 1) second) (many 1023)) ≡ 1024
+  pub overflows : length (queue_with (address_of 0) (address_of 1) (Sent 1 (address_of 1) second) (many 1024)) ≡ 1024
   -- a wait was refused in a turn: no datagram is taken
   pub waits : TakesTurn 20000 deafened [] deafened_after
   -- a write was refused in a turn: the peer stops, and sends nothing
