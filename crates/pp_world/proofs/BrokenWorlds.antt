@@ -14,7 +14,7 @@ use Rattle.pp_terms.specs.tree.Book.{LookUp}
 use Rattle.pp_terms.specs.tree.Tree.{node, height}
 use Rattle.pp_traffic.specs.Life.{IsLife}
 use Rattle.pp_world.proofs.WorldExamples.{is_anothers}
-use Rattle.pp_world.specs.Agreement.{HaveClashed, HasLeftTree, AllBooksAgree}
+use Rattle.pp_world.specs.Agreement.{HaveClashed, ClashesWithTree, AllBooksAgree}
 use Rattle.pp_world.specs.Change.{Acts}
 use Rattle.pp_world.specs.Channel.{IsOpen}
 use Rattle.pp_world.specs.Opening.{Opens, FailsToOpen}
@@ -217,7 +217,7 @@ unfolding height
 no_clash book (zero, k, j, below, clash) = clash
 no_clash book (suc n, k, j, below, clash) = let e : k + suc n ≡ 0 = below.layer in absurd (omega (arith, e))
 
-in_tree : HasLeftTree three (codes "abc") nothing → ⊥
+in_tree : ClashesWithTree three (codes "abc") nothing → ⊥
 unfolding height
 in_tree (zero, k, j, below, clash) = clash
 in_tree (suc n, k, j, below, clash) = let e : k + suc n ≡ 0 = below.layer in absurd (omega (arith, e))

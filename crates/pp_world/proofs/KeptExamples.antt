@@ -92,6 +92,14 @@ unfolding header first_words schedule rounds compress hash_after digest_bytes sh
 held_alone zero lt = refl
 held_alone (suc i) lt = absurd (omega (arith, lt))
 
+closed : is_held abc (header abc ++ codes "abc" ++ replicate 1086 0) 0 ≡ false
+unfolding header first_words schedule rounds compress hash_after digest_bytes sha256 node height
+closed = refl
+
+other : is_held abc (header abc ++ codes "abd" ++ replicate 1085 0 ++ open_gate) 0 ≡ false
+unfolding header first_words schedule rounds compress hash_after digest_bytes sha256 node height
+other = refl
+
 pub kept_examples : KeptExamples
 unfolding leaves_of span_in handshake_at data_at ack_at integrity_at span_at address_at message_at next_message messages_from datagram peer_line digits
 kept_examples = record {
@@ -110,5 +118,7 @@ kept_examples = record {
     (tt, tt),
   );
   numbers = record { lives = refl; announced = refl; size = refl; held = held_alone };
+  closed = closed;
+  other = other;
   said = refl;
 }

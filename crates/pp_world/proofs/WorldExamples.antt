@@ -10,7 +10,7 @@ use Rattle.pp_world.specs.Schedule.{Device, Read, Write, Sync, Send, Receive}
 use Rattle.pp_world.specs.Turn.{TakesTurn}
 use Rattle.pp_world.specs.World.{reads_of, address_of}
 use Rattle.pp_world.specs.Worlds.{swarm_of, idle, empty_disk}
-use Rattle.pp_world.specs.WorldExamples.{small, bare, taught, session_with, opened_peer, forged_0, written, greeting, second, records_0, turned_0, waiting_1, records_1, turned_1, stopped_1, restarted_with, failing, failed, deafened, deafened_after, with_file, failing_sync, SmallWorlds, ActExamples}
+use Rattle.pp_world.specs.WorldExamples.{small, bare, taught, session_with, opened_peer, forged_0, written, greeting, second, records_0, turned_0, waiting_1, records_1, turned_1, stopped_1, restarted_with, failing, failed, ordered, ordered_after, deafened, deafened_after, with_file, failing_sync, SmallWorlds, ActExamples}
 
 pub opening : Opens (swarm_of small) (idle empty_disk) opened_peer
 opening = record {
@@ -144,6 +144,22 @@ failing_turn = record {
   goes_on = inr (refl, refl, omega arith);
 }
 
+unused_turn : TakesTurn 20000 ordered (Quiet 20000 ∷ []) ordered_after
+unused_turn = record {
+  session = session_with bare [] [];
+  earlier = [];
+  was = refl;
+  calls = record { calls = []; made = refl; are_calls = tt; ordered = λ call e. e; writes = refl; faults = refl; hard = refl };
+  sent = [];
+  gained = refl;
+  went = tt;
+  waited = refl;
+  book = bare;
+  is = refl;
+  queue = refl;
+  goes_on = inl refl;
+}
+
 deafened_turn : TakesTurn 20000 deafened [] deafened_after
 deafened_turn = record {
   session = session_with bare [] [];
@@ -206,6 +222,7 @@ act_examples = record {
   crashes = refl;
   fits = refl;
   overflows = refl;
+  unused = unused_turn;
   waits = deafened_turn;
   another = another;
   unsynced = unsynced;

@@ -19,12 +19,12 @@ abbrev pub BooksAgree : Descriptor → (one other : LookUp) → Type 0
 BooksAgree d one other = (n k j : ℕ) (x y : List ℕ) → IsBelow d n k j → one k j ≡ Some x → other k j ≡ Some y
     → (x ≡ y) ⊎ BooksClash one other n k j
 
--- Two books clash above some node; and a book clashes with the tree of a content.
+-- Two books clash above some node of the tree; and a book clashes so with the tree of a content.
 abbrev pub HaveClashed : Descriptor → (one other : LookUp) → Type 0
 HaveClashed d one other = (n : ℕ) × (k : ℕ) × (j : ℕ) × IsBelow d n k j × BooksClash one other n k j
 
-abbrev pub HasLeftTree : Descriptor → (content : List ℕ) → LookUp → Type 0
-HasLeftTree d content book =
+abbrev pub ClashesWithTree : Descriptor → (content : List ℕ) → LookUp → Type 0
+ClashesWithTree d content book =
     (n : ℕ) × (k : ℕ) × (j : ℕ) × IsBelow d n k j
     × PairsClash (pair (leaf_of content d.chunk) (chunks_of d)) book n k j
 

@@ -8,7 +8,7 @@ use Rattle.pp_terms.specs.format.Traffic.{Address, Record, Received, Quiet, Sent
 use Rattle.pp_traffic.specs.Life.{Life, greets, comes_on}
 use Rattle.pp_traffic.specs.Past.{read}
 use Rattle.pp_traffic.specs.Serving.{window_of, AnswersOn}
-use Rattle.pp_world.specs.Agreement.{HaveClashed, HasLeftTree}
+use Rattle.pp_world.specs.Agreement.{HaveClashed, ClashesWithTree}
 use Rattle.pp_world.specs.Channel.{IsOpen, AreEnds}
 use Rattle.pp_world.specs.Session.{Session}
 use Rattle.pp_world.specs.World.{PeerState, World, address_of, reads_of}
@@ -95,7 +95,7 @@ abbrev pub StoresShipments : Descriptor → (content : List ℕ) → (old new : 
 StoresShipments d content old new = (it : Shipment) (life life' : Life) → (out : SentChunk d old it life)
     → (took : TookIn d old new it life') → AreEnds life life'
     → (holds d (reads_of took.after) it.chunk ≡ true) ⊎ ((took.before.hard < took.after.hard)
-    ⊎ (HaveClashed d out.session.book took.session'.book ⊎ HasLeftTree d content out.session.book))
+    ⊎ (HaveClashed d out.session.book took.session'.book ⊎ ClashesWithTree d content out.session.book))
 
 -- Shipments are stored between each world and the next; the newest world stands first.
 abbrev pub DatagramsAreAtomic : Descriptor → (content : List ℕ) → List World → Type 0

@@ -23,14 +23,15 @@ pub record Outlasts (d : Descriptor) (disk : Calls) (later : List Session) (s : 
   pub keeps : Keeps d (disk_since disk s) s.traffic
   pub found : AllByRecursion (FindsAnnounced d disk s) later
 
--- Each of these sessions, the newest first, is kept; the others are later ones.
+-- What each of these sessions announced outlasts it; they stand with the newest first, and the others are later ones.
 abbrev pub AllOutlast : Descriptor → Calls → (later sessions : List Session) → Type 0
 AllOutlast d disk later [] = Unit {0}
 AllOutlast d disk later (s ∷ earlier) = Outlasts d disk later s × AllOutlast d disk (s ∷ later) earlier
 
+-- the same of all sessions of a peer
 abbrev pub KeepsAnnounced : Descriptor → PeerState → Type 0
 KeepsAnnounced d x = AllOutlast d x.disk [] x.sessions
 
--- The sessions of all peers of a world are kept to its end.
+-- What any peer of a world announced survives to the world's end.
 abbrev pub AnnouncedSurvives : Descriptor → World → Type 0
 AnnouncedSurvives d w = AllByRecursion (KeepsAnnounced d) w.peers

@@ -5,13 +5,14 @@ use Rattle.pp_terms.specs.command.Commands.{Sequential, Rarest}
 use Rattle.pp_terms.specs.command.Report.{line}
 use Rattle.pp_terms.specs.disk.Calls.{Did, Wrote, Refused, Synced, Crashed, Calls}
 use Rattle.pp_terms.specs.disk.Image.{known}
+use Rattle.pp_terms.specs.disk.Store.{header, open_gate}
 use Rattle.pp_terms.specs.format.Traffic.{Record, Received, Quiet, Sent}
 use Rattle.pp_terms.specs.tree.Book.{LookUp}
 use Rattle.pp_world.specs.Change.{while_running, with_loss, with_repeat, with_delay, with_forged, with_crash}
 use Rattle.pp_world.specs.Move.{Wait, Make, moves_of_step}
 use Rattle.pp_world.specs.Opening.{FailsToOpen}
 use Rattle.pp_world.specs.Orders.{no_orders}
-use Rattle.pp_world.specs.Outcome.{PeerEnd, IsEndOf, peer_line}
+use Rattle.pp_world.specs.Outcome.{is_held, PeerEnd, IsEndOf, peer_line}
 use Rattle.pp_world.specs.Queue.{queue_with, queue_after}
 use Rattle.pp_world.specs.Schedule.{Fetches, Turn, Forge, Crash, Stop, Start, Once, Run, Schedule}
 use Rattle.pp_world.specs.Session.{Mark, Session}
@@ -155,6 +156,13 @@ failed = record (peer_with (disk_with (Refused 0 (1 ∷ []) ∷ [])) []
     (session_with bare (record { calls = 1; faults = 1; hard = 1; records = 1 } ∷ []) (Quiet 20000 ∷ []) ∷ []))
     { faults = 1; hard = 1; is_running = false }
 
+-- a sync of this peer is to fail; and the peer after a turn in which it made none
+abbrev pub ordered : PeerState
+ordered = record opened_peer { orders = record no_orders { sync = true } }
+
+abbrev pub ordered_after : PeerState
+ordered_after = record ordered { sessions = session_with bare (mark 0 1 ∷ []) (Quiet 20000 ∷ []) ∷ [] }
+
 -- a wait of this peer is to fail; and the peer after a turn in which it did
 abbrev pub deafened : PeerState
 deafened = record forged_0 { orders = record no_orders { receive = true } }
@@ -194,6 +202,8 @@ pub record ActExamples : Type 0 where
   -- one that is sent while 1,024 wait is lost
   pub fits : length (queue_with (address_of 0) (address_of 1) (Sent 1 (address_of 1) second) (many 1023)) ≡ 1024
   pub overflows : length (queue_with (address_of 0) (address_of 1) (Sent 1 (address_of 1) second) (many 1024)) ≡ 1024
+  -- an order that isn't used stands on, and isn't counted
+  pub unused : TakesTurn 20000 ordered (Quiet 20000 ∷ []) ordered_after
   -- a wait was refused in a turn: no datagram is taken
   pub waits : TakesTurn 20000 deafened [] deafened_after
   -- a write was refused in a turn: the peer stops, and sends nothing
@@ -227,5 +237,8 @@ pub record KeptExamples : Type 0 where
   pub survives : AnnouncedSurvives abc (world 0 keeper (idle empty_disk))
   -- two openings; one chunk, announced twice and counted once, which is held
   pub numbers : IsEndOf abc (end_of keeper 2 1 (true ∷ []))
+  -- no chunk is held behind a closed gate, nor where its bytes are others
+  pub closed : is_held abc (header abc ++ codes "abc" ++ replicate 1086 0) 0 ≡ false
+  pub other : is_held abc (header abc ++ codes "abd" ++ replicate 1085 0 ++ open_gate) 0 ≡ false
   pub said : peer_line 0 (end_of keeper 2 1 (true ∷ [])) (record { first = 0; last = 0 } ∷ [])
       ≡ line (codes "peer 0 lives 2 announced 1 held 0-0")
