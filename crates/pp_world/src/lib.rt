@@ -22,7 +22,8 @@ pub fn laws_of_marks()
     ensures { MarkLaws }
 {}
 
-/// Texts of schedules: those that are read, those that aren't, each with its first faulty line and what is wrong there; and a rehearsal.
+/// Texts of schedules: those that are read, those that aren't, each with its first faulty line and what is wrong there;
+/// and a rehearsal.
 pub fn worked_schedules()
     ensures read { SchedulesThatRead }
     ensures refused { SchedulesThatDont }
