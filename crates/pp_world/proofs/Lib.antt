@@ -5,3 +5,8 @@ pub mod Steps
 pub mod Roles
 pub mod Contents
 pub mod Texts
+pub mod WorldExamples
+pub mod KeptExamples
+pub mod BrokenWorlds
+pub mod OutcomeExample
+pub mod MarkLaws
