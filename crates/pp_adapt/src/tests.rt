@@ -371,6 +371,29 @@ fn sends_to_its_own_socket(rt: HostRuntime) -> Result<(), Fail> {
     Ok(())
 }
 
+// Whether a wait of an hour behind a datagram ends.
+fn ends_a_burst(
+    rt: &HostRuntime,
+    link: &mut impl Link,
+    own: &Address,
+    buffer: &mut [u8],
+) -> Result<bool, LinkFault>
+    requires { 65536 ≤ length buffer.old }
+{
+    let came = sends_itself(rt, link, own, buffer)?;
+    let event = link.next(3_600_000_000, buffer)?;
+    Ok(came && matches!(event, Event::Quiet { .. }))
+}
+
+#[test]
+fn a_wait_behind_a_datagram_is_short(rt: HostRuntime) -> Result<(), Fail> {
+    let own = Address::V4([127, 0, 0, 1], free_port(&rt)?);
+    let mut buffer = room(rt.alloc())?;
+    let ended = ends_a_burst(&rt, &mut UdpLink::new(&rt), &own, &mut buffer);
+    assert_eq!(rt; ended, Ok(true));
+    Ok(())
+}
+
 // Whether it refuses to wait without a socket, whether it waits with one, and whether that refuses an address of the other
 // family.
 fn refusals(

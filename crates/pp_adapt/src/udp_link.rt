@@ -15,6 +15,9 @@ use std::net::{IpAddr, Ipv4Addr, Ipv6Addr, Net, SocketAddr, UdpSocket};
 use std::os::fd::AsRawFd;
 use std::time::{Clock, Duration, Instant};
 
+// How long a wait lasts at most behind a datagram, in microseconds. The system rounds it up to a tick of its clock, some milliseconds.
+const BURST_US: u64 = 1_000;
+
 /// A link over one UDP socket of the system, for peers of the family of the address that it is bound to.
 #[derive(Drop)]
 pub struct UdpLink<R: Net + Clock> {
@@ -35,6 +38,8 @@ struct Bound {
     listen: Address,
     // for how long a reading waits at most, in microseconds, once that was set
     limit_us: Option<u64>,
+    // the last wait brought a datagram
+    in_burst: bool,
 }
 
 impl<R: Net + Clock> Model for UdpLink<R> {
@@ -137,6 +142,7 @@ fn open(net: &impl Net, listen: &Address) -> io::Result<Bound>
         socket,
         listen: *listen,
         limit_us: None,
+        in_burst: false,
     })
 }
 
@@ -213,8 +219,11 @@ impl<R: Net + Clock> UdpLink<R> {
         let Some(bound) = &mut self.bound else {
             return Err(ErrorKind::NotConnected.into());
         };
-        bound.limit(limit_us)?;
+        // Behind a datagram the end of the burst is told soon, so that what it brought can be committed.
+        let burst_us = if bound.in_burst { BURST_US } else { u64::MAX };
+        bound.limit(limit_us.min(burst_us))?;
         let found = bound.receive(buffer)?;
+        bound.in_burst = found.is_some();
         let now = micros_since(&self.system, &self.made)?;
         // The system's clock never falls; this doesn't rest on it.
         self.moment = self.moment.max(now);
@@ -249,8 +258,8 @@ impl<R: Net + Clock> Link for UdpLink<R> {
         }
     }
 
-    /// A wait that a signal cut short brought no datagram. `at` is in microseconds since the link was made, and never
-    /// falls.
+    /// A wait that a signal cut short brought no datagram, and one behind a datagram ends after some milliseconds: a burst is
+    /// over then. `at` is in microseconds since the link was made, and never falls.
     fn next(&mut self, limit_us: u64, buffer: &mut [u8]) -> Result<Event, LinkFault>
         requires { 65536 ≤ length buffer.old }
         ensures does { DoesNext (silent_link self.old) buffer.new result (silent_link self.new) }
