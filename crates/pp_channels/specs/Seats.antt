@@ -31,7 +31,7 @@ IsUsed s seat = IsSome (channel_at s seat)
 abbrev pub used_of : Seats → ℕ
 used_of s = count_by is_some s.channels
 
--- it is, and is one of the 64
+-- the seat is one of the 64, and in use
 abbrev pub IsUsedSeat : Seats → ℕ → Type 0
 IsUsedSeat s seat = (seat < 64) × IsUsed s seat
 

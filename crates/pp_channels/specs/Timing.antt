@@ -1,5 +1,5 @@
 -- The timers of a channel, in microseconds: those of this profile.
-use Rattle.std.specs.Prelude.{ℕ, ◌-◌, ◌==◌, nat_le, Bool, true, false, ◌&&◌, ◌||◌, Option, Some, None}
+use Rattle.std.specs.Prelude.{ℕ, ◌-◌, ◌==◌, nat_le, nat_lt, Bool, true, false, ◌&&◌, ◌||◌, Option, Some, None}
 use Rattle.pp_channels.specs.declared.channel.State.{State}
 use Rattle.pp_channels.specs.declared.channel.State.TheVariants.{Greeted, Proven}
 use Rattle.pp_channels.specs.declared.channel.Reply.{Reply}
@@ -7,9 +7,10 @@ use Rattle.pp_channels.specs.declared.channel.Reply.TheVariants.{Due, Sent, DueA
 use Rattle.pp_channels.specs.declared.channel.Opening.{Opening}
 use Rattle.pp_channels.specs.declared.channel.Opening.TheVariants.{Dialled, Answered}
 use Rattle.pp_channels.specs.declared.channel.Channel.{Channel}
+use Rattle.pp_channels.specs.Seats.{is_dialled}
 
--- A handshake is due so long after the channel was made: of a dialled one the first at once, the second after 3 seconds
--- and the third after 6; of an answered one the reply, until it is sent.
+-- A handshake is due so long after the channel was made: of a dialled one the first at once, the second after 3 seconds, the third
+-- after 6; of an answered one the reply, until it is sent.
 abbrev pub is_due : Reply → Bool
 is_due Due = true
 is_due Sent = false
@@ -27,9 +28,14 @@ is_greeted Proven = false
 abbrev pub handshake_due : ℕ → Channel → Bool
 handshake_due moment c = is_greeted c.state && is_opening_due c.opening (moment - c.made)
 
--- nothing went for 120 seconds
+-- A dialled channel is young for 15 seconds. Its peer drops it ten seconds after the handshake that made it, which may be the last of
+-- three, unless a datagram comes behind the reply.
+abbrev pub is_young : ℕ → Channel → Bool
+is_young moment c = is_dialled c.opening && nat_lt (moment - c.made) 15_000_000
+
+-- nothing went for 120 seconds; or for 3 on a channel that is young
 abbrev pub is_silent : ℕ → Channel → Bool
-is_silent moment c = nat_le 120_000_000 (moment - c.wrote)
+is_silent moment c = nat_le 120_000_000 (moment - c.wrote) || (is_young moment c && nat_le 3_000_000 (moment - c.wrote))
 
 -- The time of a channel is over: 10 seconds after it was made where it is Greeted, 180 seconds after something last came
 -- where it is Proven.

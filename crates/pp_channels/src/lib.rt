@@ -14,6 +14,3 @@ pub use agreeing::{Mismatch, check};
 pub use channel::State;
 pub use channels::Channels;
 pub use supporting::takes;
-
-#[cfg(test)]
-mod tests;

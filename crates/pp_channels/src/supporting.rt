@@ -24,32 +24,3 @@ fn is_set(bitmap: &[u8], kind: u8) -> bool
     let place = usize::from(kind / 8);
     place < bitmap.len() && (bitmap[place] >> (7 - kind % 8)) & 1 == 1
 }
-
-#[cfg(test)]
-mod tests {
-    use super::*;
-    use pp_options::read;
-    use std::test::Fail;
-
-    #[test]
-    fn withholds_what_isnt_taken(rt: HostRuntime) -> Result<(), Fail> {
-        // No option 8; that of this peer, which takes all of types 0 to 6 and 8 to 12; without 6 and 12; a bitmap of one byte.
-        let (silent, _) = read(&[255])?;
-        let (all, _) = read(&[8, 2, 0xfe, 0xf8, 255])?;
-        let (without, _) = read(&[8, 2, 0xfc, 0xf0, 255])?;
-        let (short, _) = read(&[8, 1, 0x02, 255])?;
-        for (options, six, seven, twelve) in [
-            (silent, true, true, true),
-            (all, true, false, true),
-            (without, false, false, false),
-            (short, true, false, false),
-        ] {
-            assert_eq!(rt; takes(&options, 6), six);
-            assert_eq!(rt; takes(&options, 7), seven);
-            assert_eq!(rt; takes(&options, 12), twelve);
-        }
-        assert!(rt; takes(&without, 11));
-        assert!(rt; !takes(&without, 255));
-        Ok(())
-    }
-}

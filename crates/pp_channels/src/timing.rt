@@ -1,7 +1,7 @@
 //! The timers of a channel.
 
 ghost use Rattle.std.specs.Prelude.{◌≡◌};
-ghost use Rattle.pp_channels.specs.Timing.{handshake_due, is_opening_due, is_silent, is_over};
+ghost use Rattle.pp_channels.specs.Timing.{handshake_due, is_opening_due, is_young, is_silent, is_over};
 
 use crate::channel::{Channel, Opening, State};
 
@@ -19,6 +19,11 @@ const PROVEN_LASTS: u64 = 180 * SECOND;
 
 // After how long a channel is silent.
 const SILENCE: u64 = 120 * SECOND;
+
+// How long a dialled channel is young, and after how long such a one is silent.
+const YOUTH: u64 = 15 * SECOND;
+
+const YOUNG_SILENCE: u64 = 3 * SECOND;
 
 fn is_opening_due(opening: Opening, age: u64) -> bool
     ensures { result ≡ is_opening_due opening age }
@@ -44,11 +49,19 @@ pub(crate) fn handshake_due(channel: Channel, now: u64) -> bool
     }
 }
 
+// Whether its peer may still drop a dialled channel, since nothing came there behind the reply.
+fn is_young(channel: Channel, now: u64) -> bool
+    ensures { result ≡ is_young now channel }
+{
+    channel.opening.is_dialled() && now.saturating_sub(channel.made) < YOUTH
+}
+
 /// Whether nothing went for so long that a keep-alive is due.
 pub(crate) fn is_silent(channel: Channel, now: u64) -> bool
     ensures { result ≡ is_silent now channel }
 {
-    now.saturating_sub(channel.wrote) >= SILENCE
+    let silence = now.saturating_sub(channel.wrote);
+    silence >= SILENCE || (is_young(channel, now) && silence >= YOUNG_SILENCE)
 }
 
 /// Whether the time of a channel is over.

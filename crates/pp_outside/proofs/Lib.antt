@@ -5,3 +5,4 @@ pub mod Replays
 pub mod Telling
 pub mod Written
 pub mod Zeros
+pub mod CallCounts

@@ -14,3 +14,4 @@ pub mod MemorySink
 pub mod LyingDisk
 pub mod NullDisk
 pub mod ZeroSource
+pub mod CallCount

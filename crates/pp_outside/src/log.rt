@@ -3,6 +3,7 @@ ghost use Rattle.std.specs.Prelude.{◌≡◌, ◌+◌, ◌^◌, ◌≤◌, [], 
 ghost use Rattle.pp_terms.specs.disk.Calls.{history_of, crash_image, crash_from, attached};
 ghost use Rattle.pp_terms.specs.disk.Calls as calls;
 ghost use Rattle.pp_terms.specs.disk.Disk.{after_write, settled, pends, moment_of};
+ghost use Rattle.pp_outside.specs.CallCount.{calls_in};
 ghost use Rattle.pp_outside.specs.Steps.{did_of, write_of, tear_of, writes_of, IsPlaced};
 
 use crate::bytes::write_over;
@@ -86,6 +87,13 @@ impl Log {
         ensures { result ≡ moment_of (history_of self.now) }
     {
         self.moment
+    }
+
+    // How many calls changed what is on the disk.
+    pub(crate) fn calls(&self) -> usize
+        ensures { result ≡ calls_in (history_of self.now) }
+    {
+        self.steps.len()
     }
 
     pub(crate) fn attach(&mut self)

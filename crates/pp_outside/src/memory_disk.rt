@@ -25,6 +25,7 @@ impl MemoryDisk {
     ghost use Rattle.pp_outside.specs.Orders.{is_disk_call};
     ghost use Rattle.pp_outside.specs.MemoryDisk.{state_of, is_ordered, is_short};
     ghost use Rattle.pp_outside.specs.Faults.{one_more};
+    ghost use Rattle.pp_outside.specs.CallCount.{calls_in};
 
     /// A disk with this image, all of it settled.
     pub fn new(alloc: Global, image: &[u8]) -> Result<MemoryDisk, AllocError>
@@ -89,6 +90,13 @@ impl MemoryDisk {
         ensures { result ≡ moment_of (state_of self.now).history }
     {
         self.log.moment()
+    }
+
+    /// How many calls changed what is on the disk: writes, done or refused on order, syncs and crashes.
+    pub fn calls(&self) -> usize
+        ensures { result ≡ calls_in (state_of self.now).history }
+    {
+        self.log.calls()
     }
 
     /// Whether a call found no memory for what it was to keep.
@@ -205,6 +213,3 @@ fn copy_from(bytes: &[u8], place: usize, into: &mut [u8])
     into[..some].copy_from_slice(&rest[..some]);
     into[some..].fill(0);
 }
-
-#[cfg(test)]
-mod tests;

@@ -206,6 +206,3 @@ impl Link for MemoryLink {
         Ok(())
     }
 }
-
-#[cfg(test)]
-mod tests;

@@ -67,20 +67,3 @@ impl Sink for MemorySink {
         Ok(bytes.len())
     }
 }
-
-#[cfg(test)]
-mod tests {
-    use super::*;
-    use std::test::Fail;
-
-    #[test]
-    fn refuses_once_on_order(rt: HostRuntime) -> Result<(), Fail> {
-        let mut sink = MemorySink::new(rt.alloc());
-        assert_eq!(rt; sink.write(&[1, 2]), Ok(2));
-        sink.fail_next();
-        assert_eq!(rt; sink.write(&[3]), Err(SinkFault));
-        assert_eq!(rt; sink.write(&[4]), Ok(1));
-        assert_eq!(rt; sink.bytes(), [1, 2, 4].as_slice());
-        Ok(())
-    }
-}

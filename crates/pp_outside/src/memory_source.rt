@@ -66,34 +66,3 @@ impl<'a> Source for MemorySource<'a> {
         Ok(count)
     }
 }
-
-#[cfg(test)]
-mod tests {
-    use super::*;
-    use std::test::Fail;
-
-    #[test]
-    fn gives_its_bytes_in_pieces(rt: HostRuntime) -> Result<(), Fail> {
-        let mut source = MemorySource::new(&[1, 2, 3]);
-        let mut into = [0; 2];
-        assert_eq!(rt; source.read(&mut into), Ok(2));
-        assert_eq!(rt; into, [1, 2]);
-        assert_eq!(rt; source.read(&mut []), Ok(0));
-        assert_eq!(rt; source.read(&mut into), Ok(1));
-        assert_eq!(rt; into, [3, 2]);
-        assert_eq!(rt; source.read(&mut into), Ok(0));
-        Ok(())
-    }
-
-    #[test]
-    fn fails_at_its_end(rt: HostRuntime) -> Result<(), Fail> {
-        let mut source = MemorySource::failing(&[1]);
-        let mut into = [0; 2];
-        assert_eq!(rt; source.read(&mut into), Ok(1));
-        for _ in 0..2 {
-            assert_eq!(rt; source.read(&mut into), Err(SourceFault));
-        }
-        assert_eq!(rt; source.read(&mut []), Ok(0));
-        Ok(())
-    }
-}

@@ -80,25 +80,3 @@ impl Disk for NullDisk {
         0
     }
 }
-
-#[cfg(test)]
-mod tests {
-    use super::*;
-    use std::test::Fail;
-
-    #[test]
-    fn keeps_its_greatest_end(rt: HostRuntime) -> Result<(), Fail> {
-        let mut disk = NullDisk::new();
-        assert_eq!(rt; disk.attach("any"), Ok(()));
-        assert_eq!(rt; disk.len(), Ok(0));
-        assert_eq!(rt; disk.write_at(10, &[1, 2, 3]), Ok(()));
-        assert_eq!(rt; disk.write_at(1, &[4]), Ok(()));
-        assert_eq!(rt; disk.len(), Ok(13));
-        let mut into = [7; 4];
-        assert_eq!(rt; disk.read_at(9, &mut into), Ok(()));
-        assert_eq!(rt; into, [0; 4]);
-        assert_eq!(rt; disk.sync(), Ok(()));
-        assert_eq!(rt; disk.moment(), 0);
-        Ok(())
-    }
-}

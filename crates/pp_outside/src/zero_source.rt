@@ -40,23 +40,3 @@ impl Source for ZeroSource {
         Ok(count)
     }
 }
-
-#[cfg(test)]
-mod tests {
-    use super::*;
-    use std::test::Fail;
-
-    #[test]
-    fn gives_zeros_and_ends(rt: HostRuntime) -> Result<(), Fail> {
-        let mut source = ZeroSource::new(3);
-        let mut into = [7; 2];
-        assert_eq!(rt; source.read(&mut into), Ok(2));
-        assert_eq!(rt; into, [0, 0]);
-        into = [7; 2];
-        assert_eq!(rt; source.read(&mut []), Ok(0));
-        assert_eq!(rt; source.read(&mut into), Ok(1));
-        assert_eq!(rt; into, [0, 7]);
-        assert_eq!(rt; source.read(&mut into), Ok(0));
-        Ok(())
-    }
-}

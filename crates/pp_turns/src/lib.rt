@@ -4,7 +4,4 @@
 
 mod turning;
 
-pub use turning::{take_turn, take_turns};
-
-#[cfg(test)]
-mod tests;
+pub use turning::{hear, take_turn, take_turns};

@@ -1,13 +1,15 @@
 //! The turns of a peer.
 
-ghost use Rattle.std.specs.Prelude.{◌≡◌, true, length, MatchBool};
-ghost use Rattle.pp_outside.specs.Outside.{size_of};
+ghost use Rattle.std.specs.Prelude.{◌≡◌, true, length, MatchBool, IfOk, OnOk};
+ghost use Rattle.pp_terms.specs.Count.{HasCause};
+ghost use Rattle.pp_terms.specs.format.Traffic.{LinkState};
+ghost use Rattle.pp_outside.specs.Outside.{size_of, FitsIn, DoesNext};
 ghost use Rattle.pp_peer.specs.Standing.{Beginning};
 ghost use Rattle.pp_turns.specs.Taking.{TakesTurn, Waits, TurnsEnd, HasAll, LacksSome};
 ghost use Rattle.pp_turns.specs.Turning.{post, IsBegun};
 
 use pp_core::Peer;
-use pp_outside::{Disk, DiskFault, Event, Link};
+use pp_outside::{Disk, DiskFault, Event, Link, LinkFault};
 
 /// How long a turn waits, in microseconds.
 const WAIT_US: u64 = 100_000;
@@ -55,22 +57,30 @@ pub fn take_turn<D: Disk, L: Link>(
     requires room { length buffer.old ≡ 65536 }
     ensures { TakesTurn (post peer.old (D.state disk.old) (L.seen link.old)) (post peer.new (D.state disk.new) (L.seen link.new)) result }
 {
-    wait(peer, buffer, disk, link)?;
+    let came = link.next(WAIT_US, buffer);
+    hear(peer, came, buffer, disk)?;
     peer.flush(disk, link);
     Ok(())
 }
 
-// Waits once for a datagram and takes it. A wait that is refused is counted.
-fn wait<D: Disk, L: Link>(
+/// Takes what a wait came to: the event, whose bytes are at the front of the buffer; a wait that the link refused is counted. The buffer has
+/// 65,536 bytes. After a fault of the disk the peer isn't live.
+pub fn hear<D: Disk>(
     peer: &mut Peer,
-    buffer: &mut [u8],
+    came: Result<Event, LinkFault>,
+    buffer: &[u8],
     disk: &mut D,
-    link: &mut L,
 ) -> Result<(), DiskFault>
-    requires room { length buffer.old ≡ 65536 }
-    ensures { Waits (post peer.old (D.state disk.old) (L.seen link.old)) (post peer.new (D.state disk.new) (L.seen link.new)) result }
+    requires room { length buffer.now ≡ 65536 }
+    requires fits { IfOk came (λ event. FitsIn event buffer.now) }
+    // Over each link on which that was what a wait came to it is the first half of a turn.
+    ensures waits { (old new : LinkState) → DoesNext old buffer.now came new
+        → Waits (post peer.old (D.state disk.old) old) (post peer.new (D.state disk.new) new) result }
+    // Only where the disk refused a write or a sync it answers a fault.
+    ensures cause { peer.old.parts.holding.store.live ≡ true → HasCause (D.state disk.old).hard (D.state disk.new).hard result }
+    ensures live { peer.old.parts.holding.store.live ≡ true → OnOk result (peer.new.parts.holding.store.live ≡ true) }
 {
-    match link.next(WAIT_US, buffer) {
+    match came {
         Ok(event) => peer.absorb(&event, &buffer[..size(&event)], disk),
         Err(_) => {
             peer.refused();

@@ -1,0 +1,4 @@
+pub mod Letters
+pub mod Kept
+pub mod Delivered
+pub mod Peers

@@ -1,0 +1,37 @@
+use Rattle.std.proofs.Common.{ap, take, refl, subst, Result}
+use Rattle.pp_terms.specs.format.Traffic.{LinkState}
+use Rattle.pp_outside.specs.Outside.{DoesNext}
+use Rattle.pp_outside.specs.declared.link.Event.{Event}
+use Rattle.pp_outside.specs.declared.link.LinkFault.{LinkFault}
+use Rattle.pp_core.specs.Peers.{PeerState}
+use Rattle.pp_turns.specs.Turning.{Post, post}
+use Rattle.pp_turns.proofs.Steps.{bytes_fit, gained_event}
+use Rattle.pp_turns.proofs.Turned.{waits_event, waits_refused}
+use Rattle.pp_turns.proofs.turning.hear.Goals as goal
+
+pub returns-in-Ok-clause-waits : goal.returns-in-Ok-clause-waits
+returns-in-Ok-clause-waits g c link link' does =
+    let next = subst (λ (r : Result Event LinkFault). DoesNext {E = LinkFault} link c.args.buffer.now r link') c.in-Ok.is does in
+    let old : Post = post c.args.peer.now (g.D.Disk.state c.args.disk.now) link in
+    let new : Post = post c.absorb.new.self (g.D.Disk.state c.absorb.new.disk) link' in
+    waits_event c.in-Ok.event (take c.size.result c.args.buffer.now) old new c.absorb.result
+    (bytes_fit c.in-Ok.event c.args.buffer.now c.size.result old new c.size.ensures c.requires.room next.fits)
+    (ap (λ (p : PeerState). p.dials) c.absorb.ensures.rest)
+    (record {
+      gained = gained_event c.in-Ok.event c.args.buffer.now c.size.result old new c.size.ensures c.requires.room next.fits next.gained;
+      nexts = next.nexts;
+      bound = next.bound;
+      later = next.cause.later;
+      advanced = c.absorb.ensures.advanced;
+      ledger = c.absorb.ensures.ledger;
+      keeps = c.absorb.ensures.keeps;
+    }) c.absorb.ensures.exact c.absorb.ensures.stands c.absorb.ensures.proves c.absorb.ensures.wrote c.absorb.ensures.unchoked
+    c.absorb.ensures.told c.absorb.ensures.acks c.absorb.ensures.offers c.absorb.ensures.live c.absorb.ensures.cause
+
+pub returns-in-Err-clause-waits : goal.returns-in-Err-clause-waits
+returns-in-Err-clause-waits g c link link' does =
+    let next = subst (λ (r : Result Event LinkFault). DoesNext {E = LinkFault} link c.args.buffer.now r link') c.in-Err.is does in
+    let old : Post = post c.args.peer.now (g.D.Disk.state c.args.disk.now) link in
+    let new : Post = post c.refused.new.self (g.D.Disk.state c.args.disk.now) link' in
+    waits_refused old new tt c.refused.ensures.exact refl next.refused next.nexts next.bound
+    next.cause.later (next.cause.risen refl) c.refused.ensures.stands
