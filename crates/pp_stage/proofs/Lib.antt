@@ -1,0 +1,4 @@
+pub mod Acts
+pub mod Fills
+pub mod Opens
+pub mod Taken
