@@ -5,18 +5,20 @@ use Rattle.pp_terms.specs.disk.Disk.{Write, DiskState, IsImage, fresh}
 use Rattle.pp_adapt.specs.Counts.{raised}
 use Rattle.pp_adapt.specs.Gathered.{IsFree, IsGatheredOver}
 
--- Whether a store is attached; whether a sync of it or a gathered write was refused since it was; the writes that are
--- gathered, and aren't in the file yet; and how often a call was refused: all calls, and those but `read_at`.
+-- Whether a store is attached; whether a sync of it or a gathered write was refused since it was; whether the system
+-- gave it for reading alone; the writes that are gathered, and aren't in the file yet; and how often a call was
+-- refused: all calls, and those but `read_at`.
 pub record FileState : Type 0 where
   pub is_attached : Bool
   pub is_lost : Bool
+  pub is_sealed : Bool
   pub gathered : List Write
   pub faults : ℕ
   pub hard : ℕ
 
 -- before the first attachment
 abbrev pub unattached : FileState
-unattached = record { is_attached = false; is_lost = false; gathered = []; faults = 0; hard = 0 }
+unattached = record { is_attached = false; is_lost = false; is_sealed = false; gathered = []; faults = 0; hard = 0 }
 
 -- It has a store, and no sync of it or gathered write was refused.
 abbrev pub IsLive : FileState → Type 0

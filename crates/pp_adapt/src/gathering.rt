@@ -162,6 +162,3 @@ impl Gathering {
         Ok(())
     }
 }
-
-#[cfg(test)]
-mod tests;

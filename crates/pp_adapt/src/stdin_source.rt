@@ -21,6 +21,8 @@ const PIECE: usize = 65536;
 pub struct StdinSource<R: Read> {
     reader: BufReader<R>,
     faults: u64,
+    // why a read was first refused, which contracts don't see
+    cause: Option<io::Error>,
 }
 
 impl<R: Read> Model for StdinSource<R> {
@@ -36,7 +38,11 @@ impl<R: Read + Drop> StdinSource<R> {
         ensures faults { IfOk result (λ source. source.faults ≡ 0) }
     {
         match BufReader::with_capacity(alloc, PIECE, reader) {
-            Ok(reader) => Ok(StdinSource { reader, faults: 0 }),
+            Ok(reader) => Ok(StdinSource {
+                reader,
+                faults: 0,
+                cause: None,
+            }),
             Err(_) => Err(AllocError),
         }
     }
@@ -46,7 +52,11 @@ impl<R: Read + Drop> StdinSource<R> {
         ensures { result.faults ≡ 0 }
     {
         let reader = BufReader::with_capacity(alloc, 0, reader).unwrap();
-        StdinSource { reader, faults: 0 }
+        StdinSource {
+            reader,
+            faults: 0,
+            cause: None,
+        }
     }
 
     /// How many reads it refused, up to the greatest `u64`.
@@ -54,6 +64,11 @@ impl<R: Read + Drop> StdinSource<R> {
         ensures { result ≡ self.now.faults }
     {
         self.faults
+    }
+
+    /// Why it first refused a read.
+    pub fn cause(&self) -> Option<io::Error> {
+        self.cause
     }
 }
 
@@ -83,8 +98,11 @@ impl<R: Read> Source for StdinSource<R> {
     {
         match read_some(&mut self.reader, into) {
             Ok(n) => Ok(n),
-            Err(_) => {
+            Err(error) => {
                 self.faults = self.faults.saturating_add(1);
+                if self.cause.is_none() {
+                    self.cause = Some(error);
+                }
                 Err(SourceFault)
             }
         }

@@ -1,5 +1,5 @@
 // A sink over a writer.
-ghost use Rattle.std.specs.Prelude.{◌≡◌, ◌<◌, length, IfOk, OnOk, OnErr};
+ghost use Rattle.std.specs.Prelude.{◌≡◌, ◌^◌, ◌<◌, length, IfOk, OnOk, OnErr};
 ghost use Rattle.std.specs.Io.{WritesAtMost};
 ghost use Rattle.std.specs.Io.KnownBytes.{WriteAppends};
 ghost use Rattle.pp_terms.specs.command.Stream.{SinkState, DoesGive};
@@ -9,13 +9,16 @@ use pp_outside::{Sink, SinkFault};
 use std::io::{self, ErrorKind, Write};
 use std::marker::Model;
 
-/// A sink over a writer, such as standard output, which it writes to at once.
+/// A sink over a writer, such as standard output, which it writes to at once. What the writer itself keeps back goes out at
+/// a call of `flush`.
 ///
 /// Contracts see the bytes that the writer took, where it tells them. As a sink it tells none.
 #[derive(Drop)]
 pub struct StdoutSink<W: Write> {
     writer: W,
     faults: u64,
+    // why a write was first refused, which contracts don't see
+    cause: Option<io::Error>,
 }
 
 impl<W: Write> Model for StdoutSink<W> {
@@ -25,12 +28,15 @@ impl<W: Write> Model for StdoutSink<W> {
 }
 
 impl<W: Write> StdoutSink<W> {
-    /// The writer is to keep nothing back, since the sink never flushes it.
     pub fn new(writer: W) -> Self
         ensures taken { result.taken ≡ W.contents writer }
         ensures faults { result.faults ≡ 0 }
     {
-        StdoutSink { writer, faults: 0 }
+        StdoutSink {
+            writer,
+            faults: 0,
+            cause: None,
+        }
     }
 
     /// How many writes it refused, up to the greatest `u64`.
@@ -38,6 +44,33 @@ impl<W: Write> StdoutSink<W> {
         ensures { result ≡ self.now.faults }
     {
         self.faults
+    }
+
+    /// Why it first refused a write.
+    pub fn cause(&self) -> Option<io::Error> {
+        self.cause
+    }
+
+    /// Has the writer write what it keeps back.
+    pub fn flush(&mut self) -> Result<(), SinkFault>
+        ensures ok { OnOk result (self.new.faults ≡ self.old.faults) }
+        ensures err { OnErr result (self.new.faults ≡ raised self.old.faults) }
+    {
+        match self.writer.flush() {
+            Ok(()) => Ok(()),
+            Err(error) => Err(self.refuse(error)),
+        }
+    }
+
+    fn refuse(&mut self, error: io::Error) -> SinkFault
+        ensures state { self.new ≡ record self.old { faults = raised self.old.faults } }
+        ensures fits { self.old.faults < 2 ^ 64 }
+    {
+        self.faults = self.faults.saturating_add(1);
+        if self.cause.is_none() {
+            self.cause = Some(error);
+        }
+        SinkFault
     }
 }
 
@@ -69,10 +102,7 @@ impl<W: Write> Sink for StdoutSink<W> {
     {
         match write_some(&mut self.writer, bytes) {
             Ok(n) => Ok(n),
-            Err(_) => {
-                self.faults = self.faults.saturating_add(1);
-                Err(SinkFault)
-            }
+            Err(error) => Err(self.refuse(error)),
         }
     }
 }

@@ -7,6 +7,8 @@ ghost use Rattle.pp_outside.specs.Outside.{FitsIn, DoesBind, DoesNext, DoesSend}
 ghost use Rattle.pp_adapt.specs.Counts.{raised};
 ghost use Rattle.pp_adapt.specs.UdpState.{UdpState, unbound, with_refused_call, silent_link, named, IsSameFamily, Reaches, moment_of_event};
 
+use crate::cause::{Cause, Step};
+use crate::meter::{LinkMeter, Stream, is_terminal, micros_since};
 use libc::net;
 use pp_outside::{Address, Disk, Event, Link, LinkFault};
 use std::io::{self, ErrorKind};
@@ -19,8 +21,10 @@ use std::time::{Clock, Duration, Instant};
 const BURST_US: u64 = 1_000;
 
 /// A link over one UDP socket of the system, for peers of the family of the address that it is bound to.
+///
+/// While standard error is a terminal, it says there at which address it listens, and how much came and went.
 #[derive(Drop)]
-pub struct UdpLink<R: Net + Clock> {
+pub struct UdpLink<R: Net + Clock + Eprint> {
     system: R,
     // when the link was made, where the clock told
     made: Option<Instant>,
@@ -29,6 +33,10 @@ pub struct UdpLink<R: Net + Clock> {
     moment: u64,
     faults: u64,
     nexts: u64,
+    // why a call was first refused since the last one of `bind`, which contracts don't see
+    cause: Option<Cause>,
+    // what passed, where a person sees it; contracts don't
+    meter: Option<LinkMeter>,
 }
 
 // The open socket.
@@ -42,19 +50,24 @@ struct Bound {
     in_burst: bool,
 }
 
-impl<R: Net + Clock> Model for UdpLink<R> {
+impl<R: Net + Clock + Eprint> Model for UdpLink<R> {
     ghost Value = { UdpState };
 
     ghost view = { λ u. record { listen = option_map (λ b. b.listen) u.bound; moment = u.moment; faults = u.faults; nexts = u.nexts } };
 }
 
-impl<R: Net + Clock> UdpLink<R> {
+impl<R: Net + Clock + Eprint> UdpLink<R> {
     /// A link that is not bound, which refuses each call but `bind` until it is. It opens nothing. Its moments count
     /// from now.
     pub fn new(system: R) -> Self
         ensures { result ≡ unbound }
     {
         let made = Instant::now(&system).ok();
+        let meter = if is_terminal(Stream::Error) {
+            Some(LinkMeter::new())
+        } else {
+            None
+        };
         UdpLink {
             system,
             made,
@@ -62,6 +75,8 @@ impl<R: Net + Clock> UdpLink<R> {
             moment: 0,
             faults: 0,
             nexts: 0,
+            cause: None,
+            meter,
         }
     }
 
@@ -79,11 +94,19 @@ impl<R: Net + Clock> UdpLink<R> {
         self.nexts
     }
 
-    fn refuse(&mut self) -> LinkFault
+    /// Why it first refused a call since the last one of `bind`.
+    pub fn cause(&self) -> Option<Cause> {
+        self.cause
+    }
+
+    fn refuse(&mut self, step: Step, error: io::Error) -> LinkFault
         ensures state { self.new ≡ with_refused_call self.old }
         ensures fits { self.old.faults < 2 ^ 64 }
     {
         self.faults = self.faults.saturating_add(1);
+        if self.cause.is_none() {
+            self.cause = Some(Cause::new(step, error));
+        }
         LinkFault
     }
 }
@@ -177,7 +200,10 @@ impl Bound {
         ensures { OnOk result (IsSameFamily self.now.listen to.now) }
     {
         if !is_same_family(&self.listen, to) {
-            return Err(ErrorKind::Unsupported.into());
+            return Err(io::Error::new(
+                ErrorKind::Unsupported,
+                "a peer of the other family of addresses",
+            ));
         }
         let receiver = socket_of(*to);
         for _ in 0..u64::MAX {
@@ -201,15 +227,7 @@ fn send_by(bound: &Option<Bound>, to: &Address, bytes: &[u8]) -> io::Result<()>
     }
 }
 
-// How long ago that was, in microseconds.
-fn micros_since(clock: &impl Clock, made: &Option<Instant>) -> io::Result<u64> {
-    match made {
-        Some(made) => Ok(u64::try_from(made.elapsed(clock)?.as_micros()).unwrap_or(u64::MAX)),
-        None => Err(ErrorKind::Unsupported.into()),
-    }
-}
-
-impl<R: Net + Clock> UdpLink<R> {
+impl<R: Net + Clock + Eprint> UdpLink<R> {
     fn wait(&mut self, limit_us: u64, buffer: &mut [u8]) -> io::Result<Event>
         ensures ok { IfOk result (λ event. FitsIn event buffer.new × (self.new ≡ record self.old { moment = moment_of_event event })) }
         ensures later { self.old.moment ≤ self.new.moment }
@@ -228,18 +246,42 @@ impl<R: Net + Clock> UdpLink<R> {
         // The system's clock never falls; this doesn't rest on it.
         self.moment = self.moment.max(now);
         let at = self.moment;
-        Ok(match found {
+        let event = match found {
             Some((len, sender)) => Event::Datagram {
                 from: address_of(&sender),
                 len,
                 at,
             },
             None => Event::Quiet { at },
-        })
+        };
+        self.show(&event);
+        Ok(event)
+    }
+
+    // Shows how much came and went, with what just came.
+    fn show(&mut self, event: &Event)
+        ensures { self.new ≡ self.old }
+    {
+        let Some(meter) = &mut self.meter else {
+            return;
+        };
+        if let Event::Datagram { from, len, .. } = event {
+            meter.note_received(*from, *len);
+        }
+        meter.show(self.moment, &self.system);
+    }
+
+    // Says where it listens.
+    fn tell(&self) {
+        if let (Some(_), Some(bound)) = (&self.meter, &self.bound) {
+            if let Ok(address) = bound.socket.local_addr() {
+                let _ = self.system.eprintln(format_args!("listening at {address}"));
+            }
+        }
     }
 }
 
-impl<R: Net + Clock> Link for UdpLink<R> {
+impl<R: Net + Clock + Eprint> Link for UdpLink<R> {
     ghost seen = { silent_link };
 
     /// The socket that it had before is closed first, as it may hold the same address. Port 0 is any free one.
@@ -249,12 +291,14 @@ impl<R: Net + Clock> Link for UdpLink<R> {
         ensures err { OnErr result (self.new ≡ with_refused_call (record self.old { listen = None })) }
     {
         self.bound = None;
+        self.cause = None;
         match open(&self.system, listen) {
             Ok(bound) => {
                 self.bound = Some(bound);
+                self.tell();
                 Ok(())
             }
-            Err(_) => Err(self.refuse()),
+            Err(error) => Err(self.refuse(Step::Open, error)),
         }
     }
 
@@ -271,7 +315,7 @@ impl<R: Net + Clock> Link for UdpLink<R> {
         self.nexts = self.nexts.saturating_add(1);
         match self.wait(limit_us, buffer) {
             Ok(event) => Ok(event),
-            Err(_) => Err(self.refuse()),
+            Err(error) => Err(self.refuse(Step::Receive, error)),
         }
     }
 
@@ -284,8 +328,13 @@ impl<R: Net + Clock> Link for UdpLink<R> {
         ensures reaches { OnOk result (Reaches self.old.listen to.now) }
     {
         match send_by(&self.bound, to, bytes) {
-            Ok(()) => Ok(()),
-            Err(_) => Err(self.refuse()),
+            Ok(()) => {
+                if let Some(meter) = &mut self.meter {
+                    meter.note_sent(bytes.len());
+                }
+                Ok(())
+            }
+            Err(error) => Err(self.refuse(Step::Send, error)),
         }
     }
 }

@@ -1,0 +1,12 @@
+//! Tests of the real devices, by what the system does and by the text that is printed. They stand in a crate of their own, since the tests
+//! of a crate have all of it proved once more.
+#![tactic(auto)]
+
+#[cfg(test)]
+mod causes;
+#[cfg(test)]
+mod disks;
+#[cfg(test)]
+mod links;
+#[cfg(test)]
+mod streams;
