@@ -6,8 +6,6 @@ ghost use Rattle.pp_agenda.specs.Laws.{AllMayGo, MayBeSaid, CoversNews, CoversRo
 
 mod agenda;
 mod ranges;
-#[cfg(test)]
-mod tests;
 
 pub use agenda::{Agenda, Due};
 pub use ranges::awaited_ranges;

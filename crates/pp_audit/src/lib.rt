@@ -50,14 +50,3 @@ pub use reports::{is_held_line, is_incomplete_report, is_report};
 pub use served::serves_but;
 pub use stored::stores_all;
 pub use tallies::{LinkCounts, is_tallied, took_turns};
-
-#[cfg(test)]
-mod life_tests;
-#[cfg(test)]
-mod report_tests;
-#[cfg(test)]
-mod store_tests;
-#[cfg(test)]
-mod tests;
-#[cfg(test)]
-mod window_tests;

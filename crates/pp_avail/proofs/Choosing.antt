@@ -1,5 +1,5 @@
 -- The best of several chunks.
-use Rattle.std.proofs.Common.{◌≡◌, ◌≢◌, ◌==◌, ◌⊎◌, inl, inr, ⊎_elim, ℕ, ◌+◌, ◌<◌, ◌≤◌, Bool, true, false, ◌&&◌, List, [], length, Option, None, Some, sym, ◌∙◌, ap, subst, arith, slice_index_or}
+use Rattle.std.proofs.Common.{◌≡◌, ◌≢◌, ◌==◌, ◌⊎◌, ⊎_elim, ℕ, ◌<◌, ◌≤◌, Bool, true, false, ◌&&◌, List, [], length, Option, None, Some, sym, ◌∙◌, ap, subst, arith, slice_index_or}
 use Rattle.std.specs.Prelude.{MatchOption}
 use Rattle.std.proofs.lemmas.Bool.{cases_lt, eqb-true, eq-eqb, and_parts, false_from_ne_true, and_from}
 use Rattle.pp_terms.proofs.Facts.{member_below}
@@ -43,20 +43,6 @@ better kind o seat wanted Before Now (Some b) choice result is best first covers
       (λ after. along result.rank result.chunk choice.rank choice.chunk (rank_in kind o j) j first.1 after)
       (covers j candidate now);
 }
-
--- the walk over the chunks, one by one
-pub none_below : (kind : Rank) (o : Offers) (seat : ℕ) (wanted : List Bool) → IsBest kind o seat wanted (λ j. j < 0) None
-none_below kind o seat wanted j candidate below = omega (arith, below)
-
-pub taken : (kind : Rank) (o : Offers) (seat : ℕ) (wanted : List Bool) (i : ℕ) (best : Option Choice) (choice result : Choice)
-    → IsChoice kind o seat wanted choice → choice.chunk ≡ i → IsBest kind o seat wanted (λ j. j < i) best
-    → MatchOption best (result ≡ choice) (λ b. ((result ≡ choice) ⊎ (result ≡ b)) × ComesFirst result choice × ComesFirst result b)
-    → IsLeast kind o seat wanted (λ j. j < i + 1) result.rank result.chunk
-taken kind o seat wanted i best choice result is at before first = better kind o seat wanted (λ j. j < i) (λ j. j < i + 1) best choice result is before first
-    (λ j candidate now. ⊎_elim (λ below. inl below)
-    (λ from. let same : choice.chunk ≡ j = omega (arith, now, from, at) in
-    inr (let equal : choice.rank ≡ rank_in kind o j = is.ranked ∙ ap (λ (k : ℕ). rank_in kind o k) same in (omega (arith, equal), λ e. omega (arith, same))))
-    (cases_lt j i))
 
 -- what is picked once all candidates are counted
 pub picked : (kind : Rank) (o : Offers) (seat : ℕ) (wanted : List Bool) (Counts : ℕ → Type 0) (rank i : ℕ)

@@ -77,14 +77,6 @@ impl Avail {
         })
     }
 
-    pub(crate) fn chunks(&self) -> u32
-        ensures value { result ≡ self.now.chunks }
-        ensures most { result ≤ 2 ^ 20 }
-        ensures past { (seat i : ℕ) → self.now.chunks ≤ i → offers.has self.now seat i ≡ false }
-    {
-        self.chunks
-    }
-
     /// Whether a seat offers a chunk; of no chunks, it offers none.
     pub fn has(&self, seat: u8, i: u32) -> bool
         requires seat { seat < 64 }

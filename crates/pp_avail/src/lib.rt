@@ -6,13 +6,9 @@ mod choice;
 mod copies;
 mod levels;
 mod picks;
-#[cfg(test)]
-mod plain;
 mod planes;
 mod ranker;
 mod row;
-#[cfg(test)]
-mod tests;
 
 pub use avail::Avail;
 pub use picks::pick;

@@ -48,25 +48,3 @@ impl Ranker {
         ask(self.rule, i, copies)
     }
 }
-
-#[cfg(test)]
-mod tests {
-    use super::*;
-    use std::test::Fail;
-
-    fn copies_of(_i: u32, copies: u32) -> u32
-        ensures { result ≡ copies }
-    {
-        copies
-    }
-
-    #[test]
-    fn keeps_rules(rt: HostRuntime) -> Result<(), Fail> {
-        let ranker = Ranker::new(Rank::Rarest, copies_of);
-        let same = ranker;
-        assert_eq!(rt; (ranker.rank(7, 3), same.rank(7, 4)), (3, 4));
-        let ranker = Ranker::new(Rank::Sequential, |_: u32, _: u32| 0);
-        assert_eq!(rt; ranker.rank(7, 3), 0);
-        Ok(())
-    }
-}

@@ -10,9 +10,6 @@ mod bin64;
 pub use bin32::Bin32;
 pub use bin64::Bin64;
 
-#[cfg(test)]
-mod tests;
-
 /// Bins and their numbers.
 pub fn laws_of_bins()
     ensures { BinsAreNumbers }

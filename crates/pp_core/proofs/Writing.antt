@@ -325,7 +325,8 @@ flush_keeps_up refused old new link later disk left course b most past before st
         ((greeted old.dials new.dials old.speaker new.speaker refused (scene old.parts link disk) (scene course.sent later left) course.sends).silent
         hs.seat c is (inl silent)))
         (λ lately. lately_more b.d life (now past) added past (lately_from b.d life c.wrote (now past) past
-        (let lt = leb-false 120000000 (old.parts.seats.moment - c.wrote) lately in
+        (let lt = leb-false 120000000 (old.parts.seats.moment - c.wrote)
+        (or_parts (leb 120000000 (old.parts.seats.moment - c.wrote)) _ lately).0 in
         let at = stands.seats.now_is in
         omega (arith, lt, at))
         (wrote hs.seat c life hs.there begun there.address there.local (inr remote))))

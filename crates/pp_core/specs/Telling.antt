@@ -124,8 +124,8 @@ pub record Announces (old : Scene) (later : LinkState) : Type 0 where
 abbrev pub BeginsWith : Descriptor → (source : ℕ) → List Message → Type 0
 BeginsWith d source messages = (rest : List Message) × (messages ≡ Handshake source (own_options d) ∷ rest)
 
--- This peer's handshake went on each channel on which it was due; and on each proven channel a datagram went if none had gone for 120
--- seconds, or if the other peer awaited one to learn this one's address.
+-- This peer's handshake went on each channel on which it was due; and on each proven channel a datagram went if none had gone for long,
+-- or if the other peer awaited one to learn this one's address.
 pub record Greets (old : Scene) (later : LinkState) : Type 0 where
   pub due : (seat : ℕ) (c : Channel) → IsLasting seat c old.parts → handshake_due old.parts.seats.moment c ≡ true
       → IsTold c (BeginsWith old.parts.seats.descriptor c.local) old later

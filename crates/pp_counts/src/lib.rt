@@ -9,9 +9,6 @@ mod note;
 pub use counts::Counts;
 pub use note::Note;
 
-#[cfg(test)]
-mod tests;
-
 /// Notes and their counts.
 pub fn laws_of_counts()
     ensures one { NotesRaiseOneCount }

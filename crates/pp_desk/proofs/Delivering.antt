@@ -1,6 +1,5 @@
 -- Datagrams of notes, one after the other.
 use Rattle.std.proofs.Common.{◌≡◌, ◌⊎◌, inl, inr, ℕ, zero, suc, ◌+◌, ◌-◌, ◌<◌, ◌≤◌, max, Bool, true, false, List, [], ◌∷◌, ◌++◌, get_or, take, drop, length, refl, sym, ◌∙◌, ap, subst, arith, append_assoc, append-nil}
-use Rattle.std.specs.Prelude.{replicate}
 use Rattle.std.specs.List.{AllByRecursion}
 use Rattle.std.proofs.lemmas.Bool.{cases_lt}
 use Rattle.std.proofs.lemmas.List.{length-take, length-drop, take_all, take-append-drop, drop-drop, drop_all}
@@ -154,12 +153,6 @@ counted_sum false notes old new is =
     let s : new.sent ≡ old.sent = ap (λ (x : Delivered). x.sent) is in
     let r : new.refused ≡ old.refused + 1 = ap (λ (x : Delivered). x.refused) is in
     omega (arith, s, r)
-
--- ---- one note many times
-
-pub same_plain : (count : ℕ) (note : Note) → IsPlain note → AllByRecursion IsPlain (replicate count note)
-same_plain zero note plain = tt
-same_plain (suc count) note plain = (plain, same_plain count note plain)
 
 -- ---- a handshake before the notes
 

@@ -187,6 +187,3 @@ pub fn hear<'m>(seat: &mut Seat, message: &'m Message<'m>, now: u64) -> Option<N
         | Message::Pex6 { .. } => None,
     }
 }
-
-#[cfg(test)]
-mod tests;

@@ -27,6 +27,3 @@ pub fn laws_of_deliveries()
     ensures tale { TaleGrows }
     ensures compose { DeliveriesCompose }
 {}
-
-#[cfg(test)]
-mod tests;

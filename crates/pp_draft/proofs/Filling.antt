@@ -1,6 +1,5 @@
 -- Notes put into a datagram, one after the other.
 use Rattle.std.proofs.Common.{◌≡◌, inl, inr, ℕ, zero, suc, ◌^◌, ◌+◌, ◌<◌, ◌≤◌, Some, None, List, [], ◌∷◌, ◌++◌, get_or, length, take, drop, refl, sym, ◌∙◌, ap, subst, arith, append_assoc, append-nil}
-use Rattle.std.specs.Prelude.{replicate}
 use Rattle.std.specs.List.{AllByRecursion}
 use Rattle.std.specs.Int.{w32, to_be_bytes}
 use Rattle.std.proofs.lemmas.Bool.{cases_lt}
@@ -10,7 +9,7 @@ use Rattle.pp_terms.specs.format.Options.{IsBytes}
 use Rattle.pp_terms.specs.format.Messages.{Message, Handshake}
 use Rattle.pp_terms.proofs.MessageLaws.{wide32, IsBytes-take}
 use Rattle.pp_draft.specs.declared.note.Note.{Note}
-use Rattle.pp_draft.specs.Notes.{own_options, Says, SayAll, IsInside}
+use Rattle.pp_draft.specs.Notes.{own_options, Says, SayAll}
 use Rattle.pp_draft.specs.Datagrams.{spelled, IsDatagram}
 use Rattle.pp_draft.specs.Puts.{Stands, Adds, Lacks, Puts, IsFront}
 use Rattle.pp_draft.specs.Posts.{Fills, Packs, PacksBehind, LacksRoom}
@@ -174,8 +173,3 @@ greeted_room d source from begun new early size puts =
     let long = lacks.long in
     let short = lacks.short in
     absurd (omega (arith, early, size, long, short))
-
--- one note many times
-pub same_inside : (d : Descriptor) (count : ℕ) (note : Note) → IsInside d note → AllByRecursion (IsInside d) (replicate count note)
-same_inside d zero note inside = tt
-same_inside d (suc count) note inside = (inside, same_inside d count note inside)

@@ -11,6 +11,3 @@ mod ranges;
 pub use chunk::{ChunkReader, Delivery, Unread, post_chunk};
 pub use note::{Note, Reply};
 pub use posting::{Posted, Receiver, post, post_reply};
-
-#[cfg(test)]
-mod tests;

@@ -6,6 +6,3 @@ mod laws;
 
 pub use fetching::Fetching;
 pub use laws::laws_of_fetching;
-
-#[cfg(test)]
-mod tests;

@@ -9,6 +9,3 @@ mod queue;
 pub use holding::{Holding, Parcel};
 pub use laws::laws_of_holdings;
 pub use queue::{MOST_TICKETS, Ticket};
-
-#[cfg(test)]
-mod tests;

@@ -8,6 +8,3 @@ mod steps;
 mod words;
 
 pub use digests::digest_four;
-
-#[cfg(test)]
-mod tests;

@@ -15,6 +15,3 @@ pub use laws::{examples_of_windows, laws_of_windows};
 pub use sending::Window;
 pub use settling::{Settled, alone, covers, hits, oldest, settle};
 pub use trips::RoundTrips;
-
-#[cfg(test)]
-mod tests;

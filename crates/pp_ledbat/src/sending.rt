@@ -225,17 +225,3 @@ impl Window {
         self.timer = now;
     }
 }
-
-#[cfg(test)]
-mod tests {
-    use super::*;
-
-    #[test]
-    fn halves_down_to_two_chunks(rt: HostRuntime) {
-        assert_eq!(rt; shrunk(true, 1024, 4096), 2048);
-        assert_eq!(rt; shrunk(true, 1024, 3072), 2048);
-        assert_eq!(rt; shrunk(true, 1024, 10_000), 5000);
-        assert_eq!(rt; shrunk(true, 1024, 1024), 1024);
-        assert_eq!(rt; shrunk(false, 1024, 4096), 4096);
-    }
-}

@@ -34,6 +34,3 @@ pub fn laws_of_calls()
     ensures begun { BegunKept }
     ensures opened { SeatsOpened }
 {}
-
-#[cfg(test)]
-mod tests;

@@ -12,6 +12,3 @@ mod tickets;
 pub use acknowledgement::Acknowledgement;
 pub use laws::laws_of_news;
 pub use news::News;
-
-#[cfg(test)]
-mod tests;

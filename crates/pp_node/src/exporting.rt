@@ -168,6 +168,3 @@ fn answer_of(run: &Run) -> Result<u32, PutFault>
         Some(ReadFault::Absent) => unreachable!(),
     }
 }
-
-#[cfg(test)]
-mod tests;

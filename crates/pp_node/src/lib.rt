@@ -18,6 +18,3 @@ mod upgrading;
 
 pub use status::Status;
 pub use top::run;
-
-#[cfg(test)]
-mod tests;

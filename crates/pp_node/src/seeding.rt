@@ -166,6 +166,3 @@ fn report<K: Sink>(fault: SeedFault, sink: &mut K) -> Status
         SeedFault::Memory => Status::Memory,
     }
 }
-
-#[cfg(test)]
-mod tests;

@@ -13,9 +13,6 @@ pub use reading::read;
 pub use value::{NoRoom, OptionFault, Options};
 pub use writing::write;
 
-#[cfg(test)]
-mod tests;
-
 /// Options and their spellings.
 pub fn laws_of_options()
     ensures read { ReadsSpellings }

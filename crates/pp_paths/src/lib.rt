@@ -7,8 +7,6 @@ mod climbing;
 mod judging;
 mod laws;
 mod settling;
-#[cfg(test)]
-mod tests;
 
 pub use claims::Claims;
 pub use judging::{Verdict, adopt, judge, judge_and_adopt};

@@ -122,7 +122,7 @@ pub record AreAddresses (seat : ℕ) (own : Address) (p : Parts) (addresses : Li
 
 -- The notes are those that are due on the channel of a hearer: ACKs of what came there, what was gathered of news, these REQUESTs;
 -- a fetching peer asks for addresses every 60 seconds where the other peer takes that; and a datagram goes in any case where none went
--- for 120 seconds, or the other peer awaits one to learn this one's address.
+-- for long, or the other peer awaits one to learn this one's address.
 pub record Fills (hearer : Hearer) (requests : List Span) (p : Parts) (old new : Speaker) : Type 0 where
   pub known : SeatState
   pub there : slice_get p.seats.seats hearer.seat ≡ Some known

@@ -3,8 +3,6 @@
 #![tactic(auto)]
 
 mod arriving;
-#[cfg(test)]
-mod dial_tests;
 mod dialling;
 mod flushing;
 mod greeting;
@@ -12,13 +10,9 @@ mod hearing;
 mod laws;
 mod parts;
 mod serving;
-#[cfg(test)]
-mod slot_tests;
 mod slotting;
 mod speaking;
 mod supporting;
-#[cfg(test)]
-mod tests;
 
 pub use dialling::Dials;
 pub use laws::laws_of_parts;

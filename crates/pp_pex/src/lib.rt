@@ -5,7 +5,5 @@
 mod pex;
 mod queue;
 mod table;
-#[cfg(test)]
-mod tests;
 
 pub use pex::Pex;

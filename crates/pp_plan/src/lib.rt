@@ -5,11 +5,7 @@
 ghost use Rattle.pp_plan.specs.Examples.{PlanExamples};
 ghost use Rattle.pp_plan.specs.Law.{PlansAreLeast, StoriesTell, StoriesAreRanges, CutsTellAlike};
 
-#[cfg(test)]
-mod plain;
 mod planning;
-#[cfg(test)]
-mod tests;
 mod tier;
 mod tiers;
 mod told;

@@ -73,33 +73,3 @@ fn descend(nodes: &mut ArrayVec<Node, 64>, first: u64, end: u64, layers: u8)
         }
     }
 }
-
-#[cfg(test)]
-mod tests {
-    use super::*;
-
-    #[test]
-    fn covers_ranges(rt: HostRuntime) {
-        for (first, last, want) in [
-            (1, 6, 4),
-            (0, (1 << 20) - 1, 1),
-            (1, (1 << 20) - 2, 38),
-            (5, 5, 1),
-            (0, u32::MAX, 1),
-            (1, u32::MAX - 1, 62),
-        ] {
-            if let Some(range) = ChunkRange::new(first, last) {
-                assert_eq!(rt; cover(range).len(), want, "{first} to {last}");
-            }
-        }
-    }
-
-    #[test]
-    fn covers_one_to_six(rt: HostRuntime) {
-        let want = [(0, 1), (1, 1), (1, 2), (0, 6)].map(|(layer, offset)| Node { layer, offset });
-        match ChunkRange::new(1, 6) {
-            Some(range) => assert_eq!(rt; cover(range)[..], want[..]),
-            None => assert!(rt; false),
-        }
-    }
-}

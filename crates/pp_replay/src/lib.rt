@@ -23,8 +23,3 @@ pub use reading::read_schedule;
 pub use rehearsing::rehearsal;
 pub use schedule::{Schedule, Steps};
 pub use types::{Act, Device, Role, Step};
-
-#[cfg(test)]
-mod reading_tests;
-#[cfg(test)]
-mod tests;

@@ -191,6 +191,3 @@ fn scan_gates<D: Disk>(
         Err(_) => Err(ScanFault::Disk),
     }
 }
-
-#[cfg(test)]
-mod tests;

@@ -12,8 +12,6 @@ mod hashes;
 mod own;
 mod seat;
 mod service;
-#[cfg(test)]
-mod tests;
 
 pub use hashes::Claimed;
 pub use seat::Seat;

@@ -9,8 +9,6 @@ mod reading;
 mod seats;
 mod sending;
 mod serving;
-#[cfg(test)]
-mod tests;
 mod turning;
 
 pub use seats::Seats;

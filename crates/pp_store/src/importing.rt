@@ -254,6 +254,3 @@ fn describe(root: Digest, chunk: u32, size: u64) -> Descriptor
 {
     Descriptor::new(root, chunk, size, Method::Range32).unwrap()
 }
-
-#[cfg(test)]
-mod tests;

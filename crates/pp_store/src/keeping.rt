@@ -418,8 +418,3 @@ impl Store {
         self.live
     }
 }
-
-#[cfg(test)]
-mod putting_tests;
-#[cfg(test)]
-mod tests;

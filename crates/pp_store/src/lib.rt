@@ -4,8 +4,6 @@
 mod admitting;
 mod copying;
 mod durable;
-#[cfg(test)]
-mod examples;
 mod filling;
 mod findings;
 mod finishing;
@@ -19,8 +17,6 @@ mod pairing;
 mod probing;
 mod reading;
 mod runs;
-#[cfg(test)]
-mod stopping;
 mod upgrading;
 
 pub use admitting::Put;

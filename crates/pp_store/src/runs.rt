@@ -279,6 +279,3 @@ fn is_leaf(book: &Book, i: u32, digest: &[u8; 32]) -> bool
         None => false,
     }
 }
-
-#[cfg(test)]
-mod tests;

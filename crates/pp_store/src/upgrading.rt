@@ -155,6 +155,3 @@ fn old_header_of(descriptor: &Descriptor) -> [u8; 64]
     bytes[7] = b'1';
     bytes
 }
-
-#[cfg(test)]
-mod tests;

@@ -14,7 +14,6 @@ pub mod ReadSteps
 pub mod Readings
 pub mod Layers
 pub mod ReadExamples
-pub mod TwoChunks
 pub mod Digits
 pub mod TextPieces
 pub mod Packing

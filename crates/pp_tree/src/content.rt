@@ -67,24 +67,3 @@ fn digest_or_empty(layer: &[Digest], i: usize) -> Digest
         Digest::new([0; 32])
     }
 }
-
-#[cfg(test)]
-mod tests {
-    use super::*;
-
-    // 7,000 bytes: 5, 12, 19 .., with a step more at each 256th. Its root was computed elsewhere.
-    #[test]
-    fn finds_the_root_of_seven_chunks(rt: HostRuntime) {
-        let mut content = [0u8; 7000];
-        for (j, byte) in content.iter_mut().enumerate() {
-            *byte = ((5 + 7 * j + j / 256 + j / 65_536) % 256) as u8;
-        }
-        let want = Digest::new([
-            0xb4, 0x2e, 0xff, 0xe6, 0xef, 0xb1, 0xb6, 0x0e, 0x31, 0x99, 0xb1, 0x81, 0x82, 0xc6,
-            0x3d, 0x95, 0x77, 0xf6, 0xcd, 0xfe, 0xaa, 0xa0, 0xac, 0xb3, 0x39, 0x9a, 0xc8, 0xd8,
-            0x7b, 0x4d, 0x8f, 0x73,
-        ]);
-        assert_eq!(rt; root_of(rt.alloc(), &content, 1024).ok(), Some(want));
-        assert_eq!(rt; root_of(rt.alloc(), b"abc", 1024).ok(), Some(leaf(b"abc")));
-    }
-}

@@ -43,21 +43,3 @@ pub fn leaf(chunk: &[u8]) -> Digest
 {
     Digest(Sha256::digest(chunk))
 }
-
-#[cfg(test)]
-mod tests {
-    use super::*;
-
-    // The digest of "abc" of FIPS 180-4's examples.
-    #[test]
-    fn digests_abc(rt: HostRuntime) {
-        let want = [
-            0xba, 0x78, 0x16, 0xbf, 0x8f, 0x01, 0xcf, 0xea, 0x41, 0x41, 0x40, 0xde, 0x5d, 0xae,
-            0x22, 0x23, 0xb0, 0x03, 0x61, 0xa3, 0x96, 0x17, 0x7a, 0x9c, 0xb4, 0x10, 0xff, 0x61,
-            0xf2, 0x00, 0x15, 0xad,
-        ];
-        let digest = leaf(b"abc");
-        assert_eq!(rt; *digest.bytes(), want);
-        assert_eq!(rt; digest, Digest::new(want));
-    }
-}

@@ -4,6 +4,3 @@
 mod wanting;
 
 pub use wanting::Wanting;
-
-#[cfg(test)]
-mod tests;

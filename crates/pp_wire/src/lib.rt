@@ -13,6 +13,3 @@ pub use laws::{one_datagram, one_message, worked_messages};
 pub use message::{ChunkKind, Message, PutFault, Span, Step, WireFault, WireKind};
 pub use reading::next;
 pub use writing::{put, put_head, put_named};
-
-#[cfg(test)]
-mod tests;

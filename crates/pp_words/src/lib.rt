@@ -13,6 +13,3 @@ pub use address::read_address;
 pub use laws::examples_of_words;
 pub use reading::read_words;
 pub use types::{Command, Order, Usage, UsageKind};
-
-#[cfg(test)]
-mod tests;

@@ -1,5 +1,0 @@
-use Rattle.std.proofs.Common.{arith, refl}
-use Rattle.pp_node.proofs.seeding.tests.joining.store_of_zeros.Goals as goal
-
-pub import-requires : goal.import-requires
-import-requires c = record { exponent = 10; least = omega arith; greatest = omega arith; power = refl }

@@ -1,0 +1,5 @@
+use Rattle.std.proofs.Common.{arith, refl}
+use Rattle.pp_node_tests.proofs.peers.trees.store_on.Goals as goal
+
+pub import-requires : goal.import-requires
+import-requires c = record { exponent = 10; least = omega arith; greatest = omega arith; power = refl }

@@ -1,5 +1,0 @@
-use Rattle.std.proofs.Common.{arith, refl}
-use Rattle.pp_store.proofs.keeping.putting_tests.seventy_chunks.Goals as goal
-
-pub make_swarm-requires : goal.make_swarm-requires
-make_swarm-requires c = record { exponent = 8; least = omega arith; greatest = omega arith; power = refl }

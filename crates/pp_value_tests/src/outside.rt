@@ -1,0 +1,4 @@
+// The devices in memory.
+mod disks;
+mod links;
+mod streams;

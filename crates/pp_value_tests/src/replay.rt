@@ -1,0 +1,3 @@
+// Schedules of several peers, and rehearsals.
+mod rehearsals;
+mod schedules;
