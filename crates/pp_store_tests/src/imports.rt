@@ -2,7 +2,7 @@
 
 use crate::examples::{ABC_FRONT, store_of_abc};
 use crate::stopping::StoppingDisk;
-use crate::swarm::{content, opened, prepared};
+use crate::swarm::{fill, opened, prepared};
 use pp_outside::{Disk, MemoryDisk, MemorySource, Source};
 use pp_store::{ImportFault, import};
 use pp_tree::{Descriptor, Digest, leaf};
@@ -31,11 +31,17 @@ fn abc_becomes_a_store(rt: HostRuntime) -> Result<(), Fail> {
     Ok(())
 }
 
+fn import_seven_chunks(disk: &mut MemoryDisk) -> Result<Descriptor, ImportFault> {
+    let mut content = [0; 7000];
+    fill(&mut content);
+    import_from(&mut MemorySource::new(&content), disk)
+}
+
 // The store of 7,000 bytes and its digest were made elsewhere.
 #[test]
 fn seven_chunks_become_a_store(rt: HostRuntime) -> Result<(), Fail> {
     let mut disk = MemoryDisk::new(rt.alloc(), &[])?;
-    let descriptor = import_from(&mut MemorySource::new(&content()[..7000]), &mut disk)?;
+    let descriptor = import_seven_chunks(&mut disk)?;
     assert_eq!(rt; disk.bytes().len(), 8776);
     let want = Digest::new([
         0x8e, 0x25, 0xbb, 0xe2, 0xcb, 0x91, 0x8a, 0x10, 0x31, 0xac, 0x21, 0x5a, 0xef, 0x9b, 0x12,

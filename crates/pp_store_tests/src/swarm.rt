@@ -27,11 +27,18 @@ fn byte(j: u32) -> u8 {
         .wrapping_add(high)
 }
 
+// Writes the first bytes of the content, as many as there is room for.
+pub(crate) fn fill(content: &mut [u8]) {
+    let mut j = 0u32;
+    for byte_j in content.iter_mut() {
+        *byte_j = byte(j);
+        j = j.wrapping_add(1);
+    }
+}
+
 pub(crate) fn content() -> [u8; 17_920] {
     let mut content = [0u8; 17_920];
-    for (j, byte_j) in content.iter_mut().enumerate() {
-        *byte_j = byte(j as u32);
-    }
+    fill(&mut content);
     content
 }
 
