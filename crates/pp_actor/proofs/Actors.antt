@@ -1,0 +1,294 @@
+-- What happens to an actor, as to a peer of a world.
+use Rattle.std.proofs.Common.{◌≡◌, ◌⊎◌, ⊎_elim, inl, inr, ℕ, ◌+◌, ◌^◌, ◌<◌, ◌≤◌, Bool, true, false, Option, Some, None, List, [], ◌∷◌, ◌++◌, length, refl, sym, ◌∙◌, ap, subst, arith}
+use Rattle.std.specs.Prelude.{is_some, reverse, MatchBool, Result, Ok, Err, IsOk, OnOk}
+use Rattle.std.specs.declared.alloc.AllocError.{AllocError}
+use Rattle.std.proofs.lemmas.List.{reverse-append}
+use Rattle.pp_terms.specs.disk.Calls.{Calls, attached, crash_image, history_of}
+use Rattle.pp_terms.specs.disk.Disk.{DiskState, fresh, settled}
+use Rattle.pp_terms.specs.format.Descriptor.{Descriptor}
+use Rattle.pp_terms.specs.format.Traffic.{LinkState, Record}
+use Rattle.pp_tree.specs.Book.{BookState, entry}
+use Rattle.pp_outside.specs.Arrivals.{Arrivals}
+use Rattle.pp_outside.specs.MemoryDisk as disks
+use Rattle.pp_outside.specs.MemoryLink as links
+use Rattle.pp_outside.specs.declared.call.Call.{Call}
+use Rattle.pp_outside.specs.declared.call.Call.TheVariants as calls
+use Rattle.pp_outside.specs.declared.memory_disk.MemoryDisk.{MemoryDisk}
+use Rattle.pp_outside.specs.declared.memory_link.MemoryLink.{MemoryLink}
+use Rattle.pp_watch.specs.Shown.{ShowsDisk, ShowsLink}
+use Rattle.pp_watch.proofs.Openings.{crashed}
+use Rattle.pp_world.specs.Change.{MayOpen, MayTakeTurn, Stays, with_crash, with_stop}
+use Rattle.pp_world.specs.Opening.{FailsToOpen, Opens}
+use Rattle.pp_world.specs.Session.{Session}
+use Rattle.pp_world.specs.Turn.{TakesTurn}
+use Rattle.pp_world.specs.World.{PeerState}
+use Rattle.pp_world.specs.Worlds.{idle}
+use Rattle.pp_actor.specs.Actor.{ActorState, ActorOpens, ActorTurns, HasGained, Hears, IsIdle, IsPlaying, ShowLives, ShowsActor, ShowsLife, ShowsNow, ShowsRemains}
+use Rattle.pp_stage.specs.Opening.{HasOpened, OpensAs, OpensTo, WasRefused}
+use Rattle.pp_stage.specs.Shown.{ShowsRunning}
+use Rattle.pp_stage.specs.Turned.{ShowsTurn, TurnsAs}
+use Rattle.pp_actor.specs.declared.life.Life.{Life}
+use Rattle.pp_actor.specs.declared.life.Remains.{Remains}
+use Rattle.pp_stage.specs.declared.turning.Cue.{Cue}
+use Rattle.pp_stage.specs.declared.turning.Running.{Running}
+use Rattle.pp_stage.specs.declared.turning.Turned.{Turned}
+
+-- ---- answers
+
+pub if_ok : {P : Type 0} (r : Result (Unit {0}) AllocError) → (IsOk r → P) → OnOk r P
+if_ok (Ok u) makes = makes refl
+if_ok (Err e) makes = tt
+
+pub none_of : (o : Option Running) → is_some o ≡ false → o ≡ None
+none_of None is = refl
+none_of (Some r) is = cc
+
+-- ---- what is shown
+
+-- The disk shown for a peer is that of one with the same disk, counts and orders of the disk.
+pub same_disk : (most : ℕ) (disk : MemoryDisk) (x y : PeerState) → y.disk ≡ x.disk → y.faults ≡ x.faults → y.hard ≡ x.hard → y.orders ≡ x.orders
+    → ShowsDisk most disk x → ShowsDisk most disk y
+same_disk most disk x y is faults hard orders shows = record {
+  unattached = ap (λ (c : Calls). c.attached_at) is ∙ shows.unattached;
+  history = ap (λ (c : Calls). attached (fresh c.image) (disks.state_of disk).history) is ∙ shows.history ∙ sym (ap history_of is);
+  faults = shows.faults ∙ sym faults;
+  hard = shows.hard ∙ sym hard;
+  few = (let few = shows.few in omega (arith, few, faults));
+  few_hard = (let few = shows.few_hard in omega (arith, few, hard));
+  read = shows.read ∙ sym (ap (λ o. o.read) orders);
+  write = shows.write ∙ sym (ap (λ o. o.write) orders);
+  sync = shows.sync ∙ sym (ap (λ o. o.sync) orders);
+  attach = shows.attach;
+  len = shows.len;
+}
+
+pub more_refused : (most more : ℕ) (disk : MemoryDisk) (x : PeerState) → ShowsDisk most disk x → ShowsDisk (most + more) disk x
+more_refused most more disk x shows = record {
+  unattached = shows.unattached;
+  history = shows.history;
+  faults = shows.faults;
+  hard = shows.hard;
+  few = (let few = shows.few in omega (arith, few));
+  few_hard = (let few = shows.few_hard in omega (arith, few));
+  read = shows.read;
+  write = shows.write;
+  sync = shows.sync;
+  attach = shows.attach;
+  len = shows.len;
+}
+
+more_running : (most more : ℕ) (x : PeerState) (r : Running) (s : Session) → ShowsRunning most x r s → ShowsRunning (most + more) x r s
+more_running most more x r s shows = record {
+  link = record {
+    traffic = shows.link.traffic;
+    faults = shows.link.faults;
+    nexts = shows.link.nexts;
+    few = (let few = shows.link.few in omega (arith, few));
+    few_turns = (let few = shows.link.few_turns in omega (arith, few));
+    send = shows.link.send;
+    receive = shows.link.receive;
+    bind = shows.link.bind;
+    idle = shows.link.idle;
+  };
+  deaf = shows.deaf;
+  book = shows.book;
+}
+
+more_now : (most more : ℕ) (x : PeerState) (o : Option Running) (lives : List Life) → ShowsNow most x o lives → ShowsNow (most + more) x o lives
+more_now most more x None lives now = now
+more_now most more x (Some r) lives now = record {
+  runs = now.runs;
+  session = now.session;
+  earlier = now.earlier;
+  sessions = now.sessions;
+  shows = more_running most more x r now.session now.shows;
+  over = now.over;
+}
+
+pub more_shown : (most more : ℕ) (a : ActorState) (x : PeerState) → ShowsActor most a x → ShowsActor (most + more) a x
+more_shown most more a x shows =
+    record { disk = more_refused most more a.disk x shows.disk; now = more_now most more x a.running (reverse a.lives) shows.now }
+
+-- ---- a life that ends
+
+pub ended : (most : ℕ) (x : PeerState) (r : Running) (s : Session) (life : Life) → life.link ≡ r.link → life.book ≡ r.peer.parts.holding.book
+    → ShowsRunning most x r s → ShowsLife life s
+ended most x r s life link book shows = record {
+  traffic = ap (λ (l : MemoryLink). (links.state_of l).traffic) link ∙ shows.link.traffic;
+  refused = ap (λ (l : MemoryLink). (links.state_of l).faults) link ∙ shows.link.faults;
+  turns = ap (λ (l : MemoryLink). (links.state_of l).nexts) link ∙ shows.link.nexts;
+  book = ap (λ (b : BookState). entry b) book ∙ shows.book;
+}
+
+-- one more life is over
+pub one_over : (lives : List Life) (life : Life) (s : Session) (earlier sessions : List Session) → ShowsLife life s → ShowLives (reverse lives) earlier
+    → sessions ≡ s ∷ earlier → ShowLives (reverse (lives ++ life ∷ [])) sessions
+one_over lives life s earlier sessions shows over is =
+    subst (λ (ls : List Life). ShowLives ls sessions) (sym (reverse-append lives (life ∷ [])))
+    (subst (ShowLives (life ∷ reverse lives)) (sym is) (shows, over))
+
+-- ---- a peer that was never started
+
+pub idles : (most : ℕ) (disk : MemoryDisk) (calls : Calls) → ShowsDisk most disk (idle calls)
+    → ShowsActor most (record { disk = disk; lives = []; running = None }) (idle calls)
+idles most disk calls shows = record { disk = shows; now = record { stands = refl; over = tt } }
+
+-- ---- a stop
+
+pub stops_idle : (most : ℕ) (disk : MemoryDisk) (lives : List Life) (x : PeerState) → ShowsActor most (record { disk = disk; lives = lives; running = None }) x
+    → ShowsActor most (record { disk = disk; lives = lives; running = None }) (with_stop x)
+stops_idle most disk lives x shows =
+    record { disk = same_disk most disk x (with_stop x) refl refl refl refl shows.disk; now = record { stands = refl; over = shows.now.over } }
+
+pub stops : (most : ℕ) (disk : MemoryDisk) (lives : List Life) (r : Running) (life : Life) (x : PeerState) → life.link ≡ r.link
+    → life.book ≡ r.peer.parts.holding.book → ShowsActor most (record { disk = disk; lives = lives; running = Some r }) x
+    → ShowsActor most (record { disk = disk; lives = lives ++ life ∷ []; running = None }) (with_stop x)
+stops most disk lives r life x link book shows = record {
+  disk = same_disk most disk x (with_stop x) refl refl refl refl shows.disk;
+  now = record {
+    stands = refl;
+    over = one_over lives life shows.now.session shows.now.earlier x.sessions (ended most x r shows.now.session life link book shows.now.shows)
+        shows.now.over shows.now.sessions;
+  };
+}
+
+-- ---- a crash, behind a stop
+
+pub crashes : (most pick : ℕ) (old new : MemoryDisk) (lives : List Life) (running : Option Running) (x : PeerState)
+    → disks.state_of new ≡ record (disks.state_of old) { history = settled (disks.state_of old).history (crash_image pick (disks.state_of old).history.epoch) }
+    → ((call : Call) → disks.is_ordered new call ≡ disks.is_ordered old call)
+    → ShowsActor most (record { disk = old; lives = lives; running = running }) (with_stop x)
+    → ShowsActor most (record { disk = new; lives = lives; running = running }) (with_crash pick x)
+crashes most pick old new lives running x state orders shows = record {
+  disk = same_disk most new (with_crash pick (with_stop x)) (with_crash pick x) refl refl refl refl
+      (crashed most pick old new (with_stop x) shows.disk state orders);
+  now = of running shows.now;
+}
+  where
+    of : (o : Option Running) → ShowsNow most (with_stop x) o (reverse lives) → ShowsNow most (with_crash pick x) o (reverse lives)
+    of None now = record { stands = refl; over = now.over }
+    of (Some r) now = (let never = now.runs in cc)
+
+-- ---- an opening
+
+abbrev no_records : List Record
+no_records = []
+
+-- what may happen to a peer that doesn't run, and to one that does
+may_open : (d : Descriptor) (x after : PeerState) → x.is_running ≡ false → Opens d x after ⊎ FailsToOpen d x after → MayOpen d x [] after
+may_open d x after stands is =
+    subst (λ (b : Bool). MatchBool b (Stays x [] after) ((Opens d x after ⊎ FailsToOpen d x after) × (no_records ≡ []))) (sym stands) (is, refl)
+
+is_open : (d : Descriptor) (x : PeerState) → x.is_running ≡ true → MayOpen d x [] x
+is_open d x runs = subst (λ (b : Bool). MatchBool b (Stays x [] x) ((Opens d x x ⊎ FailsToOpen d x x) × (no_records ≡ []))) (sym runs) (refl, refl)
+
+stays_idle : (clock : ℕ) (x : PeerState) → x.is_running ≡ false → MayTakeTurn clock x [] x
+stays_idle clock x stands = subst (λ (b : Bool). MatchBool b (TakesTurn clock x [] x) (Stays x [] x)) (sym stands) (refl, refl)
+
+may_turn : (clock : ℕ) (x : PeerState) (added : List Record) (after : PeerState) → x.is_running ≡ true → TakesTurn clock x added after
+    → MayTakeTurn clock x added after
+may_turn clock x added after runs takes = subst (λ (b : Bool). MatchBool b (TakesTurn clock x added after) (Stays x added after)) (sym runs) takes
+
+pub opens : (d : Descriptor) (most : ℕ) (old new : MemoryDisk) (lives : List Life) (running : Option Running) → OpensAs d old new running
+    → (x : PeerState) → most + 4 < 2 ^ 64 → ShowsActor most (record { disk = old; lives = lives; running = None }) x
+    → ActorOpens d most x (record { disk = new; lives = lives; running = running })
+opens d most old new lives None makes x low shows =
+    let is : WasRefused d most x new = makes most x low shows.disk in record {
+      after = is.after;
+      opens = may_open d x is.after shows.now.stands (inr is.fails);
+      shows = record {
+        disk = is.shows_disk;
+        now = record { stands = is.fails.stopped; over = subst (ShowLives (reverse lives)) (sym is.fails.same) shows.now.over };
+      };
+    }
+opens d most old new lives (Some r) makes x low shows =
+    let is : HasOpened d most x new r = makes most x low shows.disk in record {
+      after = is.after;
+      opens = may_open d x is.after shows.now.stands (inl is.opens);
+      shows = record {
+        disk = is.shows_disk;
+        now = record {
+          runs = is.opens.runs;
+          session = is.session;
+          earlier = x.sessions;
+          sessions = is.sessions;
+          shows = is.shows;
+          over = shows.now.over;
+        };
+      };
+    }
+
+-- a peer that runs isn't opened
+pub stays_open : (d : Descriptor) (most : ℕ) (a : ActorState) (r : Running) (x : PeerState) → a.running ≡ Some r → ShowsActor most a x → ActorOpens d most x a
+stays_open d most a r x is shows =
+    let now : IsPlaying most x r (reverse a.lives) = subst (λ (o : Option Running). ShowsNow most x o (reverse a.lives)) is shows.now in
+    record { after = x; opens = is_open d x now.runs; shows = more_shown most 4 a x shows }
+
+-- ---- a turn
+
+pub idles_on : (clock most : ℕ) (disk : MemoryDisk) (lives : List Life) (x : PeerState) → ShowsActor most (record { disk = disk; lives = lives; running = None }) x
+    → ActorTurns clock most x (record { disk = disk; lives = lives; running = None })
+idles_on clock most disk lives x shows = record {
+  after = x;
+  added = [];
+  takes = stays_idle clock x shows.now.stands;
+  gained = tt;
+  shows = more_shown most 4 (record { disk = disk; lives = lives; running = None }) x shows;
+}
+
+module _ (cue : Cue) (most : ℕ) (disk : MemoryDisk) (lives : List Life) (r : Running) (t : Turned) (makes : TurnsAs cue disk r t) (x : PeerState)
+    (low : most + 4 < 2 ^ 64) (shows : ShowsActor most (record { disk = disk; lives = lives; running = Some r }) x) (hears : Hears cue x) where
+  abbrev s : Session
+  s = shows.now.session
+
+  turned : ShowsTurn cue.clock most x s shows.now.earlier t
+  turned = makes most x s shows.now.earlier low shows.now.sessions shows.disk shows.now.shows (hears shows.now.runs)
+
+  pub goes_on : t.goes_on ≡ true → ActorTurns cue.clock most x (record { disk = t.disk; lives = lives; running = Some t.running })
+  goes_on on = record {
+    after = turned.after;
+    added = turned.added;
+    takes = may_turn cue.clock x turned.added turned.after shows.now.runs turned.takes;
+    gained = subst (HasGained (Some t.running) turned.added) (sym shows.now.sessions) (turned.shows.link.traffic ∙ ap (λ (rs : List Record). Some rs) turned.traffic);
+    shows = record {
+      disk = turned.shows_disk;
+      now = record {
+        runs = turned.runs ∙ on;
+        session = turned.later;
+        earlier = shows.now.earlier;
+        sessions = turned.sessions;
+        shows = turned.shows;
+        over = shows.now.over;
+      };
+    };
+  }
+
+  pub stops_then : (life : Life) → life.link ≡ t.running.link → life.book ≡ t.running.peer.parts.holding.book → t.goes_on ≡ false
+      → ActorTurns cue.clock most x (record { disk = t.disk; lives = lives ++ life ∷ []; running = None })
+  stops_then life link book off = record {
+    after = turned.after;
+    added = turned.added;
+    takes = may_turn cue.clock x turned.added turned.after shows.now.runs turned.takes;
+    gained = tt;
+    shows = record {
+      disk = turned.shows_disk;
+      now = record {
+        stands = turned.runs ∙ off;
+        over = one_over lives life turned.later shows.now.earlier turned.after.sessions
+            (ended (most + 4) turned.after t.running turned.later life link book turned.shows) shows.now.over turned.sessions;
+      };
+    };
+  }
+
+-- ---- its end
+
+pub remains : (most : ℕ) (a : ActorState) (x : PeerState) (r : Remains) → r.disk ≡ a.disk → r.lives.items ≡ a.lives → ShowsActor most a (with_stop x) → ShowsRemains r x
+remains most a x r disk lives shows = record {
+  unattached = shows.disk.unattached;
+  history = ap (λ (m : MemoryDisk). attached (fresh x.disk.image) (disks.state_of m).history) disk ∙ shows.disk.history;
+  over = subst (λ (ls : List Life). ShowLives (reverse ls) x.sessions) (sym lives) (over a.running shows.now);
+}
+  where
+    over : (o : Option Running) → ShowsNow most (with_stop x) o (reverse a.lives) → ShowLives (reverse a.lives) x.sessions
+    over None now = now.over
+    over (Some running) now = (let never = now.runs in cc)

@@ -1,0 +1,10 @@
+use Rattle.std.proofs.Common.{Option, Some, sym, subst, refl, ◌∙◌}
+use Rattle.pp_stage.specs.declared.turning.Running.{Running}
+use Rattle.pp_actor.specs.Actor.{ActorState, ShowsActor}
+use Rattle.pp_actor.proofs.actor.Actor.fail.Goals as goal
+
+pub returns : goal.returns
+returns c most x shows =
+    c.order.ensures.fails most c.self.inside.lives.items x
+    (subst (λ (o : Option Running). ShowsActor most (record { disk = c.self.inside.disk; lives = c.self.inside.lives.items; running = o }) x)
+    (sym c.take.ensures.value ∙ c.in-Some.is) (subst (λ (a : ActorState). ShowsActor most a x) (sym c.self.view_is) shows))

@@ -1,0 +1,208 @@
+//! One peer of a replay: its disk, its lives, and itself while it runs.
+ghost use Rattle.std.specs.Prelude.{◌≡◌, ℕ, ◌+◌, ◌^◌, ◌<◌, true, length, is_some, IfOk, IfSome, IfNone, OnOk, Some, None, List};
+ghost use Rattle.pp_terms.specs.disk.Calls.{Calls};
+ghost use Rattle.pp_world.specs.Change.{while_running, with_crash, with_failing, with_stop};
+ghost use Rattle.pp_world.specs.World.{PeerState};
+ghost use Rattle.pp_world.specs.Worlds.{idle};
+ghost use Rattle.pp_replay.specs.Views.{as_device};
+ghost use Rattle.pp_watch.specs.Shown.{ShowsDisk};
+ghost use Rattle.pp_watch.specs.Waiting.{FitsBuffer};
+ghost use Rattle.pp_stage.specs.Shown.{IsReady};
+ghost use Rattle.pp_actor.specs.declared.life.Life.{Life};
+ghost use Rattle.pp_actor.specs.Actor.{ActorOpens, ActorTurns, Hears, ShowsActor, ShowsRemains, link_in, is_deaf};
+
+use crate::life::{Life, Remains};
+use crate::memory::enough;
+use pp_outside::{Call, MemoryDisk, MemoryLink};
+use pp_replay::Device;
+use pp_stage::{Cue, Opened, Running, Start, Turned, open, take_turn};
+use pp_tree::Descriptor;
+use std::alloc::{AllocError, Global};
+use std::marker::Model;
+use std::mem::replace;
+
+/// A peer of a replay: its disk, the lives that are over, and what it is while it runs.
+///
+/// Where memory is missing a call answers an error, and what is left of the peer may be any.
+#[derive(Drop)]
+pub struct Actor {
+    alloc: Global,
+    disk: MemoryDisk,
+    lives: Vec<Life>,
+    running: Option<Running>,
+}
+
+impl Model for Actor {
+    ghost use Rattle.pp_actor.specs.Actor.{ActorState, IsAwake};
+
+    ghost Value = { ActorState };
+
+    ghost view = { λ a. record { disk = a.disk; lives = a.lives.items; running = a.running } };
+
+    ghost invariant = { λ a. IsAwake a.running };
+}
+
+// Ends a life.
+fn ended(running: Running) -> Life
+    ensures link { result.link ≡ running.link }
+    ensures book { result.book ≡ running.peer.parts.holding.book }
+{
+    Life {
+        link: running.link,
+        book: running.peer.into_book(),
+    }
+}
+
+// Orders that the next call of this kind fails, of the devices of a peer that runs.
+fn order(disk: &mut MemoryDisk, running: &mut Running, call: Device)
+    ensures fails { (most : ℕ) (lives : List Life) (x : PeerState)
+        → ShowsActor most (record { disk = disk.old; lives = lives; running = Some running.old }) x
+        → ShowsActor most (record { disk = disk.new; lives = lives; running = Some running.new }) (while_running (with_failing (as_device call)) x) }
+    ensures ready { IsReady running.old → IsReady running.new }
+{
+    match call {
+        Device::Read => disk.fail_next(Call::Read),
+        Device::Write => disk.fail_next(Call::Write),
+        Device::Sync => disk.fail_next(Call::Sync),
+        Device::Send => running.link.fail_next(Call::Send),
+        Device::Receive => {
+            running.is_deaf = true;
+            running.link.fail_next(Call::Next);
+        }
+    }
+}
+
+impl Actor {
+    /// A peer with this disk that was never started.
+    pub fn new(alloc: Global, disk: MemoryDisk) -> Actor
+        ensures { (most : ℕ) (calls : Calls) → ShowsDisk most disk (idle calls) → ShowsActor most result (idle calls) }
+    {
+        Actor {
+            alloc,
+            disk,
+            lives: Vec::new(alloc),
+            running: None,
+        }
+    }
+
+    /// The disk.
+    pub fn disk(&self) -> &MemoryDisk
+        ensures { result.now ≡ self.now.disk }
+    {
+        &self.disk
+    }
+
+    /// The lives that are over, the oldest first.
+    pub fn lives(&self) -> &[Life]
+        ensures { result.now ≡ self.now.lives }
+    {
+        self.lives.as_slice()
+    }
+
+    /// Whether the peer runs.
+    pub fn is_running(&self) -> bool
+        ensures { result ≡ is_some self.now.running }
+    {
+        self.running.is_some()
+    }
+
+    /// The link of a peer that runs.
+    pub fn link(&self) -> Option<&MemoryLink>
+        ensures some { IfSome result (λ link. link_in self.now.running ≡ Some link.now) }
+        ensures none { IfNone result (link_in self.now.running ≡ None) }
+    {
+        match &self.running {
+            Some(running) => Some(&running.link),
+            None => None,
+        }
+    }
+
+    /// Whether the next wait of a peer that runs is ordered to fail.
+    pub fn is_deaf(&self) -> bool
+        ensures { result ≡ is_deaf self.now.running }
+    {
+        match &self.running {
+            Some(running) => running.is_deaf,
+            None => false,
+        }
+    }
+
+    /// Orders that the next call of this kind fails, of the devices of a peer that runs.
+    pub fn fail(&mut self, call: Device)
+        ensures { (most : ℕ) (x : PeerState) → ShowsActor most self.old x → ShowsActor most self.new (while_running (with_failing (as_device call)) x) }
+    {
+        let Some(mut running) = self.running.take() else {
+            return;
+        };
+        order(&mut self.disk, &mut running, call);
+        self.running = Some(running);
+    }
+
+    /// Ends the life of a peer that runs. Its disk keeps what is pending.
+    pub fn stop(&mut self) -> Result<(), AllocError>
+        ensures { OnOk result ((most : ℕ) (x : PeerState) → ShowsActor most self.old x → ShowsActor most self.new (with_stop x)) }
+    {
+        if let Some(running) = self.running.take() {
+            self.lives.push(ended(running))?;
+        }
+        Ok(())
+    }
+
+    /// Stops the peer, and crashes its disk: the pick tells which of the writes that are pending are done.
+    pub fn crash(&mut self, pick: u64) -> Result<(), AllocError>
+        ensures { OnOk result ((most : ℕ) (x : PeerState) → ShowsActor most self.old x → ShowsActor most self.new (with_crash pick x)) }
+    {
+        self.stop()?;
+        self.disk.crash(pick);
+        enough(self.disk.short())
+    }
+
+    /// Opens the store of a peer that doesn't run, which begins a life, if the store can be opened.
+    pub fn start(&mut self, descriptor: &Descriptor, start: &Start) -> Result<(), AllocError>
+        ensures { OnOk result ((most : ℕ) (x : PeerState) → most + 4 < 2 ^ 64 → ShowsActor most self.old x
+            → ActorOpens descriptor.now most x self.new) }
+    {
+        if self.running.is_some() {
+            return Ok(());
+        }
+        let disk = replace(&mut self.disk, MemoryDisk::new(self.alloc, &[])?);
+        let Opened { disk, running } = open(self.alloc, descriptor, start, disk)?;
+        self.disk = disk;
+        self.running = running;
+        Ok(())
+    }
+
+    /// Lets a peer that runs take a turn: it waits for what comes, takes it, and sends what is due. The buffer has 65,536 bytes.
+    pub fn turn(&mut self, cue: Cue<'_>, buffer: &mut [u8]) -> Result<(), AllocError>
+        requires fits { FitsBuffer cue.came }
+        requires room { length buffer.old ≡ 65536 }
+        ensures { OnOk result ((most : ℕ) (x : PeerState) → most + 4 < 2 ^ 64 → ShowsActor most self.old x → Hears cue.entry x
+            → ActorTurns cue.entry.clock most x self.new) }
+    {
+        let Some(running) = self.running.take() else {
+            return Ok(());
+        };
+        let disk = replace(&mut self.disk, MemoryDisk::new(self.alloc, &[])?);
+        let Turned {
+            disk,
+            running,
+            goes_on,
+        } = take_turn(running, disk, cue, buffer)?;
+        self.disk = disk;
+        if goes_on {
+            self.running = Some(running);
+            return Ok(());
+        }
+        self.lives.push(ended(running))?;
+        Ok(())
+    }
+
+    /// The peer ends, and what is left of it is given away.
+    pub fn into_remains(mut self) -> Result<Remains, AllocError>
+        ensures { IfOk result (λ r. (most : ℕ) (x : PeerState) → ShowsActor most self x → ShowsRemains r x) }
+    {
+        self.stop()?;
+        let Actor { disk, lives, .. } = self;
+        Ok(Remains { disk, lives })
+    }
+}

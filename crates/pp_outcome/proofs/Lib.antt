@@ -1,0 +1,3 @@
+pub mod Gains
+pub mod Gates
+pub mod Ends

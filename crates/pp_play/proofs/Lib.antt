@@ -1,0 +1,4 @@
+pub mod Deliveries
+pub mod Plays
+pub mod Stages
+pub mod Turned

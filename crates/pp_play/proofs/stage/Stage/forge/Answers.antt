@@ -1,0 +1,26 @@
+use Rattle.std.proofs.Common.{◌≡◌, refl, sym, ◌∙◌, subst, ap, List, [], ◌∷◌, ◌++◌}
+use Rattle.std.specs.Prelude.{◌<◌, length, take, drop}
+use Rattle.pp_world.specs.Change.{with_delay, with_forged, with_loss, with_repeat}
+use Rattle.pp_world.specs.Move.{Make}
+use Rattle.pp_world.specs.Schedule as acts
+use Rattle.pp_world.specs.World.{Queued, address_of}
+use Rattle.pp_play.specs.Stage.{StageState, MovesAs, runs_at}
+use Rattle.pp_play.specs.contracts.stage.Stage.{the_view}
+use Rattle.pp_play.proofs.Stages.{is_here, queue_changes, queue_stays}
+use Rattle.pp_play.proofs.stage.Stage.forge.Goals as goal
+
+pub returns-in_ok-forge : goal.returns-in_ok-forge
+returns-in_ok-forge c =
+    let seen : StageState = the_view c.self.inside in
+    let it = is_here c.args.peer seen.actors (subst (λ (s : StageState). c.args.peer < length s.actors) (sym c.self.view_is) c.requires) in
+    subst (λ (s : StageState). MovesAs (Make (acts.Forge c.args.peer c.args.sender c.args.bytes.items)) s (record seen { mail = c.forge.new.self })) c.self.view_is
+    (subst (λ (mail : List (List Queued)). MovesAs (Make (acts.Forge c.args.peer c.args.sender c.args.bytes.items)) seen (record seen { mail = mail })) (sym (c.in_ok-forge.ensures.ok))
+    (queue_changes c.args.peer (Make (acts.Forge c.args.peer c.args.sender c.args.bytes.items)) (with_forged c.args.sender c.args.bytes.items) (λ queue. queue ++ record { sender = address_of c.args.sender; bytes = c.args.bytes.items } ∷ []) it.a seen (λ d w. refl) (λ x. refl) it.here
+    (ap (λ (s : StageState). runs_at c.args.peer s.actors) c.self.view_is ∙ sym c.is_running.ensures ∙ c.if-is_running.true)))
+
+pub returns-else-is_running : goal.returns-else-is_running
+returns-else-is_running c =
+    let seen : StageState = c.args.self.now in
+    let it = is_here c.args.peer seen.actors c.requires in
+    queue_stays c.args.peer (Make (acts.Forge c.args.peer c.args.sender c.args.bytes.items)) (with_forged c.args.sender c.args.bytes.items) (λ queue. queue ++ record { sender = address_of c.args.sender; bytes = c.args.bytes.items } ∷ []) it.a seen (λ d w. refl) (λ x. refl) it.here
+    (sym c.is_running.ensures ∙ c.if-is_running.false)
