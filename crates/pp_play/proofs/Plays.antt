@@ -60,8 +60,11 @@ for_each_suc act from (suc count) =
     ap (λ (ms : List Move). Make (act from) ∷ ms) (for_each_suc act (from + 1) count
     ∙ ap (λ (n : ℕ). for_each act (from + 1) count ++ Make (act n) ∷ []) (omega arith))
 
-pub for_each_one_more : (act : ℕ → Act) (from count : ℕ) → for_each act from (count + 1) ≡ for_each act from count ++ Make (act (from + count)) ∷ []
-for_each_one_more act from count = ap (for_each act from) (omega arith) ∙ for_each_suc act from count
+pub for_each_one_more : (act : ℕ → Act) (count : ℕ) → for_each act 0 (count + 1) ≡ for_each act 0 count ++ Make (act count) ∷ []
+for_each_one_more act count =
+    let next : count + 1 ≡ suc count = omega arith in
+    let same : zero + count ≡ count = omega arith in
+    ap (for_each act 0) next ∙ for_each_suc act 0 count ∙ ap (λ (n : ℕ). for_each act 0 count ++ Make (act n) ∷ []) same
 
 -- what happens in one round
 abbrev pub round : (peers gain : ℕ) → List Move
@@ -74,4 +77,4 @@ rounds_suc peers gain (suc rounds) =
     ∙ sym (append_assoc (round peers gain) (rounds_of peers gain rounds) (round peers gain))
 
 pub rounds_one_more : (peers gain rounds : ℕ) → rounds_of peers gain (rounds + 1) ≡ rounds_of peers gain rounds ++ round peers gain
-rounds_one_more peers gain rounds = ap (rounds_of peers gain) (omega arith) ∙ rounds_suc peers gain rounds
+rounds_one_more peers gain rounds = (let next : rounds + 1 ≡ suc rounds = omega arith in ap (rounds_of peers gain) next ∙ rounds_suc peers gain rounds)

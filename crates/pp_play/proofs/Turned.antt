@@ -1,6 +1,8 @@
 -- A turn of one peer, as one of a peer of a world.
 use Rattle.std.proofs.Common.{◌≡◌, ◌⊎◌, ⊎_elim, inl, inr, ℕ, zero, suc, ◌+◌, ◌^◌, ◌<◌, Bool, true, false, Option, Some, None, List, [], ◌∷◌, ◌++◌, map, length, refl, sym, ◌∙◌, ap, subst, arith}
+use Rattle.std.proofs.Math.ListN.{get_or}
 use Rattle.std.proofs.lemmas.List.{length-reverse, length-set}
+use Rattle.std.proofs.lemmas.Option.{slice_get_read}
 use Rattle.std.specs.Prelude.{is_some, option_map, drop, if◌then◌else◌, slice_get, slice_set, slice_index_or, reverse, MatchBool}
 use Rattle.pp_terms.specs.format.Descriptor.{Descriptor}
 use Rattle.pp_terms.specs.format.Traffic.{Record, Received, Quiet, Sent, LinkState}
@@ -225,6 +227,19 @@ put_at (suc peer) (x ∷ xs) a b within is = put_at peer xs a b (omega (arith, w
 same_one : (a b : ActorState) (o : Option ActorState) → o ≡ Some a → o ≡ Some b → a ≡ b
 same_one a b o one other = (let same : Some a ≡ Some b = sym one ∙ other in cc)
 
+-- the peers behind a wait of one of them, which took what waited first unless it was ordered to fail
+abbrev pub behind : StageState → (peer : ℕ) → (deaf : Bool) → StageState
+behind mid peer deaf = record mid { mail = if deaf then mid.mail else with_queue peer (drop 1) mid.mail }
+
+-- an element that was read
+pub stands : (actors : List ActorState) (i peer : ℕ) (a : ActorState) → i ≡ peer → peer < length actors → a ≡ get_or actors i a → slice_get actors peer ≡ Some a
+stands actors i peer a is within same =
+    subst (λ (n : ℕ). slice_get actors n ≡ Some a) is (slice_get_read actors (length actors) i a refl (subst (λ (n : ℕ). n < length actors) (sym is) within) same)
+
+pub heard_within : (peer : ℕ) (old mid : StageState) → HasHeard peer old mid → peer < length old.actors → peer < length mid.actors
+heard_within peer old mid heard within =
+    subst (λ (n : ℕ). peer < n) (sym (ap (λ (s : StageState). length s.actors) heard.is ∙ length-set old.actors peer heard.after)) within
+
 -- An actor that doesn't run stays, with all else.
 pub turns_none : (peer : ℕ) (a : ActorState) (old : StageState) → slice_get old.actors peer ≡ Some a → link_in a.running ≡ None → MovesAs (Make (Turn peer)) old old
 turns_none peer a old here none = record {
@@ -271,26 +286,22 @@ module _ (peer : ℕ) (old mid : StageState) (heard : HasHeard peer old mid) (wi
   count : length (slice_set old.actors peer heard.after) ≡ length old.actors
   count = length-set old.actors peer heard.after
 
-  -- behind the wait
-  abbrev pub behind : Bool → StageState
-  behind deaf = record mid { mail = if deaf then mid.mail else with_queue peer (drop 1) mid.mail }
-
   deaf_is : (deaf : Bool) → deaf ≡ is_deaf before.running → deaf ≡ over.r.is_deaf
   deaf_is deaf same = same ∙ ap is_deaf over.is
 
   pub turn_on : (new_link : MemoryLink) (deaf : Bool) (records : ℕ) → link_in after.running ≡ Some new_link → deaf ≡ is_deaf before.running
       → records ≡ length (links.in_order old_link)
-      → MovesAs (Make (Turn peer)) old (record (behind deaf) { mail = mail_after peer (reverse (drop records (links.in_order new_link))) (behind deaf).mail })
+      → MovesAs (Make (Turn peer)) old (record (behind mid peer deaf) { mail = mail_after peer (reverse (drop records (links.in_order new_link))) (behind mid peer deaf).mail })
   turn_on new_link deaf records runs_now same size =
       let now : RunsOver after.running new_link = runs_over after.running new_link runs_now in
       let on = turns_on peer over.r old mid heard runs count now.r records (ap (λ (a : ActorState). a.running) is_after ∙ now.is)
           (size ∙ sym (ap (λ (l : MemoryLink). length (links.in_order l)) over.over)) in
       subst (λ (l : MemoryLink). MovesAs (Make (Turn peer)) old
-          (record (behind deaf) { mail = mail_after peer (reverse (drop records (links.in_order l))) (behind deaf).mail })) now.over
+          (record (behind mid peer deaf) { mail = mail_after peer (reverse (drop records (links.in_order l))) (behind mid peer deaf).mail })) now.over
       (subst (λ (b : Bool). MovesAs (Make (Turn peer)) old
-          (record (behind b) { mail = mail_after peer (reverse (drop records (links.in_order now.r.link))) (behind b).mail })) (sym (deaf_is deaf same)) on)
+          (record (behind mid peer b) { mail = mail_after peer (reverse (drop records (links.in_order now.r.link))) (behind mid peer b).mail })) (sym (deaf_is deaf same)) on)
 
-  pub turn_off : (deaf : Bool) → link_in after.running ≡ None → deaf ≡ is_deaf before.running → MovesAs (Make (Turn peer)) old (behind deaf)
+  pub turn_off : (deaf : Bool) → link_in after.running ≡ None → deaf ≡ is_deaf before.running → MovesAs (Make (Turn peer)) old (behind mid peer deaf)
   turn_off deaf none same =
-      subst (λ (b : Bool). MovesAs (Make (Turn peer)) old (behind b)) (sym (deaf_is deaf same))
+      subst (λ (b : Bool). MovesAs (Make (Turn peer)) old (behind mid peer b)) (sym (deaf_is deaf same))
       (turns_off peer over.r old mid heard runs count (ap (λ (a : ActorState). a.running) is_after ∙ runs_not after.running none))
