@@ -1,4 +1,7 @@
 pub mod Deliveries
+pub mod Endings
+pub mod Few
+pub mod Firsts
 pub mod Plays
 pub mod Stages
 pub mod Turned

@@ -1,10 +1,15 @@
 -- Moves one after another, as a schedule's worlds have them.
-use Rattle.std.specs.Prelude.{◌≡◌, ℕ, ◌+◌, ◌*◌, ◌^◌, ◌<◌, List, ◌∷◌, ◌++◌, length, reverse}
+use Rattle.std.specs.Prelude.{◌≡◌, ℕ, ◌+◌, ◌*◌, ◌^◌, ◌<◌, List, [], ◌∷◌, ◌++◌, length, reverse}
 use Rattle.pp_world.specs.Move.{Move}
 use Rattle.pp_world.specs.Schedule.{Schedule}
-use Rattle.pp_world.specs.World.{World}
+use Rattle.pp_terms.specs.format.Descriptor.{Descriptor}
+use Rattle.pp_world.specs.Outcome.{IsEndOf}
+use Rattle.pp_world.specs.World.{PeerState, World}
 use Rattle.pp_world.specs.Worlds.{Happened, swarm_of}
-use Rattle.pp_play.specs.Stage.{StageState, ShowsStage}
+use Rattle.pp_actor.specs.Actor.{ActorState, ShowsRemains}
+use Rattle.pp_outcome.specs.Outcome.{end_as}
+use Rattle.pp_outcome.specs.declared.outcome.PeerEnd.{PeerEnd}
+use Rattle.pp_play.specs.Stage.{ShowActors, StageState, ShowsStage}
 
 -- These moves of a schedule, the newest of which stands first, made a world which the peers are.
 pub record HasPlayed (s : Schedule) (most : ℕ) (done : List Move) (stage : StageState) : Type 0 where
@@ -19,3 +24,16 @@ pub record PlaysAs (moves : List Move) (old new : StageState) : Type 0 where
   pub count : length new.actors ≡ length old.actors
   pub plays : (s : Schedule) (most : ℕ) (done : List Move) → swarm_of s ≡ old.descriptor → most + 4 * length moves < 2 ^ 64
       → HasPlayed s most done old → HasPlayed s (most + 4 * length moves) (reverse moves ++ done) new
+
+-- ---- the end
+
+-- The peers at the end are those of a world, each with its devices and its numbers.
+abbrev pub AreEnds : Descriptor → List PeerEnd → List PeerState → Type 0
+AreEnds d [] [] = Unit {0}
+AreEnds d [] (x ∷ xs) = ⊥
+AreEnds d (end ∷ ends) [] = ⊥
+AreEnds d (end ∷ ends) (x ∷ xs) = ShowsRemains end.remains x × IsEndOf d (end_as x end) × AreEnds d ends xs
+
+-- This holds of each world whose peers the actors were.
+abbrev pub EndAs : Descriptor → List ActorState → List PeerEnd → Type 0
+EndAs d actors ends = (most : ℕ) (peers : List PeerState) → ShowActors most actors peers → AreEnds d ends peers

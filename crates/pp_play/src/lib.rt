@@ -3,9 +3,13 @@
 
 mod acts;
 mod delivering;
+mod first;
 mod playing;
+mod replaying;
 mod stage;
 mod starting;
 mod turns;
 
-pub use stage::Stage;
+pub use replaying::{Outcome, ReplayFault, replay};
+
+use stage::Stage;

@@ -1,0 +1,113 @@
+-- The peers of a replay at its end.
+use Rattle.std.proofs.Common.{◌≡◌, ℕ, ◌+◌, ◌*◌, ◌^◌, ◌<◌, ◌≤◌, List, [], ◌∷◌, ◌++◌, map, length, refl, sym, ◌∙◌, ap, subst, arith}
+use Rattle.std.specs.Prelude.{reverse}
+use Rattle.std.specs.List.{AllByRecursion}
+use Rattle.std.proofs.lemmas.List.{append-nil, append_assoc}
+use Rattle.pp_terms.specs.format.Descriptor.{Descriptor}
+use Rattle.pp_world.specs.Move.{Move, moves_of}
+use Rattle.pp_world.specs.Outcome as terms
+use Rattle.pp_world.specs.Outcome.{IsEndOf}
+use Rattle.pp_world.specs.Schedule.{IsSchedule, Schedule, content_of}
+use Rattle.pp_world.specs.World.{PeerState, World}
+use Rattle.pp_world.specs.Worlds.{AreWorlds, Happened, swarm_of}
+use Rattle.pp_actor.specs.Actor.{ActorState, ShowsActor, ShowsRemains}
+use Rattle.pp_actor.specs.declared.life.Remains.{Remains}
+use Rattle.pp_outcome.specs.Outcome.{EndsAs, end_as}
+use Rattle.pp_outcome.specs.declared.outcome.PeerEnd.{PeerEnd}
+use Rattle.pp_play.specs.First.{IsReadied}
+use Rattle.pp_play.specs.Playing.{AreEnds, EndAs, HasPlayed, PlaysAs}
+use Rattle.pp_play.specs.Replaying.{IsPlayed, ShowEnds, ShowsEnd}
+use Rattle.pp_play.specs.Stage.{ShowActors, StageState}
+use Rattle.pp_play.proofs.Firsts.{count_new, count_shown}
+
+-- ---- one more
+
+-- the last of some actors
+record LastShown (most : ℕ) (actors : List ActorState) (a : ActorState) (peers : List PeerState) : Type 0 where
+  front : List PeerState
+  x : PeerState
+  is : peers ≡ front ++ x ∷ []
+  show : ShowActors most actors front
+  one : ShowsActor most a x
+
+last_shown : (most : ℕ) (actors : List ActorState) (a : ActorState) (peers : List PeerState) → ShowActors most (actors ++ a ∷ []) peers → LastShown most actors a peers
+last_shown most [] a [] show = absurd show
+last_shown most [] a (x ∷ []) show = record { front = []; x = x; is = refl; show = tt; one = show.0 }
+last_shown most [] a (x ∷ y ∷ ys) show = absurd show.1
+last_shown most (b ∷ actors) a [] show = absurd show
+last_shown most (b ∷ actors) a (x ∷ xs) show =
+    let it = last_shown most actors a xs show.1 in record {
+      front = x ∷ it.front;
+      x = it.x;
+      is = ap (λ (ys : List PeerState). x ∷ ys) it.is;
+      show = (show.0, it.show);
+      one = it.one;
+    }
+
+end_more : (d : Descriptor) (ends : List PeerEnd) (end : PeerEnd) (peers : List PeerState) (x : PeerState) → AreEnds d ends peers → ShowsRemains end.remains x
+    → IsEndOf d (end_as x end) → AreEnds d (ends ++ end ∷ []) (peers ++ x ∷ [])
+end_more d [] end [] x are shows is = (shows, is, tt)
+end_more d [] end (y ∷ ys) x are shows is = absurd are
+end_more d (e ∷ ends) end [] x are shows is = absurd are
+end_more d (e ∷ ends) end (y ∷ ys) x are shows is = (are.0, are.1, end_more d ends end ys x are.2 shows is)
+
+pub ends_more : (d : Descriptor) (actors : List ActorState) (ends : List PeerEnd) (a : ActorState) (remains : Remains) (end : PeerEnd) → EndAs d actors ends
+    → ((most : ℕ) (x : PeerState) → ShowsActor most a x → ShowsRemains remains x) → EndsAs d remains end → EndAs d (actors ++ a ∷ []) (ends ++ end ∷ [])
+ends_more d actors ends a remains end all leaves one most peers show =
+    let it = last_shown most actors a peers show in
+    let left : ShowsRemains remains it.x = leaves most it.x it.one in
+    subst (AreEnds d (ends ++ end ∷ [])) (sym it.is)
+    (end_more d ends end it.front it.x (all most it.front it.show) (subst (λ (r : Remains). ShowsRemains r it.x) (sym one.kept) left) (one.numbers it.x left))
+
+pub ends_none : (d : Descriptor) → EndAs d [] []
+ends_none d most [] show = tt
+ends_none d most (x ∷ xs) show = absurd show
+
+-- all that an iterator gave, as it is
+pub map_same : (actors : List ActorState) → map (λ a. a) actors ≡ actors
+map_same [] = refl
+map_same (a ∷ actors) = ap (λ (l : List ActorState). a ∷ l) (map_same actors)
+
+-- ---- the whole
+
+abbrev seen : List PeerEnd → List PeerState → List terms.PeerEnd
+seen [] peers = []
+seen (end ∷ ends) [] = []
+seen (end ∷ ends) (x ∷ xs) = end_as x end ∷ seen ends xs
+
+seen_states : (d : Descriptor) (ends : List PeerEnd) (peers : List PeerState) → AreEnds d ends peers → map (λ e. e.state) (seen ends peers) ≡ peers
+seen_states d [] [] are = refl
+seen_states d [] (x ∷ xs) are = absurd are
+seen_states d (end ∷ ends) [] are = absurd are
+seen_states d (end ∷ ends) (x ∷ xs) are = ap (λ (ys : List PeerState). x ∷ ys) (seen_states d ends xs are.2)
+
+seen_numbers : (d : Descriptor) (ends : List PeerEnd) (peers : List PeerState) → AreEnds d ends peers → AllByRecursion (IsEndOf d) (seen ends peers)
+seen_numbers d [] peers are = tt
+seen_numbers d (end ∷ ends) [] are = absurd are
+seen_numbers d (end ∷ ends) (x ∷ xs) are = (are.1, seen_numbers d ends xs are.2)
+
+seen_shown : (d : Descriptor) (ends : List PeerEnd) (peers : List PeerState) → AreEnds d ends peers → ShowEnds ends (seen ends peers)
+seen_shown d [] peers are = tt
+seen_shown d (end ∷ ends) [] are = absurd are
+seen_shown d (end ∷ ends) (x ∷ xs) are = (record { remains = are.0; numbers = refl }, seen_shown d ends xs are.2)
+
+-- A schedule was played from its first world.
+pub played : (s : Schedule) (first last : StageState) (ends : List PeerEnd) → IsReadied s first → PlaysAs (moves_of s) first last → 4 * length (moves_of s) < 2 ^ 64
+    → EndAs last.descriptor last.actors ends → IsPlayed s ends
+played s first last ends ready plays few all =
+    let done = plays.plays s 0 [] (sym ready.descriptor) (omega (arith, few))
+        (record { last = ready.first; before = []; happened = ready.is_first; shows = ready.shows }) in
+    let are = subst (λ (d : Descriptor). AreEnds d ends done.last.peers) (plays.descriptor ∙ ready.descriptor)
+        (all (0 + 4 * length (moves_of s)) done.last.peers done.shows.actors) in record {
+      peers = seen ends done.last.peers;
+      last = done.last;
+      before = done.before;
+      worlds = subst (λ (moves : List Move). Happened s moves (done.last ∷ done.before)) (append-nil (reverse (moves_of s))) done.happened;
+      same = seen_states (swarm_of s) ends done.last.peers are;
+      numbers = seen_numbers (swarm_of s) ends done.last.peers are;
+      show = seen_shown (swarm_of s) ends done.last.peers are;
+    }
+
+pub counted : (s : Schedule) (stage : StageState) → IsReadied s stage → length stage.actors ≡ length s.roles
+counted s stage ready =
+    count_shown 0 stage.actors ready.first.peers ready.shows.actors ∙ count_new (swarm_of s) (content_of s) s.roles ready.first.peers ready.is_first.peers

@@ -1,0 +1,124 @@
+-- The peers of a schedule before its first move.
+use Rattle.std.proofs.Common.{◌≡◌, ℕ, suc, false, true, List, [], ◌∷◌, ◌++◌, map, length, refl, sym, ◌∙◌, ap, subst, arith}
+use Rattle.std.proofs.lemmas.List.{length-replicate, map-append}
+use Rattle.std.specs.Prelude.{replicate, Result, Ok, Err, IfOk}
+use Rattle.std.specs.declared.alloc.AllocError.{AllocError}
+use Rattle.pp_terms.specs.disk.Calls.{Calls, attached}
+use Rattle.pp_terms.specs.disk.Disk.{DiskState, fresh}
+use Rattle.pp_terms.specs.format.Descriptor.{Descriptor}
+use Rattle.pp_outside.specs.MemoryDisk as disks
+use Rattle.pp_outside.specs.declared.call.Call.{Call}
+use Rattle.pp_outside.specs.declared.call.Call.TheVariants as calls
+use Rattle.pp_outside.specs.declared.memory_disk.MemoryDisk.{MemoryDisk}
+use Rattle.pp_watch.specs.Shown.{ShowsDisk}
+use Rattle.pp_world.specs.Schedule as terms
+use Rattle.pp_world.specs.World.{Queued, PeerState}
+use Rattle.pp_store.specs.Imported.{imported}
+use Rattle.pp_world.specs.Worlds.{AreNew, IsNew, empty_disk, idle, swarm_of}
+use Rattle.pp_mail.proofs.Peers.{mail_at}
+use Rattle.pp_replay.specs.Views.{as_role}
+use Rattle.pp_replay.specs.declared.types.Role.{Role}
+use Rattle.pp_actor.specs.Actor.{ActorState, ShowsActor}
+use Rattle.pp_play.specs.First.{BeginAs, BeginsAs, IsReadied}
+use Rattle.pp_play.specs.Stage.{ShowActors}
+
+pub both_ok : {A : Type 0} {P Q R : A → Type 0} (r : Result A AllocError) → IfOk r P → IfOk r Q → ((x : A) → P x → Q x → R x) → IfOk r R
+both_ok (Ok x) p q makes = makes x p q
+both_ok (Err e) p q makes = tt
+
+-- ---- one peer
+
+pub empty_shown : (disk : MemoryDisk) → disks.state_of disk ≡ record { tells = true; honest = true; history = fresh []; faults = 0; hard = 0 }
+    → ((call : Call) → disks.is_ordered disk call ≡ false) → ShowsDisk 0 disk (idle empty_disk)
+empty_shown disk state none = record {
+  unattached = refl;
+  history = ap (λ (s : DiskState). attached (fresh []) s.history) state;
+  faults = ap (λ (s : DiskState). s.faults) state;
+  hard = ap (λ (s : DiskState). s.hard) state;
+  few = omega arith;
+  few_hard = omega arith;
+  read = none calls.Read;
+  write = none calls.Write;
+  sync = none calls.Sync;
+  attach = none calls.Attach;
+  len = none calls.Len;
+}
+
+-- ---- one more
+
+new_more : (d : Descriptor) (content : List ℕ) (roles : List terms.Role) (peers : List PeerState) (role : terms.Role) (x : PeerState)
+    → AreNew d content roles peers → IsNew d content role x → AreNew d content (roles ++ role ∷ []) (peers ++ x ∷ [])
+new_more d content [] [] role x are is = (is, tt)
+new_more d content [] (y ∷ ys) role x are is = absurd are
+new_more d content (r ∷ roles) [] role x are is = absurd are
+new_more d content (r ∷ roles) (y ∷ ys) role x are is = (are.0, new_more d content roles ys role x are.1 is)
+
+shown_more : (most : ℕ) (actors : List ActorState) (peers : List PeerState) (a : ActorState) (x : PeerState) → ShowActors most actors peers → ShowsActor most a x
+    → ShowActors most (actors ++ a ∷ []) (peers ++ x ∷ [])
+shown_more most [] [] a x show one = (one, tt)
+shown_more most [] (y ∷ ys) a x show one = absurd show
+shown_more most (b ∷ actors) [] a x show one = absurd show
+shown_more most (b ∷ actors) (y ∷ ys) a x show one = (show.0, shown_more most actors ys a x show.1 one)
+
+pub begin_more : (d : Descriptor) (content : List ℕ) (roles : List Role) (actors : List ActorState) (role : Role) (disk : MemoryDisk) (a : ActorState)
+    → BeginAs d content roles actors → BeginsAs d content role disk
+    → ((most : ℕ) (calls : Calls) → ShowsDisk most disk (idle calls) → ShowsActor most a (idle calls))
+    → BeginAs d content (roles ++ role ∷ []) (actors ++ a ∷ [])
+begin_more d content roles actors role disk a begin begins shows = record {
+  peers = begin.peers ++ idle begins.calls ∷ [];
+  new = subst (λ (rs : List terms.Role). AreNew d content rs (begin.peers ++ idle begins.calls ∷ [])) (sym (map-append as_role roles (role ∷ [])))
+      (new_more d content (map as_role roles) begin.peers (as_role role) (idle begins.calls) begin.new (record { disk = begins.has; is = refl }));
+  show = shown_more 0 actors begin.peers a (idle begins.calls) begin.show (shows 0 begins.calls begins.shows);
+}
+
+-- ---- all of them
+
+pub count_new : (d : Descriptor) (content : List ℕ) (roles : List terms.Role) (peers : List PeerState) → AreNew d content roles peers → length peers ≡ length roles
+count_new d content [] [] are = refl
+count_new d content [] (y ∷ ys) are = absurd are
+count_new d content (r ∷ roles) [] are = absurd are
+count_new d content (r ∷ roles) (y ∷ ys) are = ap (λ (n : ℕ). suc n) (count_new d content roles ys are.1)
+
+pub count_shown : (most : ℕ) (actors : List ActorState) (peers : List PeerState) → ShowActors most actors peers → length actors ≡ length peers
+count_shown most [] [] show = refl
+count_shown most [] (y ∷ ys) show = absurd show
+count_shown most (a ∷ actors) [] show = absurd show
+count_shown most (a ∷ actors) (y ∷ ys) show = ap (λ (n : ℕ). suc n) (count_shown most actors ys show.1)
+
+-- nothing waits for any of them
+abbrev pub no_mail : List Queued
+no_mail = []
+
+pub mail_at-new : (d : Descriptor) (content : List ℕ) (roles : List terms.Role) (peers : List PeerState) → AreNew d content roles peers
+    → replicate (length roles) no_mail ≡ mail_at peers
+mail_at-new d content [] [] are = refl
+mail_at-new d content [] (y ∷ ys) are = absurd are
+mail_at-new d content (r ∷ roles) [] are = absurd are
+mail_at-new d content (r ∷ roles) (y ∷ ys) are =
+    ap (λ (qs : List (List Queued)). no_mail ∷ qs) (mail_at-new d content roles ys are.1)
+    ∙ ap (λ (q : List Queued). q ∷ mail_at ys) (sym (ap (λ (x : PeerState). x.queue) are.0.is))
+
+-- ---- the first world
+
+module _ (s : terms.Schedule) (d : Descriptor) (content : List ℕ) (roles : List Role) (actors : List ActorState) (mail : List (List Queued))
+    (is_content : content ≡ terms.content_of s) (is : d ≡ imported content s.chunk) (are : map as_role roles ≡ s.roles)
+    (waiting : mail ≡ replicate (length s.roles) no_mail) (begin : BeginAs (imported content s.chunk) content roles actors) where
+  new : AreNew (swarm_of s) (terms.content_of s) s.roles begin.peers
+  new = subst (λ (rs : List terms.Role). AreNew (swarm_of s) (terms.content_of s) rs begin.peers) are
+      (subst (λ (bytes : List ℕ). AreNew (imported bytes s.chunk) bytes (map as_role roles) begin.peers) is_content begin.new)
+
+  pub readied : IsReadied s (record { descriptor = d; clock = 0; actors = actors; mail = mail })
+  readied = record {
+    descriptor = is ∙ ap (λ (bytes : List ℕ). imported bytes s.chunk) is_content;
+    first = record { clock = 0; peers = begin.peers };
+    is_first = record { clock = refl; peers = new };
+    shows = record {
+      clock = refl;
+      actors = begin.show;
+      mail = waiting ∙ mail_at-new (swarm_of s) (terms.content_of s) s.roles begin.peers new;
+    };
+  }
+
+  pub set_up : length mail ≡ length actors
+  set_up = ap (λ (m : List (List Queued)). length m) waiting ∙ length-replicate (length s.roles) no_mail
+      ∙ sym (count_new (swarm_of s) (terms.content_of s) s.roles begin.peers new) ∙ sym (count_shown 0 actors begin.peers begin.show)

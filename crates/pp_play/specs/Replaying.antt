@@ -1,0 +1,49 @@
+-- What a replay answers.
+use Rattle.std.specs.Prelude.{◌≡◌, ℕ, List, [], ◌∷◌, map, Result, Ok, Err, IsOk}
+use Rattle.std.specs.List.{AllByRecursion}
+use Rattle.pp_world.specs.Outcome as terms
+use Rattle.pp_world.specs.Outcome.{IsEndOf}
+use Rattle.pp_world.specs.Schedule.{Schedule}
+use Rattle.pp_world.specs.ScheduleRead.{read_schedule}
+use Rattle.pp_world.specs.World.{World}
+use Rattle.pp_world.specs.Worlds.{AreWorlds, swarm_of}
+use Rattle.pp_replay.specs.Views.{as_fault}
+use Rattle.pp_actor.specs.Actor.{ShowsRemains}
+use Rattle.pp_outcome.specs.Outcome.{end_as}
+use Rattle.pp_outcome.specs.declared.outcome.PeerEnd.{PeerEnd}
+use Rattle.pp_play.specs.declared.replaying.Outcome.{Outcome}
+use Rattle.pp_play.specs.declared.replaying.ReplayFault.{ReplayFault}
+use Rattle.pp_play.specs.declared.replaying.ReplayFault.TheVariants as faults
+
+-- The devices that were used are those of the peer, and its numbers are as said.
+pub record ShowsEnd (end : PeerEnd) (e : terms.PeerEnd) : Type 0 where
+  pub remains : ShowsRemains end.remains e.state
+  pub numbers : e ≡ end_as e.state end
+
+abbrev pub ShowEnds : List PeerEnd → List terms.PeerEnd → Type 0
+ShowEnds [] [] = Unit {0}
+ShowEnds [] (e ∷ es) = ⊥
+ShowEnds (end ∷ ends) [] = ⊥
+ShowEnds (end ∷ ends) (e ∷ es) = ShowsEnd end e × ShowEnds ends es
+
+-- These are the peers at the end of worlds of the schedule.
+pub record IsPlayed (s : Schedule) (ends : List PeerEnd) : Type 0 where
+  pub peers : List terms.PeerEnd
+  pub last : World
+  pub before : List World
+  pub worlds : AreWorlds s (last ∷ before)
+  pub same : map (λ e. e.state) peers ≡ last.peers
+  pub numbers : AllByRecursion (IsEndOf (swarm_of s)) peers
+  pub show : ShowEnds ends peers
+
+-- The text is a schedule, and this is its outcome.
+pub record IsReplayed (text : List ℕ) (outcome : Outcome) : Type 0 where
+  pub schedule : Schedule
+  pub read : read_schedule text ≡ Ok schedule
+  pub played : IsPlayed schedule outcome.ends.items
+
+-- When each answer comes.
+abbrev pub HasReplayed : List ℕ → Result Outcome ReplayFault → Type 0
+HasReplayed text (Ok outcome) = IsReplayed text outcome
+HasReplayed text (Err (faults.Schedule fault)) = read_schedule text ≡ Err (as_fault fault)
+HasReplayed text (Err faults.Memory) = IsOk (read_schedule text)
