@@ -1,9 +1,9 @@
 -- The peers of a replay at its end.
-use Rattle.std.proofs.Common.{◌≡◌, ℕ, ◌+◌, ◌*◌, ◌^◌, ◌<◌, ◌≤◌, List, [], ◌∷◌, ◌++◌, map, length, refl, sym, ◌∙◌, ap, subst, arith}
+use Rattle.std.proofs.Common.{◌≡◌, ℕ, ◌+◌, ◌*◌, ◌^◌, ◌<◌, ◌≤◌, List, [], ◌∷◌, ◌++◌, map, length, refl, sym, ◌∙◌, ap, subst, arith, Vec, Global}
 use Rattle.std.specs.Prelude.{reverse}
 use Rattle.std.specs.List.{AllByRecursion}
 use Rattle.std.proofs.lemmas.List.{append-nil, append_assoc}
-use Rattle.pp_terms.specs.format.Descriptor.{Descriptor}
+use Rattle.pp_terms.specs.format.Descriptor.{Descriptor, chunks_of}
 use Rattle.pp_world.specs.Move.{Move, moves_of}
 use Rattle.pp_world.specs.Outcome as terms
 use Rattle.pp_world.specs.Outcome.{IsEndOf}
@@ -92,20 +92,24 @@ seen_shown d (end ∷ ends) [] are = absurd are
 seen_shown d (end ∷ ends) (x ∷ xs) are = (record { remains = are.0; numbers = refl }, seen_shown d ends xs are.2)
 
 -- A schedule was played from its first world.
-pub played : (s : Schedule) (first last : StageState) (ends : List PeerEnd) → IsReadied s first → PlaysAs (moves_of s) first last → 4 * length (moves_of s) < 2 ^ 64
-    → EndAs last.descriptor last.actors ends → IsPlayed s ends
-played s first last ends ready plays few all =
+pub played : (s : Schedule) (first last : StageState) (ends : Vec PeerEnd Global) (chunks : ℕ) → IsReadied s first → PlaysAs (moves_of s) first last
+    → 4 * length (moves_of s) < 2 ^ 64 → EndAs last.descriptor last.actors ends.items → chunks ≡ chunks_of last.descriptor
+    → IsPlayed s (record { ends = ends; chunks = chunks })
+played s first last ends chunks ready plays few all size =
     let done = plays.plays s 0 [] (sym ready.descriptor) (omega (arith, few))
         (record { last = ready.first; before = []; happened = ready.is_first; shows = ready.shows }) in
-    let are = subst (λ (d : Descriptor). AreEnds d ends done.last.peers) (plays.descriptor ∙ ready.descriptor)
+    let are = subst (λ (d : Descriptor). AreEnds d ends.items done.last.peers) (plays.descriptor ∙ ready.descriptor)
         (all (0 + 4 * length (moves_of s)) done.last.peers done.shows.actors) in record {
-      peers = seen ends done.last.peers;
-      last = done.last;
-      before = done.before;
-      worlds = subst (λ (moves : List Move). Happened s moves (done.last ∷ done.before)) (append-nil (reverse (moves_of s))) done.happened;
-      same = seen_states (swarm_of s) ends done.last.peers are;
-      numbers = seen_numbers (swarm_of s) ends done.last.peers are;
-      show = seen_shown (swarm_of s) ends done.last.peers are;
+      peers = seen ends.items done.last.peers;
+      ended = record {
+        last = done.last;
+        before = done.before;
+        worlds = subst (λ (moves : List Move). Happened s moves (done.last ∷ done.before)) (append-nil (reverse (moves_of s))) done.happened;
+        same = seen_states (swarm_of s) ends.items done.last.peers are;
+        numbers = seen_numbers (swarm_of s) ends.items done.last.peers are;
+      };
+      show = seen_shown (swarm_of s) ends.items done.last.peers are;
+      chunks = size ∙ ap chunks_of (plays.descriptor ∙ ready.descriptor);
     }
 
 pub counted : (s : Schedule) (stage : StageState) → IsReadied s stage → length stage.actors ≡ length s.roles

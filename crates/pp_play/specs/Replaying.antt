@@ -1,6 +1,7 @@
 -- What a replay answers.
 use Rattle.std.specs.Prelude.{◌≡◌, ℕ, List, [], ◌∷◌, map, Result, Ok, Err, IsOk}
 use Rattle.std.specs.List.{AllByRecursion}
+use Rattle.pp_terms.specs.format.Descriptor.{chunks_of}
 use Rattle.pp_world.specs.Outcome as terms
 use Rattle.pp_world.specs.Outcome.{IsEndOf}
 use Rattle.pp_world.specs.Schedule.{Schedule}
@@ -26,21 +27,26 @@ ShowEnds [] (e ∷ es) = ⊥
 ShowEnds (end ∷ ends) [] = ⊥
 ShowEnds (end ∷ ends) (e ∷ es) = ShowsEnd end e × ShowEnds ends es
 
--- These are the peers at the end of worlds of the schedule.
-pub record IsPlayed (s : Schedule) (ends : List PeerEnd) : Type 0 where
-  pub peers : List terms.PeerEnd
+-- Peers at the end of worlds of a schedule, with their numbers.
+pub record IsEnded (s : Schedule) (peers : List terms.PeerEnd) : Type 0 where
   pub last : World
   pub before : List World
   pub worlds : AreWorlds s (last ∷ before)
   pub same : map (λ e. e.state) peers ≡ last.peers
   pub numbers : AllByRecursion (IsEndOf (swarm_of s)) peers
-  pub show : ShowEnds ends peers
+
+-- A schedule was played to this outcome.
+pub record IsPlayed (s : Schedule) (outcome : Outcome) : Type 0 where
+  pub peers : List terms.PeerEnd
+  pub ended : IsEnded s peers
+  pub show : ShowEnds outcome.ends.items peers
+  pub chunks : outcome.chunks ≡ chunks_of (swarm_of s)
 
 -- The text is a schedule, and this is its outcome.
 pub record IsReplayed (text : List ℕ) (outcome : Outcome) : Type 0 where
   pub schedule : Schedule
   pub read : read_schedule text ≡ Ok schedule
-  pub played : IsPlayed schedule outcome.ends.items
+  pub played : IsPlayed schedule outcome
 
 -- When each answer comes.
 abbrev pub HasReplayed : List ℕ → Result Outcome ReplayFault → Type 0

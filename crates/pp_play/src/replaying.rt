@@ -23,10 +23,11 @@ pub enum ReplayFault {
     Memory,
 }
 
-/// The peers of a schedule at its end, by their numbers.
+/// The peers of a schedule at its end, by their numbers, and how many chunks its content has.
 #[derive(Drop)]
 pub struct Outcome {
     pub ends: Vec<PeerEnd>,
+    pub chunks: u32,
 }
 
 // Ends all peers.
@@ -40,17 +41,20 @@ fn end_all(alloc: Global, descriptor: &Descriptor, actors: Vec<Actor>) -> Result
     Ok(ends)
 }
 
-// Plays a schedule, and answers its peers at the end.
-fn play(alloc: Global, schedule: &Schedule<'_>) -> Result<Vec<PeerEnd>, AllocError>
+// Plays a schedule.
+fn play(alloc: Global, schedule: &Schedule<'_>) -> Result<Outcome, AllocError>
     requires { IsSchedule schedule.now }
-    ensures { IfOk result (λ ends. IsPlayed schedule.now ends.items) }
+    ensures { IfOk result (IsPlayed schedule.now) }
 {
     let mut stage = Stage::new(alloc, schedule)?;
     stage.play(alloc, schedule)?;
     let Stage {
         descriptor, actors, ..
     } = stage;
-    end_all(alloc, &descriptor, actors)
+    Ok(Outcome {
+        ends: end_all(alloc, &descriptor, actors)?,
+        chunks: descriptor.chunks(),
+    })
 }
 
 /// Replays a schedule over devices in memory: the peers that it names share its content, each with a disk and a link of its own, and what it
@@ -65,7 +69,7 @@ pub fn replay(alloc: Global, text: &[u8]) -> Result<Outcome, ReplayFault>
         Err(fault) => return Err(ReplayFault::Schedule(fault)),
     };
     match play(alloc, &schedule) {
-        Ok(ends) => Ok(Outcome { ends }),
+        Ok(outcome) => Ok(outcome),
         Err(_) => Err(ReplayFault::Memory),
     }
 }

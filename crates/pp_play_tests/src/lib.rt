@@ -1,0 +1,5 @@
+//! Tests of replays: schedules of several peers, and what is left of them.
+#![tactic(auto)]
+
+#[cfg(test)]
+mod ends;
