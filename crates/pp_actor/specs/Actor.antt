@@ -1,5 +1,5 @@
 -- An actor, as a peer of a world.
-use Rattle.std.specs.Prelude.{◌≡◌, ℕ, ◌+◌, Bool, true, false, Option, Some, None, List, [], ◌∷◌, ◌++◌, length, reverse}
+use Rattle.std.specs.Prelude.{◌≡◌, ℕ, ◌+◌, Bool, true, false, Option, Some, None, List, [], ◌∷◌, ◌++◌, length, reverse, IfSome}
 use Rattle.pp_terms.specs.disk.Calls.{attached, history_of}
 use Rattle.pp_terms.specs.disk.Disk.{fresh}
 use Rattle.pp_terms.specs.format.Descriptor.{Descriptor}
@@ -19,6 +19,8 @@ use Rattle.pp_actor.specs.declared.life.Life.{Life}
 use Rattle.pp_actor.specs.declared.life.Remains.{Remains}
 use Rattle.pp_stage.specs.declared.turning.Cue.{Cue}
 use Rattle.pp_stage.specs.declared.turning.Running.{Running}
+use Rattle.pp_stage.specs.declared.opening.Start.{Start}
+use Rattle.pp_stage.specs.Opening.{Begins}
 use Rattle.pp_stage.specs.Shown.{IsReady, ShowsRunning}
 
 -- What an actor is: its disk, the lives that are over, the oldest first, and what it is while it runs.
@@ -92,6 +94,11 @@ pub record ActorOpens (d : Descriptor) (most : ℕ) (x : PeerState) (a : ActorSt
   pub after : PeerState
   pub opens : MayOpen d x [] after
   pub shows : ShowsActor (most + 4) a after
+
+-- A peer that didn't run and now does has begun by these bytes, order and addresses, over what its disk had.
+abbrev pub BeginsBy : Descriptor → Start → (old new : ActorState) → Type 0
+BeginsBy d start old new =
+    old.running ≡ None → IfSome new.running (λ r. Begins d start (disks.state_of old.disk) (disks.state_of new.disk) r.peer)
 
 -- What comes in a turn is what a world says.
 abbrev pub Hears : Cue → PeerState → Type 0

@@ -9,7 +9,7 @@ ghost use Rattle.pp_watch.specs.Shown.{ShowsDisk};
 ghost use Rattle.pp_watch.specs.Waiting.{FitsBuffer};
 ghost use Rattle.pp_stage.specs.Shown.{IsReady};
 ghost use Rattle.pp_actor.specs.declared.life.Life.{Life};
-ghost use Rattle.pp_actor.specs.Actor.{ActorOpens, ActorTurns, Hears, ShowsActor, ShowsRemains, link_in, is_deaf};
+ghost use Rattle.pp_actor.specs.Actor.{ActorOpens, ActorTurns, BeginsBy, Hears, ShowsActor, ShowsRemains, link_in, is_deaf};
 
 use crate::life::{Life, Remains};
 use crate::memory::enough;
@@ -159,13 +159,17 @@ impl Actor {
 
     /// Opens the store of a peer that doesn't run, which begins a life, if the store can be opened.
     pub fn start(&mut self, descriptor: &Descriptor, start: &Start) -> Result<(), AllocError>
-        ensures { OnOk result ((most : ℕ) (x : PeerState) → most + 4 < 2 ^ 64 → ShowsActor most self.old x
+        ensures opens { OnOk result ((most : ℕ) (x : PeerState) → most + 4 < 2 ^ 64 → ShowsActor most self.old x
             → ActorOpens descriptor.now most x self.new) }
+        ensures begins { OnOk result (BeginsBy descriptor.now start.now self.old self.new) }
     {
         if self.running.is_some() {
             return Ok(());
         }
-        let disk = replace(&mut self.disk, MemoryDisk::new(self.alloc, &[])?);
+        let Ok(blank) = MemoryDisk::new(self.alloc, &[]) else {
+            return Err(AllocError);
+        };
+        let disk = replace(&mut self.disk, blank);
         let Opened { disk, running } = open(self.alloc, descriptor, start, disk)?;
         self.disk = disk;
         self.running = running;
@@ -182,7 +186,10 @@ impl Actor {
         let Some(running) = self.running.take() else {
             return Ok(());
         };
-        let disk = replace(&mut self.disk, MemoryDisk::new(self.alloc, &[])?);
+        let Ok(blank) = MemoryDisk::new(self.alloc, &[]) else {
+            return Err(AllocError);
+        };
+        let disk = replace(&mut self.disk, blank);
         let Turned {
             disk,
             running,

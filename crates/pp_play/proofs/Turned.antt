@@ -1,9 +1,10 @@
 -- A turn of one peer, as one of a peer of a world.
-use Rattle.std.proofs.Common.{◌≡◌, ◌⊎◌, ⊎_elim, inl, inr, ℕ, zero, suc, ◌+◌, ◌^◌, ◌<◌, Bool, true, false, Option, Some, None, List, [], ◌∷◌, ◌++◌, map, length, refl, sym, ◌∙◌, ap, subst, arith}
+use Rattle.std.proofs.Common.{◌≡◌, ◌⊎◌, ⊎_elim, inl, inr, ℕ, zero, suc, ◌+◌, ◌-◌, ◌^◌, ◌<◌, ◌≤◌, Bool, true, false, Option, Some, None, List, [], ◌∷◌, ◌++◌, map, length, refl, sym, ◌∙◌, ap, subst, arith}
 use Rattle.std.proofs.Math.ListN.{get_or}
 use Rattle.std.proofs.lemmas.List.{length-reverse, length-set}
 use Rattle.std.proofs.lemmas.Option.{slice_get_read}
-use Rattle.std.specs.Prelude.{is_some, option_map, drop, if◌then◌else◌, slice_get, slice_set, slice_index_or, reverse, MatchBool}
+use Rattle.pp_play.specs.Starting.{lives_of, next_life}
+use Rattle.std.specs.Prelude.{is_some, min, option_map, drop, if◌then◌else◌, slice_get, slice_set, slice_index_or, reverse, MatchBool}
 use Rattle.pp_terms.specs.format.Descriptor.{Descriptor}
 use Rattle.pp_terms.specs.format.Traffic.{Record, Received, Quiet, Sent, LinkState}
 use Rattle.pp_outside.specs.MemoryLink as links
@@ -224,6 +225,11 @@ put_at peer [] a b within is = absurd (omega (arith, within))
 put_at zero (x ∷ xs) a b within is = (let same : Some a ≡ Some b = is in cc)
 put_at (suc peer) (x ∷ xs) a b within is = put_at peer xs a b (omega (arith, within)) is
 
+pub put_there : (peer : ℕ) (actors : List ActorState) (a : ActorState) → peer < length actors → slice_get (slice_set actors peer a) peer ≡ Some a
+put_there peer [] a within = absurd (omega (arith, within))
+put_there zero (x ∷ xs) a within = refl
+put_there (suc peer) (x ∷ xs) a within = put_there peer xs a (omega (arith, within))
+
 same_one : (a b : ActorState) (o : Option ActorState) → o ≡ Some a → o ≡ Some b → a ≡ b
 same_one a b o one other = (let same : Some a ≡ Some b = sym one ∙ other in cc)
 
@@ -305,3 +311,14 @@ module _ (peer : ℕ) (old mid : StageState) (heard : HasHeard peer old mid) (wi
   turn_off deaf none same =
       subst (λ (b : Bool). MovesAs (Make (Turn peer)) old (behind mid peer b)) (sym (deaf_is deaf same))
       (turns_off peer over.r old mid heard runs count (ap (λ (a : ActorState). a.running) is_after ∙ runs_not after.running none))
+
+-- ---- the number of a life
+
+pub next_is : (peer : ℕ) (actors : List ActorState) (a : ActorState) (lives most : ℕ) → slice_get actors peer ≡ Some a → lives ≡ length a.lives → 2 ^ 32 - 1 ≤ most
+    → min (min (lives + 1) most) (2 ^ 32 - 1) ≡ next_life peer actors
+next_is peer actors a lives most here is large =
+    let same : lives_of (slice_get actors peer) ≡ lives = ap lives_of here ∙ sym is in
+    less (lives + 1) most large ∙ ap (λ (n : ℕ). min (n + 1) (2 ^ 32 - 1)) (sym same)
+  where
+    less : (n m : ℕ) → 2 ^ 32 - 1 ≤ m → min (min n m) (2 ^ 32 - 1) ≡ min n (2 ^ 32 - 1)
+    less n m le = omega (arith, le)

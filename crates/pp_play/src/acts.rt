@@ -4,6 +4,7 @@ ghost use Rattle.pp_world.specs.Move.{Wait, Make};
 ghost use Rattle.pp_world.specs.Schedule as acts;
 ghost use Rattle.pp_replay.specs.Views.{as_device};
 ghost use Rattle.pp_play.specs.Stage.{MovesAs};
+ghost use Rattle.pp_play.specs.Starting.{HasStarted};
 
 use crate::Stage;
 use pp_replay::Device;
@@ -91,7 +92,8 @@ impl Stage {
     /// A peer that doesn't run opens its store.
     pub(crate) fn start(&mut self, peer: u8, start: &Start) -> Result<(), AllocError>
         requires { peer < length self.old.actors }
-        ensures { OnOk result (MovesAs (Make (acts.Start peer)) self.old self.new) }
+        ensures moves { OnOk result (MovesAs (Make (acts.Start peer)) self.old self.new) }
+        ensures started { OnOk result (HasStarted peer start.now self.old self.new) }
     {
         self.actors[usize::from(peer)].start(&self.descriptor, start)
     }

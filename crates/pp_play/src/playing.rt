@@ -7,6 +7,7 @@ ghost use Rattle.pp_world.specs.Schedule.{IsAct, IsStep, IsSchedule, Turn, Start
 ghost use Rattle.pp_replay.specs.Views.{as_act, as_step};
 ghost use Rattle.pp_play.specs.Stage.{MovesAs};
 ghost use Rattle.pp_play.specs.Playing.{PlaysAs};
+ghost use Rattle.pp_play.specs.Starting.{StartsByRole};
 
 use crate::Stage;
 use crate::starting::start_of;
@@ -27,7 +28,8 @@ impl Stage {
     fn start_by(&mut self, peer: u8, roles: &[Role]) -> Result<(), AllocError>
         requires peer { peer < length self.old.actors }
         requires roles { length roles.now ≡ length self.old.actors }
-        ensures { OnOk result (MovesAs (Make (Start peer)) self.old self.new) }
+        ensures moves { OnOk result (MovesAs (Make (Start peer)) self.old self.new) }
+        ensures role { OnOk result (StartsByRole peer roles.now self.old self.new) }
     {
         let start = start_of(peer, self.next_life(peer), &roles[usize::from(peer)]);
         self.start(peer, &start)

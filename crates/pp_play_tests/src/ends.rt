@@ -1,6 +1,7 @@
 //! What is left of the peers of a schedule.
 
 use pp_play::{Outcome, ReplayFault, replay};
+use pp_replay::{ScheduleFault, ScheduleKind};
 use std::alloc::Global;
 use std::test::Fail;
 
@@ -37,6 +38,43 @@ run 600 100000
 fn a_crash_loses_nothing_that_was_announced(rt: HostRuntime) -> Result<(), Fail> {
     let outcome = played(rt.alloc(), CRASHED)?;
     let all = [0, 1, 2, 3].map(|peer| told(&outcome, peer));
-    assert_eq!(rt; all, [Some((1, 7, 7)), Some((2, 7, 7)), Some((1, 7, 7)), None]);
+    assert_eq!(rt;
+        all,
+        [Some((1, 7, 7)), Some((2, 7, 7)), Some((1, 7, 7)), None]
+    );
+    Ok(())
+}
+
+fn fault_of(alloc: Global, text: &[u8]) -> Option<ReplayFault> {
+    replay(alloc, text).err()
+}
+
+const OTHER: &[u8] = b"ppspp-schedule 2
+";
+
+const FOURTH: &[u8] = b"ppspp-schedule 1
+content 1024 7000 5
+peer 0 seed
+turn 3
+";
+
+#[test]
+fn names_the_first_faulty_line(rt: HostRuntime) -> Result<(), Fail> {
+    let header = ScheduleFault {
+        line: 1,
+        kind: ScheduleKind::Header,
+    };
+    let peer = ScheduleFault {
+        line: 4,
+        kind: ScheduleKind::Peer,
+    };
+    assert_eq!(rt;
+        fault_of(rt.alloc(), OTHER),
+        Some(ReplayFault::Schedule(header))
+    );
+    assert_eq!(rt;
+        fault_of(rt.alloc(), FOURTH),
+        Some(ReplayFault::Schedule(peer))
+    );
     Ok(())
 }

@@ -1,15 +1,27 @@
-use Rattle.std.proofs.Common.{Option, None, sym, ◌∙◌, subst}
+use Rattle.std.proofs.Common.{◌≡◌, Bool, true, false, Option, None, sym, ◌∙◌, ap, subst}
+use Rattle.std.specs.Prelude.{IfSome, is_some}
+use Rattle.pp_outside.specs.MemoryDisk as disks
 use Rattle.pp_outside.specs.declared.memory_disk.MemoryDisk.{MemoryDisk}
-use Rattle.pp_stage.specs.Opening.{OpensAs}
+use Rattle.pp_stage.specs.Opening.{Begins, OpensAs}
 use Rattle.pp_stage.specs.declared.turning.Running.{Running}
 use Rattle.pp_actor.specs.Actor.{ActorState, ShowsActor}
 use Rattle.pp_actor.proofs.Actors.{none_of, opens}
 use Rattle.pp_actor.proofs.actor.Actor.start.Goals as goal
 
-pub returns : goal.returns
-returns c most x low shows =
+pub returns-clause-opens : goal.returns-clause-opens
+returns-clause-opens c most x low shows =
     opens c.args.descriptor.now most c.self.inside.disk c.in_ok-disk.field-0.disk c.self.inside.lives.items c.in_ok-disk.field-0.running
     (subst (λ (m : MemoryDisk). OpensAs c.args.descriptor.now m c.in_ok-disk.field-0.disk c.in_ok-disk.field-0.running) c.replace-disk.ensures.value
     c.in_ok-disk.ensures.opens) x low
     (subst (λ (o : Option Running). ShowsActor most (record { disk = c.self.inside.disk; lives = c.self.inside.lives.items; running = o }) x)
     (none_of c.self.inside.running (sym c.is_some.ensures ∙ c.if-is_some.false)) (subst (λ (a : ActorState). ShowsActor most a x) (sym c.self.view_is) shows))
+
+pub returns-clause-begins : goal.returns-clause-begins
+returns-clause-begins c none =
+    subst (λ (m : MemoryDisk). IfSome c.in_ok-disk.field-0.running
+    (λ r. Begins c.args.descriptor.now c.args.start.now (disks.state_of m) (disks.state_of c.in_ok-disk.field-0.disk) r.peer))
+    (c.replace-disk.ensures.value ∙ ap (λ (a : ActorState). a.disk) c.self.view_is) c.in_ok-disk.ensures.begins
+
+pub returns-then-is_some-clause-begins : goal.returns-then-is_some-clause-begins
+returns-then-is_some-clause-begins c none =
+    let never : true ≡ false = c.if-is_some.ensures ∙ ap (λ (a : ActorState). is_some a.running) c.self.view_is ∙ ap is_some none in absurd cc
