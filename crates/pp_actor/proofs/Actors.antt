@@ -1,21 +1,19 @@
 -- What happens to an actor, as to a peer of a world.
-use Rattle.std.proofs.Common.{◌≡◌, ◌⊎◌, ⊎_elim, inl, inr, ℕ, ◌+◌, ◌^◌, ◌<◌, ◌≤◌, Bool, true, false, Option, Some, None, List, [], ◌∷◌, ◌++◌, length, refl, sym, ◌∙◌, ap, subst, arith}
+use Rattle.std.proofs.Common.{◌≡◌, ◌⊎◌, inl, inr, ℕ, ◌+◌, ◌^◌, ◌<◌, Bool, true, false, Option, Some, None, List, [], ◌∷◌, ◌++◌, refl, sym, ◌∙◌, ap, subst, arith}
 use Rattle.std.specs.Prelude.{is_some, reverse, MatchBool, Result, Ok, Err, IsOk, OnOk}
 use Rattle.std.specs.declared.alloc.AllocError.{AllocError}
 use Rattle.std.proofs.lemmas.List.{reverse-append}
 use Rattle.pp_terms.specs.disk.Calls.{Calls, attached, crash_image, history_of}
-use Rattle.pp_terms.specs.disk.Disk.{DiskState, fresh, settled}
+use Rattle.pp_terms.specs.disk.Disk.{fresh, settled}
 use Rattle.pp_terms.specs.format.Descriptor.{Descriptor}
-use Rattle.pp_terms.specs.format.Traffic.{LinkState, Record}
+use Rattle.pp_terms.specs.format.Traffic.{Record}
 use Rattle.pp_tree.specs.Book.{BookState, entry}
-use Rattle.pp_outside.specs.Arrivals.{Arrivals}
 use Rattle.pp_outside.specs.MemoryDisk as disks
 use Rattle.pp_outside.specs.MemoryLink as links
 use Rattle.pp_outside.specs.declared.call.Call.{Call}
-use Rattle.pp_outside.specs.declared.call.Call.TheVariants as calls
 use Rattle.pp_outside.specs.declared.memory_disk.MemoryDisk.{MemoryDisk}
 use Rattle.pp_outside.specs.declared.memory_link.MemoryLink.{MemoryLink}
-use Rattle.pp_watch.specs.Shown.{ShowsDisk, ShowsLink}
+use Rattle.pp_watch.specs.Shown.{ShowsDisk}
 use Rattle.pp_watch.proofs.Openings.{crashed}
 use Rattle.pp_world.specs.Change.{MayOpen, MayTakeTurn, Stays, with_crash, with_stop}
 use Rattle.pp_world.specs.Opening.{FailsToOpen, Opens}
@@ -23,8 +21,8 @@ use Rattle.pp_world.specs.Session.{Session}
 use Rattle.pp_world.specs.Turn.{TakesTurn}
 use Rattle.pp_world.specs.World.{PeerState}
 use Rattle.pp_world.specs.Worlds.{idle}
-use Rattle.pp_actor.specs.Actor.{ActorState, ActorOpens, ActorTurns, HasGained, Hears, IsIdle, IsPlaying, ShowLives, ShowsActor, ShowsLife, ShowsNow, ShowsRemains}
-use Rattle.pp_stage.specs.Opening.{HasOpened, OpensAs, OpensTo, WasRefused}
+use Rattle.pp_actor.specs.Actor.{ActorState, ActorOpens, ActorTurns, HasGained, Hears, IsPlaying, ShowLives, ShowsActor, ShowsLife, ShowsNow, ShowsRemains}
+use Rattle.pp_stage.specs.Opening.{HasOpened, OpensAs, WasRefused}
 use Rattle.pp_stage.specs.Shown.{ShowsRunning}
 use Rattle.pp_stage.specs.Turned.{ShowsTurn, TurnsAs}
 use Rattle.pp_actor.specs.declared.life.Life.{Life}

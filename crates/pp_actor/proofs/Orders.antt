@@ -1,7 +1,7 @@
 -- Calls of an actor's devices that are ordered to fail.
-use Rattle.std.proofs.Common.{◌≡◌, ◌≢◌, ℕ, Bool, true, false, Option, Some, None, List, length, refl, sym, ◌∙◌, ap, subst}
-use Rattle.std.specs.Prelude.{reverse, if◌then◌else◌}
-use Rattle.pp_terms.specs.disk.Calls.{Calls, attached}
+use Rattle.std.proofs.Common.{◌≡◌, ◌≢◌, ℕ, Bool, true, false, Some, List, refl, sym, ◌∙◌, ap, subst}
+use Rattle.std.specs.Prelude.{if◌then◌else◌}
+use Rattle.pp_terms.specs.disk.Calls.{attached}
 use Rattle.pp_terms.specs.disk.Disk.{DiskState, fresh}
 use Rattle.pp_terms.specs.format.Traffic.{LinkState}
 use Rattle.pp_tree.specs.Book.{entry}
@@ -11,14 +11,11 @@ use Rattle.pp_outside.specs.MemoryLink as links
 use Rattle.pp_outside.specs.declared.call.Call.{Call}
 use Rattle.pp_outside.specs.declared.call.Call.TheVariants as calls
 use Rattle.pp_outside.specs.declared.memory_disk.MemoryDisk.{MemoryDisk}
-use Rattle.pp_outside.specs.declared.memory_link.MemoryLink.{MemoryLink}
-use Rattle.pp_watch.specs.Shown.{ShowsDisk}
 use Rattle.pp_world.specs.Change.{while_running, with_failing}
 use Rattle.pp_world.specs.Orders.{Orders}
 use Rattle.pp_world.specs.Schedule.{Read, Write, Sync, Send, Receive}
 use Rattle.pp_world.specs.World.{PeerState}
-use Rattle.pp_actor.specs.Actor.{ActorState, IsIdle, ShowsActor}
-use Rattle.pp_stage.specs.Shown.{ShowsRunning}
+use Rattle.pp_actor.specs.Actor.{ActorState, ShowsActor}
 use Rattle.pp_actor.specs.declared.life.Life.{Life}
 use Rattle.pp_stage.specs.declared.turning.Running.{Running}
 

@@ -89,7 +89,7 @@ pub record ShowsRemains (r : Remains) (x : PeerState) : Type 0 where
 
 -- ---- what happens to it
 
--- Its store may have been opened.
+-- A peer may have opened its store.
 pub record ActorOpens (d : Descriptor) (most : ℕ) (x : PeerState) (a : ActorState) : Type 0 where
   pub after : PeerState
   pub opens : MayOpen d x [] after
@@ -110,7 +110,7 @@ HasGained None added sessions = Unit {0}
 HasGained (Some r) added [] = ⊥
 HasGained (Some r) added (s ∷ ss) = (links.state_of r.link).traffic ≡ Some (added ++ s.traffic)
 
--- It may have taken a turn.
+-- A peer may have taken a turn.
 pub record ActorTurns (clock : ℕ) (most : ℕ) (x : PeerState) (a : ActorState) : Type 0 where
   pub after : PeerState
   pub added : List Record

@@ -1,5 +1,5 @@
 -- What a peer sent, on its way to the others.
-use Rattle.std.proofs.Common.{◌≡◌, ℕ, zero, suc, ◌+◌, ◌-◌, ◌≤◌, Some, List, [], ◌∷◌, ◌++◌, length, refl, sym, ◌∙◌, ap, subst, arith}
+use Rattle.std.proofs.Common.{◌≡◌, ℕ, zero, suc, ◌+◌, ◌-◌, ◌≤◌, Some, List, [], ◌∷◌, ◌++◌, length, refl, sym, ◌∙◌, ap, arith}
 use Rattle.std.proofs.Math.Seq.{drop-append_seam}
 use Rattle.std.proofs.lemmas.List.{length-drop, take_all, reverse-append, reverse-reverse, length-reverse}
 use Rattle.std.proofs.lemmas.Option.{slice_get-map}
@@ -7,7 +7,7 @@ use Rattle.std.specs.Prelude.{drop, map, option_map, reverse, slice_get, take}
 use Rattle.pp_outside.specs.Records.{bytes_of}
 use Rattle.pp_mail.specs.Mail.{delivered, delivered_from}
 use Rattle.pp_terms.specs.format.Traffic.{Address, Record, Received, Quiet, Sent}
-use Rattle.pp_world.specs.Queue.{peers_after, queue_after}
+use Rattle.pp_world.specs.Queue.{peers_after}
 use Rattle.pp_world.specs.World.{Queued, PeerState, address_of}
 use Rattle.pp_mail.proofs.Peers.{mail_at, mail_at-peers_after, peers_after-cons, peers_after_from-none, peers_after_from-received, peers_after_from-quiet}
 use Rattle.pp_play.specs.Stage.{mail_with, mail_after}
@@ -55,7 +55,7 @@ next_delivered sender from n all r old mail later at is =
     let count : n + 1 - from ≡ suc (n - from) = omega (arith, later) in
     let here : slice_get (drop from all) (n - from) ≡ Some r = slice_get_drop all from (n - from) ∙ ap (slice_get all) place ∙ at in
     let more : take (n + 1 - from) (drop from all) ≡ take (n - from) (drop from all) ++ r ∷ [] =
-        ap (λ (k : ℕ). take k (drop from all)) count ∙ take_one_more (drop from all) (n - from) r here in
+    ap (λ (k : ℕ). take k (drop from all)) count ∙ take_one_more (drop from all) (n - from) r here in
     ap (mail_with sender r) is
     ∙ sym (ap (λ (rs : List Record). mail_after sender (reverse rs) old) more
     ∙ ap (λ (rs : List Record). mail_after sender rs old) (reverse-append (take (n - from) (drop from all)) (r ∷ [])))

@@ -1,22 +1,22 @@
 -- The peers of a replay at its end.
-use Rattle.std.proofs.Common.{◌≡◌, ℕ, ◌+◌, ◌*◌, ◌^◌, ◌<◌, ◌≤◌, List, [], ◌∷◌, ◌++◌, map, length, refl, sym, ◌∙◌, ap, subst, arith, Vec, Global}
+use Rattle.std.proofs.Common.{◌≡◌, ℕ, ◌+◌, ◌*◌, ◌^◌, ◌<◌, List, [], ◌∷◌, ◌++◌, map, length, refl, sym, ◌∙◌, ap, subst, arith, Vec, Global}
 use Rattle.std.specs.Prelude.{reverse}
 use Rattle.std.specs.List.{AllByRecursion}
-use Rattle.std.proofs.lemmas.List.{append-nil, append_assoc}
+use Rattle.std.proofs.lemmas.List.{append-nil}
 use Rattle.pp_terms.specs.format.Descriptor.{Descriptor, chunks_of}
 use Rattle.pp_world.specs.Move.{Move, moves_of}
 use Rattle.pp_world.specs.Outcome as terms
 use Rattle.pp_world.specs.Outcome.{IsEndOf}
-use Rattle.pp_world.specs.Schedule.{IsSchedule, Schedule, content_of}
-use Rattle.pp_world.specs.World.{PeerState, World}
-use Rattle.pp_world.specs.Worlds.{AreWorlds, Happened, swarm_of}
+use Rattle.pp_world.specs.Schedule.{Schedule, content_of}
+use Rattle.pp_world.specs.World.{PeerState}
+use Rattle.pp_world.specs.Worlds.{Happened, swarm_of}
 use Rattle.pp_actor.specs.Actor.{ActorState, ShowsActor, ShowsRemains}
 use Rattle.pp_actor.specs.declared.life.Remains.{Remains}
 use Rattle.pp_outcome.specs.Outcome.{EndsAs, end_as}
 use Rattle.pp_outcome.specs.declared.outcome.PeerEnd.{PeerEnd}
 use Rattle.pp_play.specs.First.{IsReadied}
-use Rattle.pp_play.specs.Playing.{AreEnds, EndAs, HasPlayed, PlaysAs}
-use Rattle.pp_play.specs.Replaying.{IsPlayed, ShowEnds, ShowsEnd}
+use Rattle.pp_play.specs.Playing.{AreEnds, EndAs, PlaysAs}
+use Rattle.pp_play.specs.Replaying.{IsPlayed, ShowEnds}
 use Rattle.pp_play.specs.Stage.{ShowActors, StageState}
 use Rattle.pp_play.proofs.Firsts.{count_new, count_shown}
 
@@ -97,9 +97,9 @@ pub played : (s : Schedule) (first last : StageState) (ends : Vec PeerEnd Global
     → IsPlayed s (record { ends = ends; chunks = chunks })
 played s first last ends chunks ready plays few all size =
     let done = plays.plays s 0 [] (sym ready.descriptor) (omega (arith, few))
-        (record { last = ready.first; before = []; happened = ready.is_first; shows = ready.shows }) in
+    (record { last = ready.first; before = []; happened = ready.is_first; shows = ready.shows }) in
     let are = subst (λ (d : Descriptor). AreEnds d ends.items done.last.peers) (plays.descriptor ∙ ready.descriptor)
-        (all (0 + 4 * length (moves_of s)) done.last.peers done.shows.actors) in record {
+    (all (0 + 4 * length (moves_of s)) done.last.peers done.shows.actors) in record {
       peers = seen ends.items done.last.peers;
       ended = record {
         last = done.last;

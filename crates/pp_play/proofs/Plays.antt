@@ -1,15 +1,13 @@
 -- Moves one after another.
-use Rattle.std.proofs.Common.{◌≡◌, ℕ, zero, suc, ◌+◌, ◌*◌, ◌^◌, ◌<◌, ◌≤◌, List, [], ◌∷◌, ◌++◌, length, refl, sym, ◌∙◌, ap, subst, arith}
+use Rattle.std.proofs.Common.{◌≡◌, ℕ, zero, suc, ◌+◌, ◌*◌, List, [], ◌∷◌, ◌++◌, length, refl, sym, ◌∙◌, ap, subst, arith}
 use Rattle.std.proofs.lemmas.List.{reverse-append, append_assoc, append-nil, length-append}
 use Rattle.std.specs.Prelude.{reverse}
 use Rattle.pp_world.specs.Change.{Moves}
 use Rattle.pp_terms.specs.format.Descriptor.{Descriptor}
-use Rattle.pp_world.specs.Move.{Move, Wait, Make, for_each, rounds_of, moves_of_step, moves_of_steps}
-use Rattle.pp_world.specs.Schedule.{Act, Schedule, Step, Turn}
-use Rattle.pp_world.specs.World.{World}
-use Rattle.pp_world.specs.Worlds.{Happened, swarm_of}
+use Rattle.pp_world.specs.Move.{Move, Wait, Make, for_each, rounds_of}
+use Rattle.pp_world.specs.Schedule.{Act, Turn}
 use Rattle.pp_play.specs.Playing.{HasPlayed, PlaysAs}
-use Rattle.pp_play.specs.Stage.{StageState, MovesAs, ShowsStage}
+use Rattle.pp_play.specs.Stage.{StageState, MovesAs}
 
 -- nothing is done
 pub plays_nothing : (old : StageState) → PlaysAs [] old old
@@ -44,7 +42,7 @@ plays_more first second a b c one two = record {
       let end = two.plays s (most + 4 * length first) (reverse first ++ done) (swarm ∙ sym one.descriptor) (omega (arith, low, size)) mid in
       let sum : most + 4 * length first + 4 * length second ≡ most + 4 * length (first ++ second) = omega (arith, size) in
       let all : reverse second ++ (reverse first ++ done) ≡ reverse (first ++ second) ++ done =
-          sym (append_assoc (reverse second) (reverse first) done) ∙ ap (λ (ms : List Move). ms ++ done) (sym (reverse-append first second)) in
+      sym (append_assoc (reverse second) (reverse first) done) ∙ ap (λ (ms : List Move). ms ++ done) (sym (reverse-append first second)) in
       subst (λ (n : ℕ). HasPlayed s n (reverse (first ++ second) ++ done) c) sum
       (subst (λ (ms : List Move). HasPlayed s (most + 4 * length first + 4 * length second) ms c) all end);
 }

@@ -1,24 +1,20 @@
 -- What happens to the peers of a replay, as to those of a world.
-use Rattle.std.proofs.Common.{◌≡◌, ℕ, zero, suc, ◌+◌, ◌^◌, ◌<◌, ◌≤◌, Bool, true, false, Option, Some, None, List, [], ◌∷◌, ◌++◌, map, length, refl, sym, ◌∙◌, ap, subst, arith}
-use Rattle.std.specs.Prelude.{is_some, take, drop, if◌then◌else◌, slice_get, slice_set, reverse, Result, Ok, Err, OnOk}
+use Rattle.std.proofs.Common.{◌≡◌, ℕ, zero, suc, ◌+◌, ◌<◌, Bool, true, false, Option, Some, None, List, [], ◌∷◌, length, refl, sym, ◌∙◌, ap, subst, arith}
+use Rattle.std.specs.Prelude.{is_some, if◌then◌else◌, slice_get, slice_set, reverse, Result, Ok, Err, OnOk}
 use Rattle.std.specs.declared.alloc.AllocError.{AllocError}
-use Rattle.pp_terms.specs.disk.Calls.{Calls}
 use Rattle.pp_terms.specs.format.Descriptor.{Descriptor}
-use Rattle.pp_terms.specs.format.Traffic.{Address, Record, Received, Quiet, Sent}
-use Rattle.pp_world.specs.Change.{MayOpen, Moves, Changes, while_running, with_peer, with_change, with_loss, with_repeat, with_delay, with_forged, with_failing, with_crash, with_stop}
-use Rattle.pp_world.specs.Move.{Move, Wait, Make}
-use Rattle.pp_world.specs.Orders.{Orders}
-use Rattle.pp_world.specs.Queue.{peers_after, peers_after_from, queue_after}
-use Rattle.pp_world.specs.Schedule.{Device, Start}
-use Rattle.pp_world.specs.Session.{Session}
+use Rattle.pp_terms.specs.format.Traffic.{Address, Record}
+use Rattle.pp_world.specs.Change.{Moves, while_running, with_peer, with_change, with_failing}
+use Rattle.pp_world.specs.Move.{Move, Wait}
+use Rattle.pp_world.specs.Queue.{peers_after_from, queue_after}
+use Rattle.pp_world.specs.Schedule.{Device}
 use Rattle.pp_world.specs.World.{Queued, PeerState, World, address_of}
-use Rattle.pp_watch.specs.Shown.{ShowsDisk}
-use Rattle.pp_mail.specs.Mail.{delivered, queue_of, with_queue}
-use Rattle.pp_mail.proofs.Peers.{mail_at, mail_at-with_peer, mail_at-peers_after, peers_after-cons, peers_after_from-none, peers_after_from-received, peers_after_from-quiet}
+use Rattle.pp_mail.specs.Mail.{with_queue}
+use Rattle.pp_mail.proofs.Peers.{mail_at, mail_at-with_peer}
 use Rattle.pp_stage.specs.declared.turning.Running.{Running}
-use Rattle.pp_actor.specs.Actor.{ActorState, ActorOpens, IsIdle, IsPlaying, ShowsActor, ShowsNow}
+use Rattle.pp_actor.specs.Actor.{ActorState, ShowsActor, ShowsNow}
 use Rattle.pp_actor.proofs.Actors.{more_shown, same_disk}
-use Rattle.pp_play.specs.Stage.{StageState, IsSet, ShowActors, ShowsStage, StageMoves, MovesAs, does_run, runs_at, mail_with, mail_after}
+use Rattle.pp_play.specs.Stage.{StageState, ShowActors, MovesAs, does_run, runs_at}
 
 -- ---- answers
 

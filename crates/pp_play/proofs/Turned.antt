@@ -1,22 +1,21 @@
 -- A turn of one peer, as one of a peer of a world.
-use Rattle.std.proofs.Common.{◌≡◌, ◌⊎◌, ⊎_elim, inl, inr, ℕ, zero, suc, ◌+◌, ◌-◌, ◌^◌, ◌<◌, ◌≤◌, Bool, true, false, Option, Some, None, List, [], ◌∷◌, ◌++◌, map, length, refl, sym, ◌∙◌, ap, subst, arith}
+use Rattle.std.proofs.Common.{◌≡◌, ◌⊎◌, ⊎_elim, ℕ, zero, suc, ◌+◌, ◌-◌, ◌^◌, ◌<◌, ◌≤◌, Bool, true, false, Option, Some, None, List, [], ◌∷◌, ◌++◌, length, refl, sym, ◌∙◌, ap, subst, arith}
 use Rattle.std.proofs.Math.ListN.{get_or}
 use Rattle.std.proofs.lemmas.List.{length-reverse, length-set}
 use Rattle.std.proofs.lemmas.Option.{slice_get_read}
 use Rattle.pp_play.specs.Starting.{lives_of, next_life}
-use Rattle.std.specs.Prelude.{is_some, min, option_map, drop, if◌then◌else◌, slice_get, slice_set, slice_index_or, reverse, MatchBool}
-use Rattle.pp_terms.specs.format.Descriptor.{Descriptor}
-use Rattle.pp_terms.specs.format.Traffic.{Record, Received, Quiet, Sent, LinkState}
+use Rattle.std.specs.Prelude.{is_some, min, option_map, drop, if◌then◌else◌, slice_get, slice_set, reverse, MatchBool}
+use Rattle.pp_terms.specs.format.Traffic.{Record, Received}
 use Rattle.pp_outside.specs.MemoryLink as links
 use Rattle.pp_outside.specs.Outside.{address_of}
 use Rattle.pp_outside.specs.declared.link.Address as outside
 use Rattle.pp_outside.specs.declared.memory_link.MemoryLink.{MemoryLink}
 use Rattle.pp_watch.specs.Waiting.{record_at}
 use denote.Ref.{Bor}
-use Rattle.pp_world.specs.Change.{Changes, MayOpen, MayTakeTurn, Moves, Stays}
-use Rattle.pp_world.specs.Move.{Move, Make}
+use Rattle.pp_world.specs.Change.{MayOpen, MayTakeTurn, Stays}
+use Rattle.pp_world.specs.Move.{Make}
 use Rattle.pp_world.specs.Opening.{FailsToOpen, Opens}
-use Rattle.pp_world.specs.Queue.{peers_after, peers_after_from}
+use Rattle.pp_world.specs.Queue.{peers_after}
 use Rattle.pp_world.specs.Schedule.{Start, Turn}
 use Rattle.pp_world.specs.Session.{Session}
 use Rattle.pp_world.specs.Turn.{TakesTurn, event_of, queue_after_wait, wait_records}
@@ -25,9 +24,8 @@ use Rattle.pp_world.specs.World as worlds
 use Rattle.pp_mail.specs.Mail.{queue_of, with_queue}
 use Rattle.pp_mail.proofs.Peers.{mail_at, peers_after_from-none}
 use Rattle.pp_stage.specs.declared.turning.Running.{Running}
-use Rattle.pp_actor.specs.Actor.{ActorState, ActorOpens, ActorTurns, HasGained, IsIdle, IsPlaying, ShowsActor, ShowsNow, is_deaf, link_in}
-use Rattle.pp_actor.specs.declared.life.Life.{Life}
-use Rattle.pp_play.specs.Stage.{StageState, ShowActors, ShowsStage, StageMoves, MovesAs, HasHeard, does_run, mail_with, mail_after}
+use Rattle.pp_actor.specs.Actor.{ActorState, ActorOpens, ActorTurns, HasGained, IsPlaying, ShowsActor, ShowsNow, is_deaf, link_in}
+use Rattle.pp_play.specs.Stage.{StageState, ShowActors, ShowsStage, MovesAs, HasHeard, mail_after}
 use Rattle.pp_play.proofs.Deliveries.{mail_at-sent, newest}
 use Rattle.pp_play.proofs.Stages.{more_actors, requeued_all, runs_as, stands_at}
 
@@ -129,7 +127,7 @@ module _ (peer : ℕ) (r : Running) (old mid : StageState) (heard : HasHeard pee
     moves = λ most w low shows.
         let it = stands_at most peer heard.before old.actors w.peers shows.actors heard.was in
         let now : IsPlaying most it.x r (reverse heard.before.lives) =
-            subst (λ (o : Option Running). ShowsNow most it.x o (reverse heard.before.lives)) was it.shows.now in
+        subst (λ (o : Option Running). ShowsNow most it.x o (reverse heard.before.lives)) was it.shows.now in
         let mail = ap (queue_of peer) shows.mail ∙ queue_at peer w.peers it.x it.here in
         let at : ActorTurns old.clock most it.x heard.after = heard.turns most it.x low it.shows mail in record {
           after = record w { peers = peers_after peer at.added (slice_set w.peers peer at.after) };
@@ -148,7 +146,7 @@ module _ (peer : ℕ) (r : Running) (old mid : StageState) (heard : HasHeard pee
                 (set_shown (most + 4) peer heard.after at.after old.actors w.peers (more_actors most 4 old.actors w.peers shows.actors) at.shows));
             mail = same most it.x now.session now.earlier at now.sessions now.shows.link.traffic now.runs waited.mail
                 ∙ ap (mail_after peer at.added) (waits most w it.x at.after shows now.shows.deaf it.here
-                    (takes_queue it.x at.added at.after now.runs at.takes))
+                (takes_queue it.x at.added at.after now.runs at.takes))
                 ∙ sym (mail_at-sent peer at.added (slice_set w.peers peer at.after));
           };
         };
@@ -182,8 +180,8 @@ module _ (peer : ℕ) (r : Running) (old mid : StageState) (heard : HasHeard pee
           → (links.state_of r.link).traffic ≡ Some s.traffic → reverse (drop records (links.in_order r'.link)) ≡ takes.added
       gains most x s earlier takes sessions traffic =
           let gained : (links.state_of r'.link).traffic ≡ Some (takes.added ++ s.traffic) =
-              subst (λ (o : Option Running). HasGained o takes.added (s ∷ earlier)) is
-              (subst (HasGained heard.after.running takes.added) sessions takes.gained) in
+          subst (λ (o : Option Running). HasGained o takes.added (s ∷ earlier)) is
+          (subst (HasGained heard.after.running takes.added) sessions takes.gained) in
           let whole : reverse (links.in_order r'.link) ≡ takes.added ++ s.traffic = cc in
           let before : reverse (links.in_order r.link) ≡ s.traffic = cc in
           newest (links.in_order r'.link) takes.added s.traffic records whole
@@ -197,7 +195,7 @@ module _ (peer : ℕ) (r : Running) (old mid : StageState) (heard : HasHeard pee
           → mail ≡ mail_after peer takes.added mail
       nothing most x takes runs mail =
           let turn : TakesTurn old.clock x takes.added takes.after =
-              subst (λ (b : Bool). MatchBool b (TakesTurn old.clock x takes.added takes.after) (Stays x takes.added takes.after)) runs takes.takes in
+          subst (λ (b : Bool). MatchBool b (TakesTurn old.clock x takes.added takes.after) (Stays x takes.added takes.after)) runs takes.takes in
           let stands : takes.after.is_running ≡ false = runs_as (most + 4) heard.after takes.after takes.shows ∙ ap is_some is in
           let silent : turn.sent ≡ [] = ⊎_elim (λ on. let never : true ≡ false = sym on ∙ stands in cc) (λ off. off.1) turn.goes_on in
           sym (ap (λ (rs : List Record). mail_after peer rs mail) (turn.gained ∙ ap (λ (rs : List Record). rs ++ wait_records old.clock x) silent)
@@ -301,11 +299,11 @@ module _ (peer : ℕ) (old mid : StageState) (heard : HasHeard peer old mid) (wi
   turn_on new_link deaf records runs_now same size =
       let now : RunsOver after.running new_link = runs_over after.running new_link runs_now in
       let on = turns_on peer over.r old mid heard runs count now.r records (ap (λ (a : ActorState). a.running) is_after ∙ now.is)
-          (size ∙ sym (ap (λ (l : MemoryLink). length (links.in_order l)) over.over)) in
+      (size ∙ sym (ap (λ (l : MemoryLink). length (links.in_order l)) over.over)) in
       subst (λ (l : MemoryLink). MovesAs (Make (Turn peer)) old
-          (record (behind mid peer deaf) { mail = mail_after peer (reverse (drop records (links.in_order l))) (behind mid peer deaf).mail })) now.over
+      (record (behind mid peer deaf) { mail = mail_after peer (reverse (drop records (links.in_order l))) (behind mid peer deaf).mail })) now.over
       (subst (λ (b : Bool). MovesAs (Make (Turn peer)) old
-          (record (behind mid peer b) { mail = mail_after peer (reverse (drop records (links.in_order now.r.link))) (behind mid peer b).mail })) (sym (deaf_is deaf same)) on)
+      (record (behind mid peer b) { mail = mail_after peer (reverse (drop records (links.in_order now.r.link))) (behind mid peer b).mail })) (sym (deaf_is deaf same)) on)
 
   pub turn_off : (deaf : Bool) → link_in after.running ≡ None → deaf ≡ is_deaf before.running → MovesAs (Make (Turn peer)) old (behind mid peer deaf)
   turn_off deaf none same =

@@ -1,5 +1,5 @@
 -- The peers of a schedule before its first move.
-use Rattle.std.specs.Prelude.{◌≡◌, ℕ, List, [], ◌∷◌, map}
+use Rattle.std.specs.Prelude.{◌≡◌, ℕ, List, map}
 use Rattle.pp_terms.specs.disk.Calls.{Calls}
 use Rattle.pp_terms.specs.format.Descriptor.{Descriptor}
 use Rattle.pp_outside.specs.declared.memory_disk.MemoryDisk.{MemoryDisk}

@@ -27,12 +27,7 @@ fn describe(chunk: u32, content: &[u8]) -> Result<Descriptor, AllocError>
 }
 
 // The disk with which a peer of that role begins.
-fn disk_of(
-    alloc: Global,
-    chunk: u32,
-    content: &[u8],
-    role: &Role,
-) -> Result<MemoryDisk, AllocError>
+fn disk_of(alloc: Global, chunk: u32, content: &[u8], role: &Role) -> Result<MemoryDisk, AllocError>
     requires { IsChunkSize chunk }
     ensures { IfOk result (BeginsAs (imported content.now chunk) content.now role.now) }
 {

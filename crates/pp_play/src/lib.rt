@@ -11,5 +11,4 @@ mod starting;
 mod turns;
 
 pub use replaying::{Outcome, ReplayFault, replay};
-
 use stage::Stage;

@@ -31,7 +31,11 @@ pub struct Outcome {
 }
 
 // Ends all peers.
-fn end_all(alloc: Global, descriptor: &Descriptor, actors: Vec<Actor>) -> Result<Vec<PeerEnd>, AllocError>
+fn end_all(
+    alloc: Global,
+    descriptor: &Descriptor,
+    actors: Vec<Actor>,
+) -> Result<Vec<PeerEnd>, AllocError>
     ensures { IfOk result (λ ends. EndAs descriptor.now actors.items ends.items) }
 {
     let mut ends = Vec::with_capacity(alloc, actors.len())?;
@@ -49,7 +53,9 @@ fn play(alloc: Global, schedule: &Schedule<'_>) -> Result<Outcome, AllocError>
     let mut stage = Stage::new(alloc, schedule)?;
     stage.play(alloc, schedule)?;
     let Stage {
-        descriptor, actors, ..
+        descriptor,
+        actors,
+        ..
     } = stage;
     Ok(Outcome {
         ends: end_all(alloc, &descriptor, actors)?,

@@ -1,4 +1,4 @@
-use Rattle.std.proofs.Common.{◌≡◌, ℕ, zero, ◌+◌, ◌-◌, ◌≤◌, List, refl, sym, ◌∙◌, ap, subst, arith}
+use Rattle.std.proofs.Common.{◌≡◌, ℕ, zero, ◌+◌, ◌-◌, ◌≤◌, List, refl, sym, ◌∙◌, ap, arith}
 use Rattle.std.specs.Prelude.{drop, length, reverse, take}
 use Rattle.pp_terms.specs.format.Traffic.{Record}
 use Rattle.pp_outside.specs.MemoryLink.{in_order}
@@ -23,11 +23,11 @@ loop-n-preserved c =
     let later : c.args.from ≤ c.loop-n.n = c.loop-n.invariant.1 in
     let more : c.args.from ≤ c.loop-n.n + 1 = omega (arith, later) in
     let next = next_delivered c.args.sender c.args.from c.loop-n.n (in_order c.args.link.now) (marked c.mark.result bytes) c.args.mail.now c.loop-n.mail
-        later c.mark.ensures.1 c.loop-n.invariant.0 in
+    later c.mark.ensures.1 c.loop-n.invariant.0 in
     let is : c.match-mark.mail ≡ mail_with c.args.sender (marked c.mark.result bytes) c.loop-n.mail = elim c.match-mark.branch [
       | in-Sent+in_ok-deliver-in-Sent w ↦
           let same = bytes_there (in_order c.args.link.now) c.loop-n.n (marked c.mark.result bytes) w.mark_bytes.result.now c.mark.ensures.1 w.mark_bytes.ensures
-              ∙ ap (λ (m : Mark). bytes_of (marked m bytes)) w.in-Sent.is in
+          ∙ ap (λ (m : Mark). bytes_of (marked m bytes)) w.in-Sent.is in
           w.mail-is ∙ w.in_ok-deliver-in-Sent.ensures.ok
           ∙ ap (λ (b : List ℕ). delivered c.args.sender (address_of w.in-Sent.to) b c.loop-n.mail) same
           ∙ sym (ap (λ (m : Mark). mail_with c.args.sender (marked m bytes) c.loop-n.mail) w.in-Sent.is)

@@ -1,9 +1,8 @@
-use Rattle.std.proofs.Common.{◌≡◌, ℕ, suc, ◌+◌, List, [], ◌∷◌, ◌++◌, refl, sym, ◌∙◌, ap, subst, arith}
+use Rattle.std.proofs.Common.{◌≡◌, ℕ, suc, ◌+◌, List, [], ◌∷◌, ◌++◌, sym, ◌∙◌, ap, subst, arith}
 use Rattle.std.proofs.Math.Seq.{take-suc}
 use Rattle.std.proofs.lemmas.List.{take_all}
 use Rattle.std.specs.Prelude.{take}
 use Rattle.pp_replay.specs.declared.types.Role.{Role}
-use Rattle.pp_actor.specs.Actor.{ActorState}
 use Rattle.pp_store.specs.Imported.{imported}
 use Rattle.pp_play.specs.First.{BeginAs}
 use Rattle.pp_play.proofs.Firsts.{begin_more}
@@ -18,8 +17,8 @@ loop-role-preserved c =
     let role : Role = c.role-item.result in
     let next : c.loop-role.role-index + 1 ≡ suc c.loop-role.role-index = omega arith in
     let more : take (c.loop-role.role-index + 1) c.args.roles.now ≡ take c.loop-role.role-index c.args.roles.now ++ role ∷ [] =
-        ap (λ (k : ℕ). take k c.args.roles.now) next ∙ take-suc c.args.roles.now c.loop-role.role-index role c.loop-role-test.true
-        ∙ ap (λ (r : Role). take c.loop-role.role-index c.args.roles.now ++ r ∷ []) (sym c.role-item.is) in
+    ap (λ (k : ℕ). take k c.args.roles.now) next ∙ take-suc c.args.roles.now c.loop-role.role-index role c.loop-role-test.true
+    ∙ ap (λ (r : Role). take c.loop-role.role-index c.args.roles.now ++ r ∷ []) (sym c.role-item.is) in
     subst (BeginAs (imported c.args.content.now c.args.chunk) c.args.content.now (take (c.loop-role.role-index + 1) c.args.roles.now)) (sym c.in_ok-push.ensures.items)
     (subst (λ (roles : List Role). BeginAs (imported c.args.content.now c.args.chunk) c.args.content.now roles (c.loop-role.actors.items ++ c.new.result ∷ [])) (sym more)
     (begin_more (imported c.args.content.now c.args.chunk) c.args.content.now (take c.loop-role.role-index c.args.roles.now) c.loop-role.actors.items role

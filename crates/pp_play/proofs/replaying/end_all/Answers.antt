@@ -2,7 +2,6 @@ use Rattle.std.proofs.Common.{◌≡◌, List, [], ◌∷◌, ◌++◌, length, 
 use Rattle.std.proofs.lemmas.Iterator.Adapters.{YieldsList-from_vec}
 use Rattle.std.proofs.lemmas.Iterator.Consumers.{YieldsList-end}
 use Rattle.pp_actor.specs.Actor.{ActorState}
-use Rattle.pp_outcome.specs.declared.outcome.PeerEnd.{PeerEnd}
 use Rattle.pp_play.specs.Playing.{EndAs}
 use Rattle.pp_play.proofs.Endings.{ends_more, ends_none, map_same}
 use Rattle.pp_play.proofs.replaying.end_all.Goals as goal
@@ -20,7 +19,7 @@ pub returns : goal.returns
 returns c =
     let gives : c.into_iter-actor-iterator.result.rest.items ≡ c.args.actors.items = c.into_iter-actor-iterator.ensures.into_iter_gives.0 in
     let size : c.into_iter-actor-iterator.result.rest.len ≡ length c.args.actors.items =
-        c.into_iter-actor-iterator.result.rest.ok.0 ∙ ap (λ (l : List ActorState). length l) gives in
+    c.into_iter-actor-iterator.result.rest.ok.0 ∙ ap (λ (l : List ActorState). length l) gives in
     let seen = YieldsList-end (YieldsList-from_vec {s = c.into_iter-actor-iterator.result} c.args.actors.items gives size)
-        c.loop-actor.yielded c.loop-actor.actor-iterator c.loop-actor.yielded_by c.next.result c.next.new.self c.in-None.is c.next.ensures.steps in
+    c.loop-actor.yielded c.loop-actor.actor-iterator c.loop-actor.yielded_by c.next.result c.next.new.self c.in-None.is c.next.ensures.steps in
     subst (λ (l : List ActorState). EndAs c.args.descriptor.now l c.loop-actor.ends.items) (sym (map_same c.loop-actor.yielded) ∙ seen.0) c.loop-actor.invariant

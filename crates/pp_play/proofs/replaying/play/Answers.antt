@@ -1,7 +1,6 @@
 use Rattle.std.proofs.Common.{sym, subst}
 use Rattle.pp_world.specs.Move.{moves_of}
 use Rattle.pp_play.specs.Playing.{PlaysAs}
-use Rattle.pp_play.specs.Stage.{StageState}
 use Rattle.pp_play.specs.contracts.stage.Stage.{the_view}
 use Rattle.pp_play.proofs.Endings.{counted, played}
 use Rattle.pp_play.proofs.Few.{few_moves}

@@ -1,4 +1,4 @@
-use Rattle.std.proofs.Common.{⊎_elim, false, sym, ◌∙◌, subst}
+use Rattle.std.proofs.Common.{⊎_elim, sym, ◌∙◌, subst}
 use Rattle.pp_actor.specs.Actor.{ActorState, ShowsActor}
 use Rattle.pp_world.specs.Change.{with_stop}
 use Rattle.pp_actor.proofs.Actors.{crashes, if_ok}

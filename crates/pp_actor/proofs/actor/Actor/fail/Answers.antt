@@ -1,4 +1,4 @@
-use Rattle.std.proofs.Common.{Option, Some, sym, subst, refl, ◌∙◌}
+use Rattle.std.proofs.Common.{Option, sym, subst, ◌∙◌}
 use Rattle.pp_stage.specs.declared.turning.Running.{Running}
 use Rattle.pp_actor.specs.Actor.{ActorState, ShowsActor}
 use Rattle.pp_actor.proofs.actor.Actor.fail.Goals as goal

@@ -1,4 +1,4 @@
-use Rattle.std.proofs.Common.{Option, Some, None, List, [], ◌∷◌, ◌++◌, sym, ◌∙◌, subst}
+use Rattle.std.proofs.Common.{Option, List, [], ◌∷◌, ◌++◌, sym, ◌∙◌, subst}
 use Rattle.pp_outside.specs.declared.memory_disk.MemoryDisk.{MemoryDisk}
 use Rattle.pp_stage.specs.Turned.{TurnsAs}
 use Rattle.pp_stage.specs.declared.turning.Running.{Running}

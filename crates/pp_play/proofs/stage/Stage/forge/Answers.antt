@@ -1,6 +1,6 @@
-use Rattle.std.proofs.Common.{◌≡◌, refl, sym, ◌∙◌, subst, ap, List, [], ◌∷◌, ◌++◌}
-use Rattle.std.specs.Prelude.{◌<◌, length, take, drop}
-use Rattle.pp_world.specs.Change.{with_delay, with_forged, with_loss, with_repeat}
+use Rattle.std.proofs.Common.{refl, sym, ◌∙◌, subst, ap, List, [], ◌∷◌, ◌++◌}
+use Rattle.std.specs.Prelude.{◌<◌, length}
+use Rattle.pp_world.specs.Change.{with_forged}
 use Rattle.pp_world.specs.Move.{Make}
 use Rattle.pp_world.specs.Schedule as acts
 use Rattle.pp_world.specs.World.{Queued, address_of}

@@ -13,10 +13,10 @@ pub returns : goal.returns
 returns c =
     let seen : StageState = the_view c.self.inside in
     let within : c.from.result < length seen.actors =
-        subst (λ (i : ℕ). i < length seen.actors) (sym c.from.ensures) (subst (λ (s : StageState). c.args.peer < length s.actors) (sym c.self.view_is) c.requires) in
+    subst (λ (i : ℕ). i < length seen.actors) (sym c.from.ensures) (subst (λ (s : StageState). c.args.peer < length s.actors) (sym c.self.view_is) c.requires) in
     let here : slice_get seen.actors c.args.peer ≡ Some c.index_mut.result.now =
-        subst (λ (i : ℕ). slice_get seen.actors i ≡ Some c.index_mut.result.now) c.from.ensures
-        (slice_get_read seen.actors (length seen.actors) c.from.result c.index_mut.result.now refl within c.index_mut.ensures.value) in
+    subst (λ (i : ℕ). slice_get seen.actors i ≡ Some c.index_mut.result.now) c.from.ensures
+    (slice_get_read seen.actors (length seen.actors) c.from.result c.index_mut.result.now refl within c.index_mut.ensures.value) in
     let after : ActorState = c.turn.new.self in
     ok_then c.turn.result (λ turns. subst (λ (s : StageState). HasHeard c.args.peer s (record seen { actors = slice_set seen.actors c.from.result after })) c.self.view_is
     (record {

@@ -1,9 +1,9 @@
-use Rattle.std.proofs.Common.{◌≡◌, refl, sym, ◌∙◌, subst, ap, List, [], ◌∷◌, ◌++◌}
-use Rattle.std.specs.Prelude.{◌<◌, length, take, drop}
-use Rattle.pp_world.specs.Change.{with_delay, with_forged, with_loss, with_repeat}
+use Rattle.std.proofs.Common.{refl, sym, ◌∙◌, subst, ap, List}
+use Rattle.std.specs.Prelude.{◌<◌, length, drop}
+use Rattle.pp_world.specs.Change.{with_loss}
 use Rattle.pp_world.specs.Move.{Make}
 use Rattle.pp_world.specs.Schedule as acts
-use Rattle.pp_world.specs.World.{Queued, address_of}
+use Rattle.pp_world.specs.World.{Queued}
 use Rattle.pp_play.specs.Stage.{StageState, MovesAs, runs_at}
 use Rattle.pp_play.specs.contracts.stage.Stage.{the_view}
 use Rattle.pp_play.proofs.Stages.{is_here, queue_changes, queue_stays}

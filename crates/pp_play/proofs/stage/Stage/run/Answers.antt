@@ -1,4 +1,4 @@
-use Rattle.std.proofs.Common.{◌≡◌, ℕ, ◌≤◌, List, [], ◌∷◌, length, sym, ◌∙◌, subst, arith}
+use Rattle.std.proofs.Common.{◌≡◌, ℕ, List, [], ◌∷◌, length, sym, ◌∙◌, subst, arith}
 use Rattle.pp_world.specs.Move.{Move, Wait, for_each, rounds_of}
 use Rattle.pp_world.specs.Schedule.{Turn}
 use Rattle.pp_play.specs.Playing.{PlaysAs}

@@ -11,9 +11,9 @@ returns-clause-role c =
     let role : Role = c.index-roles-from.result in
     let within : c.args.peer < length c.args.roles.now = subst (λ (n : ℕ). c.args.peer < n) (sym c.requires.roles) c.requires.peer in
     let at : slice_get c.args.roles.now c.args.peer ≡ Some role =
-        subst (λ (i : ℕ). slice_get c.args.roles.now i ≡ Some role) c.from.ensures
-        (slice_get_read c.args.roles.now (length c.args.roles.now) c.from.result role refl
-        (subst (λ (i : ℕ). i < length c.args.roles.now) (sym c.from.ensures) within) c.index-roles-from.is) in
+    subst (λ (i : ℕ). slice_get c.args.roles.now i ≡ Some role) c.from.ensures
+    (slice_get_read c.args.roles.now (length c.args.roles.now) c.from.result role refl
+    (subst (λ (i : ℕ). i < length c.args.roles.now) (sym c.from.ensures) within) c.index-roles-from.is) in
     ok_then c.start.result (λ started. record {
       role = role;
       at = at;

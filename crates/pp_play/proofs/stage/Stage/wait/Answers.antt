@@ -1,4 +1,4 @@
-use Rattle.std.proofs.Common.{◌≡◌, ℕ, sym, subst}
+use Rattle.std.proofs.Common.{ℕ, sym, subst}
 use Rattle.pp_world.specs.Move.{Wait}
 use Rattle.pp_play.specs.Stage.{StageState, MovesAs}
 use Rattle.pp_play.specs.contracts.stage.Stage.{the_view}
