@@ -180,7 +180,7 @@ may_open d x after stands is =
 is_open : (d : Descriptor) (x : PeerState) → x.is_running ≡ true → MayOpen d x [] x
 is_open d x runs = subst (λ (b : Bool). MatchBool b (Stays x [] x) ((Opens d x x ⊎ FailsToOpen d x x) × (no_records ≡ []))) (sym runs) (refl, refl)
 
-stays_idle : (clock : ℕ) (x : PeerState) → x.is_running ≡ false → MayTakeTurn clock x [] x
+pub stays_idle : (clock : ℕ) (x : PeerState) → x.is_running ≡ false → MayTakeTurn clock x [] x
 stays_idle clock x stands = subst (λ (b : Bool). MatchBool b (TakesTurn clock x [] x) (Stays x [] x)) (sym stands) (refl, refl)
 
 may_turn : (clock : ℕ) (x : PeerState) (added : List Record) (after : PeerState) → x.is_running ≡ true → TakesTurn clock x added after

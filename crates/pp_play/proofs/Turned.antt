@@ -25,6 +25,7 @@ use Rattle.pp_mail.specs.Mail.{queue_of, with_queue}
 use Rattle.pp_mail.proofs.Peers.{mail_at, peers_after_from-none}
 use Rattle.pp_stage.specs.declared.turning.Running.{Running}
 use Rattle.pp_actor.specs.Actor.{ActorState, ActorOpens, ActorTurns, HasGained, IsPlaying, ShowsActor, ShowsNow, is_deaf, link_in}
+use Rattle.pp_actor.proofs.Actors.{stays_idle}
 use Rattle.pp_play.specs.Stage.{StageState, ShowActors, ShowsStage, MovesAs, HasHeard, mail_after}
 use Rattle.pp_play.proofs.Deliveries.{mail_at-sent, newest}
 use Rattle.pp_play.proofs.Stages.{more_actors, requeued_all, runs_as, stands_at}
@@ -253,7 +254,7 @@ turns_none peer a old here none = record {
       let it = stands_at most peer a old.actors w.peers shows.actors here in
       let off : it.x.is_running ≡ false = runs_as most a it.x it.shows ∙ ap is_some (runs_not a.running none) in record {
         after = record w { peers = peers_after peer [] (slice_set w.peers peer it.x) };
-        moves = record { before = it.x; after = it.x; added = []; here = it.here; changed = stays w.clock it.x off; is = refl };
+        moves = record { before = it.x; after = it.x; added = []; here = it.here; changed = stays_idle w.clock it.x off; is = refl };
         shows = record {
           clock = shows.clock;
           actors = requeued_all (most + 4) 0 (worlds.address_of peer) [] old.actors (slice_set w.peers peer it.x)
@@ -264,9 +265,6 @@ turns_none peer a old here none = record {
       };
 }
   where
-    stays : (clock : ℕ) (x : PeerState) → x.is_running ≡ false → MayTakeTurn clock x [] x
-    stays clock x off = subst (λ (b : Bool). MatchBool b (TakesTurn clock x [] x) (Stays x [] x)) (sym off) (refl, refl)
-
     set_same : (n : ℕ) (x : PeerState) (peers : List PeerState) → slice_get peers n ≡ Some x → slice_set peers n x ≡ peers
     set_same n x [] at = refl
     set_same zero x (y ∷ ys) at = (let same : Some y ≡ Some x = at in let is : y ≡ x = cc in ap (λ (z : PeerState). z ∷ ys) (sym is))
