@@ -35,6 +35,7 @@ pub(crate) fn status_of(number: u8) -> Option<Status>
         7 => Status::SinkFault,
         8 => Status::NotEmpty,
         9 => Status::ContentSize,
+        10 => Status::Schedule,
         11 => Status::Memory,
         12 => Status::Damaged,
         _ => return None,
@@ -100,6 +101,7 @@ impl Ending<'_> {
             Status::SinkFault => put_refused(f, "standard output", &self.sink),
             Status::NotEmpty => write!(f, "{store}: not empty, and left as it is"),
             Status::ContentSize => f.write_str("standard input: empty, or longer than 2^20 chunks"),
+            Status::Schedule => f.write_str("standard input: no schedule"),
             Status::Memory => f.write_str("memory ran out"),
             Status::Damaged => write!(f, "{store}: a chunk is damaged"),
         }

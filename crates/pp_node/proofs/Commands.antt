@@ -1,7 +1,7 @@
 -- How a run ended, from how the command ended that its words spell.
-use Rattle.std.proofs.Common.{◌≡◌, ◌⊎◌, ℕ, List, codes, refl, sym, ◌∙◌, subst}
+use Rattle.std.proofs.Common.{◌≡◌, ◌⊎◌, ℕ, ◌+◌, List, [], ◌∷◌, codes, refl, sym, ◌∙◌, subst}
 use Rattle.pp_terms.specs.command.Commands.{Order, Command, Import, Seed, Fetch, Check, Export, Upgrade, Replay, Rehearse}
-use Rattle.pp_terms.specs.command.CommandLine.{Spells, IsImport, IsSeed, IsFetch, IsOnStore, IsOneOf, IsFirstWrong}
+use Rattle.pp_terms.specs.command.CommandLine.{Spells, IsImport, IsSeed, IsFetch, IsOnStore, IsRehearse, IsOneOf, IsFirstWrong}
 use Rattle.pp_terms.specs.command.Stream.{SourceState, SinkState}
 use Rattle.pp_terms.specs.command.Usage as wrong
 use Rattle.pp_terms.specs.disk.Disk.{DiskState, IsKnown, GainsName}
@@ -17,11 +17,15 @@ use Rattle.pp_node.specs.Outside.{Outside, outside}
 use Rattle.pp_node.specs.Checking.{ChecksIn, CheckEnds}
 use Rattle.pp_node.specs.Exporting.{ExportsIn, ExportEnds}
 use Rattle.pp_node.specs.Promising.{PeerWords, SeedsIn, SeedEnds, FetchesIn, FetchEnds}
+use Rattle.pp_world.specs.Rehearsal.{first_words, rehearsal_key, rehearsal_text}
+use Rattle.pp_world.specs.Schedule.{most_text}
+use Rattle.pp_store.specs.Import.{TakesAtMost}
+use Rattle.pp_node.specs.Replaying.{PlaysText, ReplaysIn, ReplayEnds, RehearseEnds}
 use Rattle.pp_node.specs.Upgrading.{UpgradesIn, IsUpgradeRun, UpgradeEnds}
 use Rattle.pp_node.specs.Commanding.{HasEnded}
 use Rattle.pp_node.specs.Status.{number_of}
 use Rattle.pp_node.specs.declared.status.Status.{Status}
-use Rattle.pp_node.specs.declared.status.Status.TheVariants.{Done, Usage, NotAStore, Incomplete, DiskFault, LinkFault, SourceFault, SinkFault, NotEmpty, ContentSize, Memory, Damaged}
+use Rattle.pp_node.specs.declared.status.Status.TheVariants.{Done, Usage, NotAStore, Incomplete, DiskFault, LinkFault, SourceFault, SinkFault, NotEmpty, ContentSize, Schedule, Memory, Damaged}
 
 -- ---- words that spell no command that is built
 
@@ -58,6 +62,16 @@ module _ (status : Status) (store : List ℕ) (link : LinkState) (disk disk' : D
   upgrade_ended d source source' book book' ends named run rooted =
       record { status = status; number = refl; ends = ends link; named = named; run = run; rooted = rooted }
 
+pub replay_ended : (status : Status) (link : LinkState) (disk : DiskState) (source source' : SourceState) (sink sink' : SinkState) (book : BookState)
+    → ReplaysIn status source source' sink sink' → TakesAtMost (most_text + 1) source source'
+    → ReplayEnds (number_of status) (outside disk link source sink book) (outside disk link source' sink' book)
+replay_ended status link disk source source' sink sink' book ends takes = record { status = status; number = refl; ends = ends; takes = takes; disk = refl }
+
+pub rehearse_ended : (status : Status) (n : ℕ) (link : LinkState) (disk : DiskState) (source : SourceState) (sink sink' : SinkState) (book : BookState)
+    → PlaysText (rehearsal_text (first_words 2002 (rehearsal_key n))) status sink sink'
+    → RehearseEnds (number_of status) n (outside disk link source sink book) (outside disk link source sink' book)
+rehearse_ended status n link disk source sink sink' book ends = record { status = status; is_number = refl; ends = ends; source = refl; disk = refl }
+
 -- ---- a run's end
 
 module _ (words : List (List ℕ)) (command : Command) (status : Status) (result : ℕ) (old new : Outside) (read : Spells words command)
@@ -88,6 +102,12 @@ module _ (words : List (List ℕ)) (command : Command) (status : Status) (result
       → UpgradeEnds result store descriptor old new
   upgrade_ends store descriptor spelled = ended_as (Upgrade store descriptor) spelled
 
+  pub replay_ends : words ≡ codes "replay" ∷ [] → ReplayEnds result old new
+  replay_ends spelled = ended_as Replay spelled
+
+  pub rehearse_ends : (n : ℕ) → IsRehearse words n → RehearseEnds result n old new
+  rehearse_ends n spelled = ended_as (Rehearse n) spelled
+
 usage_only : (s : Status) → number_of s ≡ 1 → s ≡ Usage
 usage_only Usage is = refl
 usage_only Done is = absurd cc
@@ -99,6 +119,7 @@ usage_only SourceFault is = absurd cc
 usage_only SinkFault is = absurd cc
 usage_only NotEmpty is = absurd cc
 usage_only ContentSize is = absurd cc
+usage_only Schedule is = absurd cc
 usage_only Memory is = absurd cc
 usage_only Damaged is = absurd cc
 
@@ -118,8 +139,10 @@ never (Export store descriptor) number old new one end =
     subst (λ (s : Status). ExportsIn s descriptor old new) (usage_only end.status (sym end.number ∙ one)) end.ends
 never (Upgrade store descriptor) number old new one end =
     subst (λ (s : Status). UpgradesIn s descriptor old new) (usage_only end.status (sym end.number ∙ one)) end.ends
-never Replay number old new one end = end
-never (Rehearse n) number old new one end = end
+never Replay number old new one end =
+    (subst (λ (s : Status). ReplaysIn s old.source new.source old.sink new.sink) (usage_only end.status (sym end.number ∙ one)) end.ends).plays
+never (Rehearse n) number old new one end =
+    subst (λ (s : Status). PlaysText (rehearsal_text (first_words 2002 (rehearsal_key n))) s old.sink new.sink) (usage_only end.status (sym end.is_number ∙ one)) end.ends
 
 pub no_usage : (command : Command) (status : Status) (result : ℕ) (old new : Outside) → result ≡ number_of status
     → HasEnded command (number_of status) old new → result ≡ 1 → ⊥

@@ -31,7 +31,7 @@ use Rattle.pp_node.specs.declared.preparing.Peering.{Peering}
 use Rattle.pp_node.specs.declared.preparing.SeedFault.{SeedFault}
 use Rattle.pp_node.specs.declared.preparing.SeedFault.TheVariants as fault
 use Rattle.pp_node.specs.declared.status.Status.{Status}
-use Rattle.pp_node.specs.declared.status.Status.TheVariants.{Done, Usage, NotAStore, Incomplete, DiskFault, LinkFault, SourceFault, SinkFault, NotEmpty, ContentSize, Memory, Damaged}
+use Rattle.pp_node.specs.declared.status.Status.TheVariants.{Done, Usage, NotAStore, Incomplete, DiskFault, LinkFault, SourceFault, SinkFault, NotEmpty, ContentSize, Schedule, Memory, Damaged}
 use Rattle.pp_node.proofs.Peers.{WasReady, HasBook, b, start, d_is, went_closed, is_closed, early_now, all_taken, complete_now, missing_now, peer_ends, bound_now, run_now, stopped_now, asks_none_now, kept_to_now, dialled_now, asked_now, unkept, unwilling}
 
 -- ---- a fault is one of both commands
@@ -48,6 +48,7 @@ seeds_in Incomplete w old new added f = f
 seeds_in SourceFault w old new added f = f
 seeds_in NotEmpty w old new added f = f
 seeds_in ContentSize w old new added f = f
+seeds_in Schedule w old new added f = f
 seeds_in Damaged w old new added f = f
 
 pub fetches_in : (status : Status) (w : PeerWords) (old new : Outside) (added : List Record) → FaultsIn status w old new added → FetchesIn status w old new added
@@ -62,6 +63,7 @@ fetches_in Usage w old new added f = f
 fetches_in SourceFault w old new added f = f
 fetches_in NotEmpty w old new added f = f
 fetches_in ContentSize w old new added f = f
+fetches_in Schedule w old new added f = f
 fetches_in Damaged w old new added f = f
 
 -- ---- no peer was made ready
@@ -271,6 +273,7 @@ module _ (w : Peering) (old new : Outside) (opened : DiskState) (listens : LinkS
   seed_served SourceFault none s = absurd s
   seed_served NotEmpty none s = absurd s
   seed_served ContentSize none s = absurd s
+  seed_served Schedule none s = absurd s
   seed_served Memory none s = absurd s
   seed_served Damaged none s = absurd s
 
@@ -305,5 +308,6 @@ module _ (w : Peering) (old new : Outside) (opened : DiskState) (listens : LinkS
   fetch_served SourceFault asked s = absurd s
   fetch_served NotEmpty asked s = absurd s
   fetch_served ContentSize asked s = absurd s
+  fetch_served Schedule asked s = absurd s
   fetch_served Memory asked s = absurd s
   fetch_served Damaged asked s = absurd s

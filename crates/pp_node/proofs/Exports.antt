@@ -450,6 +450,7 @@ module _ (d : Descriptor) (old mid new : DiskState) (sink sink' : SinkState) (li
   exported_later ends.SourceFault is = absurd is
   exported_later ends.NotEmpty is = absurd is
   exported_later ends.ContentSize is = absurd is
+  exported_later ends.Schedule is = absurd is
 
 -- what was found is so of the disk as it is now
 pub found_now : (d : Descriptor) (disk disk' : DiskState) (book : LookUp) (set : List Bool) → disk'.tells ≡ disk.tells → disk'.honest ≡ disk.honest → IsFound d disk disk' book set → IsFound d disk' disk' book set

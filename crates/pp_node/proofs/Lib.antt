@@ -12,3 +12,4 @@ pub mod Upgrades
 pub mod Commands
 pub mod Seeds
 pub mod Exports
+pub mod Replays

@@ -17,7 +17,7 @@ use Rattle.pp_turns.specs.Taking.{IsSized, TakesAll, StopsIn, Ends}
 use Rattle.pp_turns.specs.Turning.{Post}
 use Rattle.pp_node.specs.declared.status.Status.{Status}
 use Rattle.pp_node.specs.declared.preparing.SeedFault.{SeedFault}
-use Rattle.pp_node.specs.declared.status.Status.TheVariants.{Done, Usage, NotAStore, Incomplete, DiskFault, LinkFault, SourceFault, SinkFault, NotEmpty, ContentSize, Memory, Damaged}
+use Rattle.pp_node.specs.declared.status.Status.TheVariants.{Done, Usage, NotAStore, Incomplete, DiskFault, LinkFault, SourceFault, SinkFault, NotEmpty, ContentSize, Schedule, Memory, Damaged}
 use Rattle.pp_node.proofs.Lines.{says}
 use Rattle.pp_node.proofs.Written.{gains_more}
 
@@ -70,6 +70,7 @@ finishes_on SourceFault fetches p old mid new said j = absurd j
 finishes_on SinkFault fetches p old mid new said j = absurd j
 finishes_on NotEmpty fetches p old mid new said j = absurd j
 finishes_on ContentSize fetches p old mid new said j = absurd j
+finishes_on Schedule fetches p old mid new said j = absurd j
 finishes_on Memory fetches p old mid new said j = absurd j
 finishes_on Damaged fetches p old mid new said j = absurd j
 
@@ -89,6 +90,7 @@ module _ (fetches : Bool) (most : ℕ) (b : Beginning) (first mid last : Post) (
   serves_on SourceFault f = absurd f
   serves_on NotEmpty f = absurd f
   serves_on ContentSize f = absurd f
+  serves_on Schedule f = absurd f
   serves_on Memory f = absurd f
   serves_on Damaged f = absurd f
 

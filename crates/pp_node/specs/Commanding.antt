@@ -1,10 +1,11 @@
 -- The commands that words may ask for, and how each of them ends.
 use Rattle.std.specs.Prelude.{ℕ}
-use Rattle.pp_terms.specs.command.Commands.{Command, Import, Seed, Fetch, Check, Export, Upgrade}
+use Rattle.pp_terms.specs.command.Commands.{Command, Import, Seed, Fetch, Check, Export, Upgrade, Replay, Rehearse}
 use Rattle.pp_node.specs.Checking.{CheckEnds}
 use Rattle.pp_node.specs.Exporting.{ExportEnds}
 use Rattle.pp_node.specs.Outside.{Outside}
 use Rattle.pp_node.specs.Promising.{SeedEnds, FetchEnds}
+use Rattle.pp_node.specs.Replaying.{ReplayEnds, RehearseEnds}
 use Rattle.pp_node.specs.Run.{ImportEnds}
 use Rattle.pp_node.specs.Upgrading.{UpgradeEnds}
 
@@ -32,4 +33,5 @@ HasEnded (Fetch store descriptor listen turns order peers) number old new =
     FetchEnds number (record { store = store; descriptor = descriptor; listen = listen; turns = turns }) peers old new
 HasEnded (Export store descriptor) number old new = ExportEnds number store descriptor old new
 HasEnded (Upgrade store descriptor) number old new = UpgradeEnds number store descriptor old new
-HasEnded _ number old new = ⊥
+HasEnded Replay number old new = ReplayEnds number old new
+HasEnded (Rehearse n) number old new = RehearseEnds number n old new

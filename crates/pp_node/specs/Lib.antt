@@ -13,3 +13,5 @@ pub mod Promising
 pub mod Exporting
 pub mod Upgrading
 pub mod Commanding
+pub mod Replaying
+pub mod Shown

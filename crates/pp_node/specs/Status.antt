@@ -1,7 +1,7 @@
 -- The numbers of the statuses.
 use Rattle.std.specs.Prelude.{ℕ}
 use Rattle.pp_node.specs.declared.status.Status.{Status}
-use Rattle.pp_node.specs.declared.status.Status.TheVariants.{Done, Usage, NotAStore, Incomplete, DiskFault, LinkFault, SourceFault, SinkFault, NotEmpty, ContentSize, Memory, Damaged}
+use Rattle.pp_node.specs.declared.status.Status.TheVariants.{Done, Usage, NotAStore, Incomplete, DiskFault, LinkFault, SourceFault, SinkFault, NotEmpty, ContentSize, Schedule, Memory, Damaged}
 
 abbrev pub number_of : Status → ℕ
 number_of Done = 0
@@ -14,5 +14,6 @@ number_of SourceFault = 6
 number_of SinkFault = 7
 number_of NotEmpty = 8
 number_of ContentSize = 9
+number_of Schedule = 10
 number_of Memory = 11
 number_of Damaged = 12

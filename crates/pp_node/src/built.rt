@@ -11,7 +11,7 @@ fn is_built(name: &str) -> bool
 {
     matches!(
         name,
-        "import" | "seed" | "fetch" | "check" | "export" | "upgrade"
+        "import" | "seed" | "fetch" | "check" | "export" | "upgrade" | "replay" | "rehearse"
     )
 }
 

@@ -11,8 +11,10 @@ mod preparing;
 mod printing;
 mod ranges;
 mod refusing;
+mod replaying;
 mod seeding;
 mod status;
+mod taking;
 mod top;
 mod upgrading;
 

@@ -21,8 +21,12 @@ pub(crate) fn put_held<K: Sink>(set: &ChunkSet, chunks: u32, sink: &mut K) -> Re
     put_all(sink, b"\n")
 }
 
-// The ranges, or `none`.
-fn put_ranges<K: Sink>(set: &ChunkSet, chunks: u32, sink: &mut K) -> Result<(), SinkFault>
+/// Prints the ranges, or `none`.
+pub(crate) fn put_ranges<K: Sink>(
+    set: &ChunkSet,
+    chunks: u32,
+    sink: &mut K,
+) -> Result<(), SinkFault>
     requires { chunks ≡ length set.now }
     ensures said { OnOk result (HasRanges set.now (K.state sink.old) (K.state sink.new)) }
     ensures cause { HasCause (K.state sink.old).faults (K.state sink.new).faults result }

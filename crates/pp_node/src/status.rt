@@ -24,6 +24,8 @@ pub enum Status {
     NotEmpty = 8,
     /// The content is none of a swarm.
     ContentSize = 9,
+    /// The text is no schedule.
+    Schedule = 10,
     /// There was no memory.
     Memory = 11,
     /// A chunk was read back with another digest than the book's.

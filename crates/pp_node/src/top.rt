@@ -1,7 +1,7 @@
 // The top call.
-ghost use Rattle.std.specs.Prelude.{◌≡◌, ◌↔◌, ℕ, List, codes};
+ghost use Rattle.std.specs.Prelude.{◌≡◌, ◌↔◌, ℕ, List, [], ◌∷◌, codes};
 ghost use Rattle.pp_terms.specs.command.Commands as terms;
-ghost use Rattle.pp_terms.specs.command.CommandLine.{Spells, IsImport, IsSeed, IsFetch, IsOnStore, IsOneOf, IsFirstWrong};
+ghost use Rattle.pp_terms.specs.command.CommandLine.{Spells, IsImport, IsSeed, IsFetch, IsOnStore, IsRehearse, IsOneOf, IsFirstWrong};
 ghost use Rattle.pp_terms.specs.format.Descriptor.{Descriptor};
 ghost use Rattle.pp_terms.specs.format.Traffic.{Address};
 ghost use Rattle.pp_terms.specs.command.Usage as wrong;
@@ -9,6 +9,7 @@ ghost use Rattle.pp_terms.specs.command.Usage.{usage_line};
 ghost use Rattle.pp_tree.specs.Book.{empty_book};
 ghost use Rattle.pp_words.specs.Views.{texts, command_of};
 ghost use Rattle.pp_node.specs.Built.{built};
+ghost use Rattle.pp_node.specs.Replaying.{ReplayEnds, RehearseEnds};
 ghost use Rattle.pp_node.specs.Text.{Says};
 ghost use Rattle.pp_node.specs.Run.{ImportEnds};
 ghost use Rattle.pp_node.specs.Checking.{CheckEnds};
@@ -25,6 +26,7 @@ use crate::exporting::export;
 use crate::importing::import;
 use crate::preparing::Peering;
 use crate::refusing::refuse;
+use crate::replaying::{rehearse, replay};
 use crate::seeding::share;
 use crate::status::Status;
 use crate::upgrading::upgrade;
@@ -38,9 +40,9 @@ use std::alloc::Global;
 /// Does what the words of a command line say, without the program's name, and answers the exit status: 0 done, 1 for
 /// words that are no command, 2 for a file that is no store of the descriptor, 3 where some chunk isn't held, 4 where the
 /// disk refused a call, 5 where the link refused to listen, 6 where the source refused a read, 7 where the sink refused a
-/// write, 8 for a store that isn't empty, 9 for a content of no swarm, 11 where memory ran out, 12 where a chunk was read
-/// back with another digest. The book is empty at entry, and `random` are 32 bytes that nobody can guess, from which
-/// channel numbers are drawn.
+/// write, 8 for a store that isn't empty, 9 for a content of no swarm, 10 for a text that is no schedule, 11 where memory
+/// ran out, 12 where a chunk was read back with another digest. The book is empty at entry, and `random` are 32 bytes that
+/// nobody can guess, from which channel numbers are drawn.
 pub fn run<D: Disk, L: Link, S: Source, K: Sink>(
     alloc: Global,
     words: &[String],
@@ -85,6 +87,14 @@ pub fn run<D: Disk, L: Link, S: Source, K: Sink>(
 
     ensures upgrade { (store : List ℕ) (descriptor : Descriptor) → IsOnStore (codes "upgrade") (texts words.now) store descriptor
         → UpgradeEnds result store descriptor (outside (D.state disk.old) (L.seen link.old) (S.state source.old) (K.state sink.old) book.old)
+        (outside (D.state disk.new) (L.seen link.new) (S.state source.new) (K.state sink.new) book.new) }
+
+    ensures replay { texts words.now ≡ codes "replay" ∷ []
+        → ReplayEnds result (outside (D.state disk.old) (L.seen link.old) (S.state source.old) (K.state sink.old) book.old)
+        (outside (D.state disk.new) (L.seen link.new) (S.state source.new) (K.state sink.new) book.new) }
+
+    ensures rehearse { (number : ℕ) → IsRehearse (texts words.now) number
+        → RehearseEnds result number (outside (D.state disk.old) (L.seen link.old) (S.state source.old) (K.state sink.old) book.old)
         (outside (D.state disk.new) (L.seen link.new) (S.state source.new) (K.state sink.new) book.new) }
 
     // Only `seed` and `fetch` use the link, and only they, `check`, `export` and `upgrade` fill the book.
@@ -162,9 +172,8 @@ fn obey<D: Disk, L: Link, S: Source, K: Sink>(
         Command::Upgrade { store, descriptor } => {
             upgrade(alloc, store, descriptor, disk, source, sink, book)
         }
-        // These are not built, so they are never asked for.
-        Command::Replay => unreachable!(),
-        Command::Rehearse { .. } => unreachable!(),
+        Command::Replay => replay(alloc, source, sink),
+        Command::Rehearse { number } => rehearse(alloc, *number, sink),
     }
 }
 

@@ -297,8 +297,7 @@ fn names_the_first_wrong_word(rt: HostRuntime) -> Result<(), Fail> {
         (&["import", "s", "01024"], b"usage: word 2: chunk\n"),
         (&["import", "s", "1024", "x"], b"usage: word 3: extra\n"),
         (&["imports", "s", "1024"], b"usage: word 0: command\n"),
-        // It is not built yet.
-        (&["rehearse"], b"usage: word 0: command\n"),
+        (&["rehearse"], b"usage: word 1: missing\n"),
     ];
     for (line, want) in lines {
         let ran = import_over(

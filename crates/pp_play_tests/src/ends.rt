@@ -8,7 +8,7 @@ use std::test::Fail;
 // What is told of a peer: its lives, how many chunks it announced, and how many it holds.
 type Told = (usize, u32, u32);
 
-fn played(alloc: Global, text: &[u8]) -> Result<Outcome, Fail> {
+pub(crate) fn played(alloc: Global, text: &[u8]) -> Result<Outcome, Fail> {
     match replay(alloc, text) {
         Ok(outcome) => Ok(outcome),
         Err(_) => Err("not replayed".into()),
@@ -20,7 +20,7 @@ fn told(outcome: &Outcome, peer: usize) -> Option<Told> {
     Some((end.life_count(), end.announced(), end.held().count()))
 }
 
-const CRASHED: &[u8] = b"ppspp-schedule 1
+pub(crate) const CRASHED: &[u8] = b"ppspp-schedule 1
 content 1024 7000 5
 peer 0 seed
 peer 1 fetch sequential 0
@@ -49,10 +49,10 @@ fn fault_of(alloc: Global, text: &[u8]) -> Option<ReplayFault> {
     replay(alloc, text).err()
 }
 
-const OTHER: &[u8] = b"ppspp-schedule 2
+pub(crate) const OTHER: &[u8] = b"ppspp-schedule 2
 ";
 
-const FOURTH: &[u8] = b"ppspp-schedule 1
+pub(crate) const FOURTH: &[u8] = b"ppspp-schedule 1
 content 1024 7000 5
 peer 0 seed
 turn 3

@@ -28,7 +28,7 @@ fn ended(words: &[String], status: Status) -> Ending<'_> {
 }
 
 // Commands, how they ended, whether the store's file was made, and what is told.
-const ENDINGS: [(&str, Status, bool, &str); 10] = [
+const ENDINGS: [(&str, Status, bool, &str); 11] = [
     (
         "export s d",
         Status::NotAStore,
@@ -84,6 +84,12 @@ const ENDINGS: [(&str, Status, bool, &str); 10] = [
         false,
         "ppspp: s: a chunk is damaged",
     ),
+    (
+        "replay",
+        Status::Schedule,
+        false,
+        "ppspp: standard input: no schedule",
+    ),
 ];
 
 #[test]
@@ -117,7 +123,7 @@ fn tells_nothing_more(rt: HostRuntime) -> Result<(), Fail> {
         assert!(rt; !ended(&words, status).is_told());
     }
     assert_eq!(rt;
-        (status_of(12), status_of(10)),
+        (status_of(12), status_of(13)),
         (Some(Status::Damaged), None)
     );
     Ok(())
