@@ -1,13 +1,14 @@
 -- An opening of a peer's store, as one of a peer of a world.
 use Rattle.std.specs.Prelude.{◌≡◌, ℕ, ◌+◌, ◌^◌, ◌<◌, true, Option, Some, None, List, [], ◌∷◌}
-use Rattle.pp_terms.specs.disk.Disk.{DiskState, Throughout, moment_of}
+use Rattle.pp_terms.specs.disk.Disk.{DiskState, History, Throughout, moment_of}
 use Rattle.pp_terms.specs.disk.Image.{StandsIn}
 use Rattle.pp_terms.specs.disk.Sound.{IsSound}
 use Rattle.pp_terms.specs.format.Descriptor.{Descriptor}
 use Rattle.pp_terms.specs.format.Traffic.{LinkState}
 use Rattle.pp_outside.specs.declared.memory_disk.MemoryDisk.{MemoryDisk}
 use Rattle.pp_scan.specs.Scan.{IsScanned}
-use Rattle.pp_store.specs.Store.{is_committed}
+use Rattle.pp_store.specs.Sound.{StaysSound}
+use Rattle.pp_store.specs.Store.{GoesOn, is_committed}
 use Rattle.pp_tree.specs.Book.{entry}
 use Rattle.pp_core.specs.Keeping.{IsKeeping}
 use Rattle.pp_core.specs.Opening.{HasBegun, beginning}
@@ -32,6 +33,11 @@ pub record Begins (d : Descriptor) (start : Start) (old new : DiskState) (p : Pe
   pub kept : IsSound d old.history.reads → IsKeeping (moment_of new.history) p new []
   pub taken : (i : ℕ) → Throughout old.history (moment_of old.history) (λ image. StandsIn d image i)
       → is_committed p.parts.holding.store i ≡ true
+
+-- Whatever an opening came to: what stood in every image goes on standing, and images that were sound stay so.
+pub record LosesNothing (d : Descriptor) (old new : History) : Type 0 where
+  pub stands : GoesOn d old new
+  pub sound : StaysSound d old new
 
 -- ---- the peer of a world
 

@@ -3,7 +3,7 @@ ghost use Rattle.std.specs.Prelude.{◌≡◌, ◌≢◌, IfOk, IfErr, IfSome, O
 ghost use Rattle.pp_outside.specs.MemoryDisk.{state_of};
 ghost use Rattle.pp_holding.specs.Opening.{IsOpenFault};
 ghost use Rattle.pp_watch.specs.Done.{IsSince, as_before};
-ghost use Rattle.pp_stage.specs.Opening.{Begins, OpensAs};
+ghost use Rattle.pp_stage.specs.Opening.{Begins, LosesNothing, OpensAs};
 ghost use Rattle.pp_stage.specs.Shown.{IsReady};
 
 use crate::memory::enough;
@@ -52,6 +52,7 @@ pub(crate) fn try_open<B: Before>(
     ensures since { IsSince (as_before disk) result.disk }
     ensures begins { IfOk result.peer (Begins descriptor.now start.now (state_of disk) (state_of result.disk)) }
     ensures fault { IfErr result.peer (IsOpenFault descriptor.now (state_of disk) (state_of result.disk)) }
+    ensures lasts { LosesNothing descriptor.now (state_of disk).history (state_of result.disk).history }
 {
     let mut disk = WatchedDisk::<B>::new(disk);
     let peer = Peer::open(
@@ -89,6 +90,7 @@ pub fn open(
     ensures opens { IfOk result (λ o. OpensAs descriptor.now disk o.disk o.running) }
     ensures begins { IfOk result (λ o. IfSome o.running
         (λ r. Begins descriptor.now start.now (state_of disk) (state_of o.disk) r.peer)) }
+    ensures lasts { IfOk result (λ o. LosesNothing descriptor.now (state_of disk).history (state_of o.disk).history) }
     ensures ready { IfOk result (λ o. IfSome o.running IsReady) }
 {
     let Tried { disk, peer } = try_open::<Brand>(alloc, descriptor, start, disk);
