@@ -1,6 +1,6 @@
 -- What happens to an actor, as to a peer of a world.
 use Rattle.std.proofs.Common.{◌≡◌, ◌⊎◌, inl, inr, ℕ, ◌+◌, ◌^◌, ◌<◌, Bool, true, false, Option, Some, None, List, [], ◌∷◌, ◌++◌, refl, sym, ◌∙◌, ap, subst, arith}
-use Rattle.std.specs.Prelude.{is_some, reverse, MatchBool, Result, Ok, Err, IsOk, OnOk}
+use Rattle.std.specs.Prelude.{is_some, IfSome, reverse, MatchBool, Result, Ok, Err, IsOk, OnOk}
 use Rattle.std.specs.declared.alloc.AllocError.{AllocError}
 use Rattle.std.proofs.lemmas.List.{reverse-append}
 use Rattle.pp_terms.specs.disk.Calls.{Calls, attached, crash_image, history_of}
@@ -18,13 +18,19 @@ use Rattle.pp_watch.proofs.Openings.{crashed}
 use Rattle.pp_world.specs.Change.{MayOpen, MayTakeTurn, Stays, with_crash, with_stop}
 use Rattle.pp_world.specs.Opening.{FailsToOpen, Opens}
 use Rattle.pp_world.specs.Session.{Session}
-use Rattle.pp_world.specs.Turn.{TakesTurn}
+use Rattle.pp_world.specs.Survival.{KeepsAnnounced}
+use Rattle.pp_world.specs.Turn.{TakesTurn, with_turn}
 use Rattle.pp_world.specs.World.{PeerState}
 use Rattle.pp_world.specs.Worlds.{idle}
 use Rattle.pp_actor.specs.Actor.{ActorState, ActorOpens, ActorTurns, HasGained, Hears, IsPlaying, ShowLives, ShowsActor, ShowsLife, ShowsNow, ShowsRemains}
-use Rattle.pp_stage.specs.Opening.{HasOpened, OpensAs, WasRefused}
+use Rattle.pp_stage.specs.Opening.{Begins, HasOpened, LosesNothing, OpensAs, WasRefused}
 use Rattle.pp_stage.specs.Shown.{ShowsRunning}
-use Rattle.pp_stage.specs.Turned.{ShowsTurn, TurnsAs}
+use Rattle.pp_stage.specs.Turned.{KeepsPromises, ShowsTurn, TurnsAs, post_of}
+use Rattle.pp_stage.specs.declared.opening.Start.{Start}
+use Rattle.pp_actor.specs.Going.{LastsNow}
+use Rattle.pp_actor.specs.Lasting.{AllLast, IsSoundNow}
+use Rattle.pp_actor.proofs.Begins.{crashed_lasts, opened_lasts, refused_lasts, stop_lasts, stopped_lasts, turn_lasts}
+use Rattle.pp_actor.proofs.Lasting.{survive}
 use Rattle.pp_actor.specs.declared.life.Life.{Life}
 use Rattle.pp_actor.specs.declared.life.Remains.{Remains}
 use Rattle.pp_stage.specs.declared.turning.Cue.{Cue}
@@ -40,6 +46,10 @@ if_ok (Err e) makes = tt
 pub none_of : (o : Option Running) → is_some o ≡ false → o ≡ None
 none_of None is = refl
 none_of (Some r) is = cc
+
+pub some_of : (o : Option Running) → is_some o ≡ true → (r : Running) × (o ≡ Some r)
+some_of None is = cc
+some_of (Some r) is = (r, refl)
 
 -- ---- what is shown
 
@@ -103,9 +113,12 @@ more_now most more x (Some r) lives now = record {
   over = now.over;
 }
 
-pub more_shown : (most more : ℕ) (a : ActorState) (x : PeerState) → ShowsActor most a x → ShowsActor (most + more) a x
-more_shown most more a x shows =
-    record { disk = more_refused most more a.disk x shows.disk; now = more_now most more x a.running (reverse a.lives) shows.now }
+pub more_shown : (d : Descriptor) (most more : ℕ) (a : ActorState) (x : PeerState) → ShowsActor d most a x → ShowsActor d (most + more) a x
+more_shown d most more a x shows = record {
+  disk = more_refused most more a.disk x shows.disk;
+  now = more_now most more x a.running (reverse a.lives) shows.now;
+  lasts = shows.lasts;
+}
 
 -- ---- a life that ends
 
@@ -127,42 +140,54 @@ one_over lives life s earlier sessions shows over is =
 
 -- ---- a peer that was never started
 
-pub idles : (most : ℕ) (disk : MemoryDisk) (calls : Calls) → ShowsDisk most disk (idle calls)
-    → ShowsActor most (record { disk = disk; lives = []; running = None }) (idle calls)
-idles most disk calls shows = record { disk = shows; now = record { stands = refl; over = tt } }
+pub idles : (d : Descriptor) (most : ℕ) (disk : MemoryDisk) (calls : Calls) → ShowsDisk most disk (idle calls) → IsSoundNow d (history_of calls)
+    → ShowsActor d most (record { disk = disk; lives = []; running = None }) (idle calls)
+idles d most disk calls shows sound =
+    record { disk = shows; now = record { stands = refl; over = tt }; lasts = record { sound = sound; all = tt } }
 
 -- ---- a stop
 
-pub stops_idle : (most : ℕ) (disk : MemoryDisk) (lives : List Life) (x : PeerState) → ShowsActor most (record { disk = disk; lives = lives; running = None }) x
-    → ShowsActor most (record { disk = disk; lives = lives; running = None }) (with_stop x)
-stops_idle most disk lives x shows =
-    record { disk = same_disk most disk x (with_stop x) refl refl refl refl shows.disk; now = record { stands = refl; over = shows.now.over } }
+pub stops_idle : (d : Descriptor) (most : ℕ) (disk : MemoryDisk) (lives : List Life) (x : PeerState)
+    → ShowsActor d most (record { disk = disk; lives = lives; running = None }) x
+    → ShowsActor d most (record { disk = disk; lives = lives; running = None }) (with_stop x)
+stops_idle d most disk lives x shows = record {
+  disk = same_disk most disk x (with_stop x) refl refl refl refl shows.disk;
+  now = record { stands = refl; over = shows.now.over };
+  lasts = shows.lasts;
+}
 
-pub stops : (most : ℕ) (disk : MemoryDisk) (lives : List Life) (r : Running) (life : Life) (x : PeerState) → life.link ≡ r.link
-    → life.book ≡ r.peer.parts.holding.book → ShowsActor most (record { disk = disk; lives = lives; running = Some r }) x
-    → ShowsActor most (record { disk = disk; lives = lives ++ life ∷ []; running = None }) (with_stop x)
-stops most disk lives r life x link book shows = record {
+pub stops : (d : Descriptor) (most : ℕ) (disk : MemoryDisk) (lives : List Life) (r : Running) (life : Life) (x : PeerState) → life.link ≡ r.link
+    → life.book ≡ r.peer.parts.holding.book → ShowsActor d most (record { disk = disk; lives = lives; running = Some r }) x
+    → ShowsActor d most (record { disk = disk; lives = lives ++ life ∷ []; running = None }) (with_stop x)
+stops d most disk lives r life x link book shows = record {
   disk = same_disk most disk x (with_stop x) refl refl refl refl shows.disk;
   now = record {
     stands = refl;
     over = one_over lives life shows.now.session shows.now.earlier x.sessions (ended most x r shows.now.session life link book shows.now.shows)
         shows.now.over shows.now.sessions;
   };
+  lasts = stop_lasts d most disk x shows.now.session shows.now.earlier r shows.disk shows.now.sessions shows.now.shows.link.traffic shows.lasts;
 }
 
 -- ---- a crash, behind a stop
 
-pub crashes : (most pick : ℕ) (old new : MemoryDisk) (lives : List Life) (running : Option Running) (x : PeerState)
+pub crashes : (d : Descriptor) (most pick : ℕ) (old new : MemoryDisk) (lives : List Life) (running : Option Running) (x : PeerState)
     → disks.state_of new ≡ record (disks.state_of old) { history = settled (disks.state_of old).history (crash_image pick (disks.state_of old).history.epoch) }
     → ((call : Call) → disks.is_ordered new call ≡ disks.is_ordered old call)
-    → ShowsActor most (record { disk = old; lives = lives; running = running }) (with_stop x)
-    → ShowsActor most (record { disk = new; lives = lives; running = running }) (with_crash pick x)
-crashes most pick old new lives running x state orders shows = record {
+    → ShowsActor d most (record { disk = old; lives = lives; running = running }) (with_stop x)
+    → ShowsActor d most (record { disk = new; lives = lives; running = running }) (with_crash pick x)
+crashes d most pick old new lives running x state orders shows = record {
   disk = same_disk most new (with_crash pick (with_stop x)) (with_crash pick x) refl refl refl refl
       (crashed most pick old new (with_stop x) shows.disk state orders);
   now = of running shows.now;
+  lasts = last running shows.now shows.lasts;
 }
   where
+    last : (o : Option Running) → ShowsNow most (with_stop x) o (reverse lives) → LastsNow d x.disk x.sessions old o
+        → LastsNow d (with_crash pick x).disk x.sessions new o
+    last None now lasts = crashed_lasts d pick x lasts
+    last (Some r) now lasts = (let never = now.runs in cc)
+
     of : (o : Option Running) → ShowsNow most (with_stop x) o (reverse lives) → ShowsNow most (with_crash pick x) o (reverse lives)
     of None now = record { stands = refl; over = now.over }
     of (Some r) now = (let never = now.runs in cc)
@@ -187,19 +212,22 @@ may_turn : (clock : ℕ) (x : PeerState) (added : List Record) (after : PeerStat
     → MayTakeTurn clock x added after
 may_turn clock x added after runs takes = subst (λ (b : Bool). MatchBool b (TakesTurn clock x added after) (Stays x added after)) (sym runs) takes
 
-pub opens : (d : Descriptor) (most : ℕ) (old new : MemoryDisk) (lives : List Life) (running : Option Running) → OpensAs d old new running
-    → (x : PeerState) → most + 4 < 2 ^ 64 → ShowsActor most (record { disk = old; lives = lives; running = None }) x
+pub opens : (d : Descriptor) (most : ℕ) (start : Start) (old new : MemoryDisk) (lives : List Life) (running : Option Running) → OpensAs d old new running
+    → LosesNothing d (disks.state_of old).history (disks.state_of new).history
+    → IfSome running (λ r. Begins d start (disks.state_of old) (disks.state_of new) r.peer)
+    → (x : PeerState) → most + 4 < 2 ^ 64 → ShowsActor d most (record { disk = old; lives = lives; running = None }) x
     → ActorOpens d most x (record { disk = new; lives = lives; running = running })
-opens d most old new lives None makes x low shows =
+opens d most start old new lives None makes loses begins x low shows =
     let is : WasRefused d most x new = makes most x low shows.disk in record {
       after = is.after;
       opens = may_open d x is.after shows.now.stands (inr is.fails);
       shows = record {
         disk = is.shows_disk;
         now = record { stands = is.fails.stopped; over = subst (ShowLives (reverse lives)) (sym is.fails.same) shows.now.over };
+        lasts = refused_lasts d most (most + 4) old new x is.after shows.disk is.shows_disk is.fails.calls loses is.fails.same shows.lasts;
       };
     }
-opens d most old new lives (Some r) makes x low shows =
+opens d most start old new lives (Some r) makes loses begins x low shows =
     let is : HasOpened d most x new r = makes most x low shows.disk in record {
       after = is.after;
       opens = may_open d x is.after shows.now.stands (inl is.opens);
@@ -213,36 +241,43 @@ opens d most old new lives (Some r) makes x low shows =
           shows = is.shows;
           over = shows.now.over;
         };
+        lasts = opened_lasts d most (most + 4) old new x is.after shows.disk is.shows_disk is.opens.calls loses start r begins is.opens.book
+            (is.shows.link.traffic ∙ ap (λ (rs : List Record). Some rs) is.traffic) shows.lasts is.opens.is;
       };
     }
 
 -- a peer that runs isn't opened
-pub stays_open : (d : Descriptor) (most : ℕ) (a : ActorState) (r : Running) (x : PeerState) → a.running ≡ Some r → ShowsActor most a x → ActorOpens d most x a
+pub stays_open : (d : Descriptor) (most : ℕ) (a : ActorState) (r : Running) (x : PeerState) → a.running ≡ Some r → ShowsActor d most a x → ActorOpens d most x a
 stays_open d most a r x is shows =
     let now : IsPlaying most x r (reverse a.lives) = subst (λ (o : Option Running). ShowsNow most x o (reverse a.lives)) is shows.now in
-    record { after = x; opens = is_open d x now.runs; shows = more_shown most 4 a x shows }
+    record { after = x; opens = is_open d x now.runs; shows = more_shown d most 4 a x shows }
 
 -- ---- a turn
 
-pub idles_on : (clock most : ℕ) (disk : MemoryDisk) (lives : List Life) (x : PeerState) → ShowsActor most (record { disk = disk; lives = lives; running = None }) x
-    → ActorTurns clock most x (record { disk = disk; lives = lives; running = None })
-idles_on clock most disk lives x shows = record {
+same_head : {A : Type 0} (x y : A) (xs ys : List A) → x ∷ xs ≡ y ∷ ys → x ≡ y
+same_head x y xs ys is = cc
+
+pub idles_on : (d : Descriptor) (clock most : ℕ) (disk : MemoryDisk) (lives : List Life) (x : PeerState)
+    → ShowsActor d most (record { disk = disk; lives = lives; running = None }) x
+    → ActorTurns d clock most x (record { disk = disk; lives = lives; running = None })
+idles_on d clock most disk lives x shows = record {
   after = x;
   added = [];
   takes = stays_idle clock x shows.now.stands;
   gained = tt;
-  shows = more_shown most 4 (record { disk = disk; lives = lives; running = None }) x shows;
+  shows = more_shown d most 4 (record { disk = disk; lives = lives; running = None }) x shows;
 }
 
-module _ (cue : Cue) (most : ℕ) (disk : MemoryDisk) (lives : List Life) (r : Running) (t : Turned) (makes : TurnsAs cue disk r t) (x : PeerState)
-    (low : most + 4 < 2 ^ 64) (shows : ShowsActor most (record { disk = disk; lives = lives; running = Some r }) x) (hears : Hears cue x) where
+module _ (d : Descriptor) (cue : Cue) (most : ℕ) (disk : MemoryDisk) (lives : List Life) (r : Running) (t : Turned) (makes : TurnsAs cue disk r t)
+    (keeps : KeepsPromises t.goes_on (post_of r disk) (post_of t.running t.disk)) (x : PeerState)
+    (low : most + 4 < 2 ^ 64) (shows : ShowsActor d most (record { disk = disk; lives = lives; running = Some r }) x) (hears : Hears cue x) where
   abbrev s : Session
   s = shows.now.session
 
   turned : ShowsTurn cue.clock most x s shows.now.earlier t
   turned = makes most x s shows.now.earlier low shows.now.sessions shows.disk shows.now.shows (hears shows.now.runs)
 
-  pub goes_on : t.goes_on ≡ true → ActorTurns cue.clock most x (record { disk = t.disk; lives = lives; running = Some t.running })
+  pub goes_on : t.goes_on ≡ true → ActorTurns d cue.clock most x (record { disk = t.disk; lives = lives; running = Some t.running })
   goes_on on = record {
     after = turned.after;
     added = turned.added;
@@ -258,11 +293,18 @@ module _ (cue : Cue) (most : ℕ) (disk : MemoryDisk) (lives : List Life) (r : R
         shows = turned.shows;
         over = shows.now.over;
       };
+      lasts = turn_lasts d (most + 4) cue.clock t.disk x turned.after turned.added turned.shows_disk turned.takes t.running (post_of r disk) t.goes_on keeps
+          shows.lasts on;
     };
   }
 
+  -- the session that a world has and that which the turn made
+  same_later : turned.later ≡ with_turn turned.takes.session turned.added turned.takes.book x turned.after
+  same_later = same_head turned.later (with_turn turned.takes.session turned.added turned.takes.book x turned.after) shows.now.earlier turned.takes.earlier
+      (sym turned.sessions ∙ turned.takes.is)
+
   pub stops_then : (life : Life) → life.link ≡ t.running.link → life.book ≡ t.running.peer.parts.holding.book → t.goes_on ≡ false
-      → ActorTurns cue.clock most x (record { disk = t.disk; lives = lives ++ life ∷ []; running = None })
+      → ActorTurns d cue.clock most x (record { disk = t.disk; lives = lives ++ life ∷ []; running = None })
   stops_then life link book off = record {
     after = turned.after;
     added = turned.added;
@@ -275,13 +317,15 @@ module _ (cue : Cue) (most : ℕ) (disk : MemoryDisk) (lives : List Life) (r : R
         over = one_over lives life turned.later shows.now.earlier turned.after.sessions
             (ended (most + 4) turned.after t.running turned.later life link book turned.shows) shows.now.over turned.sessions;
       };
+      lasts = stopped_lasts d (most + 4) cue.clock t.disk x turned.after turned.added turned.shows_disk turned.takes t.running (post_of r disk) t.goes_on keeps
+          shows.lasts off (turned.shows.link.traffic ∙ ap (λ (later : Session). Some later.traffic) same_later);
     };
   }
 
 -- ---- its end
 
-pub remains : (most : ℕ) (a : ActorState) (x : PeerState) (r : Remains) → r.disk ≡ a.disk → r.lives.items ≡ a.lives → ShowsActor most a (with_stop x) → ShowsRemains r x
-remains most a x r disk lives shows = record {
+pub remains : (d : Descriptor) (most : ℕ) (a : ActorState) (x : PeerState) (r : Remains) → r.disk ≡ a.disk → r.lives.items ≡ a.lives → ShowsActor d most a (with_stop x) → ShowsRemains r x
+remains d most a x r disk lives shows = record {
   unattached = shows.disk.unattached;
   history = ap (λ (m : MemoryDisk). attached (fresh x.disk.image) (disks.state_of m).history) disk ∙ shows.disk.history;
   over = subst (λ (ls : List Life). ShowLives (reverse ls) x.sessions) (sym lives) (over a.running shows.now);
@@ -290,3 +334,10 @@ remains most a x r disk lives shows = record {
     over : (o : Option Running) → ShowsNow most (with_stop x) o (reverse a.lives) → ShowLives (reverse a.lives) x.sessions
     over None now = now.over
     over (Some running) now = (let never = now.runs in cc)
+
+pub survives : (d : Descriptor) (most : ℕ) (a : ActorState) (x : PeerState) → ShowsActor d most a (with_stop x) → KeepsAnnounced d x
+survives d most a x shows = survive d x.disk x.sessions (of a.running shows.now shows.lasts)
+  where
+    of : (o : Option Running) → ShowsNow most (with_stop x) o (reverse a.lives) → LastsNow d x.disk x.sessions a.disk o → AllLast d x.disk x.sessions
+    of None now lasts = lasts.all
+    of (Some running) now lasts = (let never = now.runs in cc)

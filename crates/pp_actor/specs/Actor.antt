@@ -22,6 +22,7 @@ use Rattle.pp_stage.specs.declared.turning.Running.{Running}
 use Rattle.pp_stage.specs.declared.opening.Start.{Start}
 use Rattle.pp_stage.specs.Opening.{Begins}
 use Rattle.pp_stage.specs.Shown.{IsReady, ShowsRunning}
+use Rattle.pp_actor.specs.Going.{LastsNow}
 
 -- What an actor is: its disk, the lives that are over, the oldest first, and what it is while it runs.
 pub record ActorState : Type 0 where
@@ -76,10 +77,12 @@ abbrev pub ShowsNow : ℕ → PeerState → Option Running → List Life → Typ
 ShowsNow most x None lives = IsIdle x lives
 ShowsNow most x (Some r) lives = IsPlaying most x r lives
 
--- The actor is the peer, but for its queue. Of the calls of its disk, and of its link, at most so many were refused.
-pub record ShowsActor (most : ℕ) (a : ActorState) (x : PeerState) : Type 0 where
+-- The actor is the peer of this swarm, but for its queue. Of the calls of its disk, and of its link, at most so many were refused.
+-- What it announced in any session lasts.
+pub record ShowsActor (d : Descriptor) (most : ℕ) (a : ActorState) (x : PeerState) : Type 0 where
   pub disk : ShowsDisk most a.disk x
   pub now : ShowsNow most x a.running (reverse a.lives)
+  pub lasts : LastsNow d x.disk x.sessions a.disk a.running
 
 -- What is left of a peer is its disk, wherever that was attached, and its sessions.
 pub record ShowsRemains (r : Remains) (x : PeerState) : Type 0 where
@@ -93,7 +96,7 @@ pub record ShowsRemains (r : Remains) (x : PeerState) : Type 0 where
 pub record ActorOpens (d : Descriptor) (most : ℕ) (x : PeerState) (a : ActorState) : Type 0 where
   pub after : PeerState
   pub opens : MayOpen d x [] after
-  pub shows : ShowsActor (most + 4) a after
+  pub shows : ShowsActor d (most + 4) a after
 
 -- A peer that didn't run and now does has begun by these bytes, order and addresses, over what its disk had.
 abbrev pub BeginsBy : Descriptor → Start → (old new : ActorState) → Type 0
@@ -111,9 +114,9 @@ HasGained (Some r) added [] = ⊥
 HasGained (Some r) added (s ∷ ss) = (links.state_of r.link).traffic ≡ Some (added ++ s.traffic)
 
 -- A peer may have taken a turn.
-pub record ActorTurns (clock : ℕ) (most : ℕ) (x : PeerState) (a : ActorState) : Type 0 where
+pub record ActorTurns (d : Descriptor) (clock : ℕ) (most : ℕ) (x : PeerState) (a : ActorState) : Type 0 where
   pub after : PeerState
   pub added : List Record
   pub takes : MayTakeTurn clock x added after
   pub gained : HasGained a.running added x.sessions
-  pub shows : ShowsActor (most + 4) a after
+  pub shows : ShowsActor d (most + 4) a after

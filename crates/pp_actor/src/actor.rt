@@ -1,7 +1,9 @@
 //! One peer of a replay: its disk, its lives, and itself while it runs.
 ghost use Rattle.std.specs.Prelude.{◌≡◌, ℕ, ◌+◌, ◌^◌, ◌<◌, true, length, is_some, IfOk, IfSome, IfNone, OnOk, Some, None, List};
-ghost use Rattle.pp_terms.specs.disk.Calls.{Calls};
+ghost use Rattle.pp_terms.specs.disk.Calls.{Calls, history_of};
+ghost use Rattle.pp_terms.specs.format.Descriptor.{Descriptor};
 ghost use Rattle.pp_world.specs.Change.{while_running, with_crash, with_failing, with_stop};
+ghost use Rattle.pp_world.specs.Survival.{KeepsAnnounced};
 ghost use Rattle.pp_world.specs.World.{PeerState};
 ghost use Rattle.pp_world.specs.Worlds.{idle};
 ghost use Rattle.pp_replay.specs.Views.{as_device};
@@ -9,6 +11,7 @@ ghost use Rattle.pp_watch.specs.Shown.{ShowsDisk};
 ghost use Rattle.pp_watch.specs.Waiting.{FitsBuffer};
 ghost use Rattle.pp_stage.specs.Shown.{IsReady};
 ghost use Rattle.pp_actor.specs.declared.life.Life.{Life};
+ghost use Rattle.pp_actor.specs.Lasting.{IsSoundNow};
 ghost use Rattle.pp_actor.specs.Actor.{ActorOpens, ActorTurns, BeginsBy, Hears, ShowsActor, ShowsRemains, link_in, is_deaf};
 
 use crate::life::{Life, Remains};
@@ -55,9 +58,9 @@ fn ended(running: Running) -> Life
 
 // Orders that the next call of this kind fails, of the devices of a peer that runs.
 fn order(disk: &mut MemoryDisk, running: &mut Running, call: Device)
-    ensures fails { (most : ℕ) (lives : List Life) (x : PeerState)
-        → ShowsActor most (record { disk = disk.old; lives = lives; running = Some running.old }) x
-        → ShowsActor most (record { disk = disk.new; lives = lives; running = Some running.new }) (while_running (with_failing (as_device call)) x) }
+    ensures fails { (d : Descriptor) (most : ℕ) (lives : List Life) (x : PeerState)
+        → ShowsActor d most (record { disk = disk.old; lives = lives; running = Some running.old }) x
+        → ShowsActor d most (record { disk = disk.new; lives = lives; running = Some running.new }) (while_running (with_failing (as_device call)) x) }
     ensures ready { IsReady running.old → IsReady running.new }
 {
     match call {
@@ -75,7 +78,8 @@ fn order(disk: &mut MemoryDisk, running: &mut Running, call: Device)
 impl Actor {
     /// A peer with this disk that was never started.
     pub fn new(alloc: Global, disk: MemoryDisk) -> Actor
-        ensures { (most : ℕ) (calls : Calls) → ShowsDisk most disk (idle calls) → ShowsActor most result (idle calls) }
+        ensures { (d : Descriptor) (most : ℕ) (calls : Calls) → ShowsDisk most disk (idle calls) → IsSoundNow d (history_of calls)
+            → ShowsActor d most result (idle calls) }
     {
         Actor {
             alloc,
@@ -129,7 +133,8 @@ impl Actor {
 
     /// Orders that the next call of this kind fails, of the devices of a peer that runs.
     pub fn fail(&mut self, call: Device)
-        ensures { (most : ℕ) (x : PeerState) → ShowsActor most self.old x → ShowsActor most self.new (while_running (with_failing (as_device call)) x) }
+        ensures { (d : Descriptor) (most : ℕ) (x : PeerState) → ShowsActor d most self.old x
+            → ShowsActor d most self.new (while_running (with_failing (as_device call)) x) }
     {
         let Some(mut running) = self.running.take() else {
             return;
@@ -140,7 +145,7 @@ impl Actor {
 
     /// Ends the life of a peer that runs. Its disk keeps what is pending.
     pub fn stop(&mut self) -> Result<(), AllocError>
-        ensures { OnOk result ((most : ℕ) (x : PeerState) → ShowsActor most self.old x → ShowsActor most self.new (with_stop x)) }
+        ensures { OnOk result ((d : Descriptor) (most : ℕ) (x : PeerState) → ShowsActor d most self.old x → ShowsActor d most self.new (with_stop x)) }
     {
         if let Some(running) = self.running.take() {
             self.lives.push(ended(running))?;
@@ -150,7 +155,8 @@ impl Actor {
 
     /// Stops the peer, and crashes its disk: the pick tells which of the writes that are pending are done.
     pub fn crash(&mut self, pick: u64) -> Result<(), AllocError>
-        ensures { OnOk result ((most : ℕ) (x : PeerState) → ShowsActor most self.old x → ShowsActor most self.new (with_crash pick x)) }
+        ensures { OnOk result ((d : Descriptor) (most : ℕ) (x : PeerState) → ShowsActor d most self.old x
+            → ShowsActor d most self.new (with_crash pick x)) }
     {
         self.stop()?;
         self.disk.crash(pick);
@@ -159,7 +165,7 @@ impl Actor {
 
     /// Opens the store of a peer that doesn't run, which begins a life, if the store can be opened.
     pub fn start(&mut self, descriptor: &Descriptor, start: &Start) -> Result<(), AllocError>
-        ensures opens { OnOk result ((most : ℕ) (x : PeerState) → most + 4 < 2 ^ 64 → ShowsActor most self.old x
+        ensures opens { OnOk result ((most : ℕ) (x : PeerState) → most + 4 < 2 ^ 64 → ShowsActor descriptor.now most self.old x
             → ActorOpens descriptor.now most x self.new) }
         ensures begins { OnOk result (BeginsBy descriptor.now start.now self.old self.new) }
     {
@@ -180,8 +186,8 @@ impl Actor {
     pub fn turn(&mut self, cue: Cue<'_>, buffer: &mut [u8]) -> Result<(), AllocError>
         requires fits { FitsBuffer cue.came }
         requires room { length buffer.old ≡ 65536 }
-        ensures { OnOk result ((most : ℕ) (x : PeerState) → most + 4 < 2 ^ 64 → ShowsActor most self.old x → Hears cue.entry x
-            → ActorTurns cue.entry.clock most x self.new) }
+        ensures { OnOk result ((d : Descriptor) (most : ℕ) (x : PeerState) → most + 4 < 2 ^ 64 → ShowsActor d most self.old x → Hears cue.entry x
+            → ActorTurns d cue.entry.clock most x self.new) }
     {
         let Some(running) = self.running.take() else {
             return Ok(());
@@ -206,7 +212,9 @@ impl Actor {
 
     /// The peer ends, and what is left of it is given away.
     pub fn into_remains(mut self) -> Result<Remains, AllocError>
-        ensures { IfOk result (λ r. (most : ℕ) (x : PeerState) → ShowsActor most self x → ShowsRemains r x) }
+        ensures remains { IfOk result (λ r. (d : Descriptor) (most : ℕ) (x : PeerState) → ShowsActor d most self x → ShowsRemains r x) }
+        // What it announced in any life is held at each later opening, and stands in each image that a crash leaves.
+        ensures survives { OnOk result ((d : Descriptor) (most : ℕ) (x : PeerState) → ShowsActor d most self x → KeepsAnnounced d x) }
     {
         self.stop()?;
         let Actor { disk, lives, .. } = self;

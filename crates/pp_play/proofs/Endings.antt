@@ -8,6 +8,7 @@ use Rattle.pp_world.specs.Move.{Move, moves_of}
 use Rattle.pp_world.specs.Outcome as terms
 use Rattle.pp_world.specs.Outcome.{IsEndOf}
 use Rattle.pp_world.specs.Schedule.{Schedule, content_of}
+use Rattle.pp_world.specs.Survival.{KeepsAnnounced}
 use Rattle.pp_world.specs.World.{PeerState}
 use Rattle.pp_world.specs.Worlds.{Happened, swarm_of}
 use Rattle.pp_actor.specs.Actor.{ActorState, ShowsActor, ShowsRemains}
@@ -23,20 +24,20 @@ use Rattle.pp_play.proofs.Firsts.{count_new, count_shown}
 -- ---- one more
 
 -- the last of some actors
-record LastShown (most : ℕ) (actors : List ActorState) (a : ActorState) (peers : List PeerState) : Type 0 where
+record LastShown (d : Descriptor) (most : ℕ) (actors : List ActorState) (a : ActorState) (peers : List PeerState) : Type 0 where
   front : List PeerState
   x : PeerState
   is : peers ≡ front ++ x ∷ []
-  show : ShowActors most actors front
-  one : ShowsActor most a x
+  show : ShowActors d most actors front
+  one : ShowsActor d most a x
 
-last_shown : (most : ℕ) (actors : List ActorState) (a : ActorState) (peers : List PeerState) → ShowActors most (actors ++ a ∷ []) peers → LastShown most actors a peers
-last_shown most [] a [] show = absurd show
-last_shown most [] a (x ∷ []) show = record { front = []; x = x; is = refl; show = tt; one = show.0 }
-last_shown most [] a (x ∷ y ∷ ys) show = absurd show.1
-last_shown most (b ∷ actors) a [] show = absurd show
-last_shown most (b ∷ actors) a (x ∷ xs) show =
-    let it = last_shown most actors a xs show.1 in record {
+last_shown : (d : Descriptor) (most : ℕ) (actors : List ActorState) (a : ActorState) (peers : List PeerState) → ShowActors d most (actors ++ a ∷ []) peers → LastShown d most actors a peers
+last_shown d most [] a [] show = absurd show
+last_shown d most [] a (x ∷ []) show = record { front = []; x = x; is = refl; show = tt; one = show.0 }
+last_shown d most [] a (x ∷ y ∷ ys) show = absurd show.1
+last_shown d most (b ∷ actors) a [] show = absurd show
+last_shown d most (b ∷ actors) a (x ∷ xs) show =
+    let it = last_shown d most actors a xs show.1 in record {
       front = x ∷ it.front;
       x = it.x;
       is = ap (λ (ys : List PeerState). x ∷ ys) it.is;
@@ -45,19 +46,21 @@ last_shown most (b ∷ actors) a (x ∷ xs) show =
     }
 
 end_more : (d : Descriptor) (ends : List PeerEnd) (end : PeerEnd) (peers : List PeerState) (x : PeerState) → AreEnds d ends peers → ShowsRemains end.remains x
-    → IsEndOf d (end_as x end) → AreEnds d (ends ++ end ∷ []) (peers ++ x ∷ [])
-end_more d [] end [] x are shows is = (shows, is, tt)
-end_more d [] end (y ∷ ys) x are shows is = absurd are
-end_more d (e ∷ ends) end [] x are shows is = absurd are
-end_more d (e ∷ ends) end (y ∷ ys) x are shows is = (are.0, are.1, end_more d ends end ys x are.2 shows is)
+    → IsEndOf d (end_as x end) → KeepsAnnounced d x → AreEnds d (ends ++ end ∷ []) (peers ++ x ∷ [])
+end_more d [] end [] x are shows is keeps = (shows, is, keeps, tt)
+end_more d [] end (y ∷ ys) x are shows is keeps = absurd are
+end_more d (e ∷ ends) end [] x are shows is keeps = absurd are
+end_more d (e ∷ ends) end (y ∷ ys) x are shows is keeps = (are.0, are.1, are.2, end_more d ends end ys x are.3 shows is keeps)
 
 pub ends_more : (d : Descriptor) (actors : List ActorState) (ends : List PeerEnd) (a : ActorState) (remains : Remains) (end : PeerEnd) → EndAs d actors ends
-    → ((most : ℕ) (x : PeerState) → ShowsActor most a x → ShowsRemains remains x) → EndsAs d remains end → EndAs d (actors ++ a ∷ []) (ends ++ end ∷ [])
-ends_more d actors ends a remains end all leaves one most peers show =
-    let it = last_shown most actors a peers show in
-    let left : ShowsRemains remains it.x = leaves most it.x it.one in
+    → ((d : Descriptor) (most : ℕ) (x : PeerState) → ShowsActor d most a x → ShowsRemains remains x)
+    → ((d : Descriptor) (most : ℕ) (x : PeerState) → ShowsActor d most a x → KeepsAnnounced d x) → EndsAs d remains end
+    → EndAs d (actors ++ a ∷ []) (ends ++ end ∷ [])
+ends_more d actors ends a remains end all leaves survives one most peers show =
+    let it = last_shown d most actors a peers show in
+    let left : ShowsRemains remains it.x = leaves d most it.x it.one in
     subst (AreEnds d (ends ++ end ∷ [])) (sym it.is)
-    (end_more d ends end it.front it.x (all most it.front it.show) (subst (λ (r : Remains). ShowsRemains r it.x) (sym one.kept) left) (one.numbers it.x left))
+    (end_more d ends end it.front it.x (all most it.front it.show) (subst (λ (r : Remains). ShowsRemains r it.x) (sym one.kept) left) (one.numbers it.x left) (survives d most it.x it.one))
 
 pub ends_none : (d : Descriptor) → EndAs d [] []
 ends_none d most [] show = tt
@@ -79,17 +82,23 @@ seen_states : (d : Descriptor) (ends : List PeerEnd) (peers : List PeerState) �
 seen_states d [] [] are = refl
 seen_states d [] (x ∷ xs) are = absurd are
 seen_states d (end ∷ ends) [] are = absurd are
-seen_states d (end ∷ ends) (x ∷ xs) are = ap (λ (ys : List PeerState). x ∷ ys) (seen_states d ends xs are.2)
+seen_states d (end ∷ ends) (x ∷ xs) are = ap (λ (ys : List PeerState). x ∷ ys) (seen_states d ends xs are.3)
 
 seen_numbers : (d : Descriptor) (ends : List PeerEnd) (peers : List PeerState) → AreEnds d ends peers → AllByRecursion (IsEndOf d) (seen ends peers)
 seen_numbers d [] peers are = tt
 seen_numbers d (end ∷ ends) [] are = absurd are
-seen_numbers d (end ∷ ends) (x ∷ xs) are = (are.1, seen_numbers d ends xs are.2)
+seen_numbers d (end ∷ ends) (x ∷ xs) are = (are.1, seen_numbers d ends xs are.3)
 
 seen_shown : (d : Descriptor) (ends : List PeerEnd) (peers : List PeerState) → AreEnds d ends peers → ShowEnds ends (seen ends peers)
 seen_shown d [] peers are = tt
 seen_shown d (end ∷ ends) [] are = absurd are
-seen_shown d (end ∷ ends) (x ∷ xs) are = (record { remains = are.0; numbers = refl }, seen_shown d ends xs are.2)
+seen_shown d (end ∷ ends) (x ∷ xs) are = (record { remains = are.0; numbers = refl }, seen_shown d ends xs are.3)
+
+seen_survive : (d : Descriptor) (ends : List PeerEnd) (peers : List PeerState) → AreEnds d ends peers → AllByRecursion (KeepsAnnounced d) peers
+seen_survive d [] [] are = tt
+seen_survive d [] (x ∷ xs) are = absurd are
+seen_survive d (end ∷ ends) [] are = absurd are
+seen_survive d (end ∷ ends) (x ∷ xs) are = (are.2, seen_survive d ends xs are.3)
 
 -- A schedule was played from its first world.
 pub played : (s : Schedule) (first last : StageState) (ends : Vec PeerEnd Global) (chunks : ℕ) → IsReadied s first → PlaysAs (moves_of s) first last
@@ -107,6 +116,7 @@ played s first last ends chunks ready plays few all size =
         worlds = subst (λ (moves : List Move). Happened s moves (done.last ∷ done.before)) (append-nil (reverse (moves_of s))) done.happened;
         same = seen_states (swarm_of s) ends.items done.last.peers are;
         numbers = seen_numbers (swarm_of s) ends.items done.last.peers are;
+        survives = seen_survive (swarm_of s) ends.items done.last.peers are;
       };
       show = seen_shown (swarm_of s) ends.items done.last.peers are;
       chunks = size ∙ ap chunks_of (plays.descriptor ∙ ready.descriptor);
@@ -114,4 +124,4 @@ played s first last ends chunks ready plays few all size =
 
 pub counted : (s : Schedule) (stage : StageState) → IsReadied s stage → length stage.actors ≡ length s.roles
 counted s stage ready =
-    count_shown 0 stage.actors ready.first.peers ready.shows.actors ∙ count_new (swarm_of s) (content_of s) s.roles ready.first.peers ready.is_first.peers
+    count_shown stage.descriptor 0 stage.actors ready.first.peers ready.shows.actors ∙ count_new (swarm_of s) (content_of s) s.roles ready.first.peers ready.is_first.peers

@@ -1,11 +1,15 @@
 -- The peers of a schedule before its first move.
-use Rattle.std.proofs.Common.{◌≡◌, ℕ, suc, false, true, List, [], ◌∷◌, ◌++◌, map, length, refl, sym, ◌∙◌, ap, subst, arith}
+use Rattle.std.proofs.Common.{◌≡◌, ℕ, zero, suc, ◌+◌, false, true, List, [], ◌∷◌, ◌++◌, map, length, refl, sym, ◌∙◌, ap, subst, arith}
 use Rattle.std.proofs.lemmas.List.{length-replicate, map-append}
 use Rattle.std.specs.Prelude.{replicate, Result, Ok, Err, IfOk}
 use Rattle.std.specs.declared.alloc.AllocError.{AllocError}
-use Rattle.pp_terms.specs.disk.Calls.{Calls, attached}
-use Rattle.pp_terms.specs.disk.Disk.{DiskState, fresh}
+use Rattle.pp_terms.specs.disk.Calls.{Calls, attached, history_of}
+use Rattle.pp_terms.specs.disk.Disk.{DiskState, Epoch, IsImage, fresh}
+use Rattle.pp_terms.specs.disk.Sound.{IsSound}
+use Rattle.pp_terms.specs.disk.Store.{HasHeader, IsStoreOf, header}
+use Rattle.pp_terms.proofs.Images.{since_now, sole_image}
 use Rattle.pp_terms.specs.format.Descriptor.{Descriptor}
+use Rattle.pp_tree.proofs.Sizes.{chunk_size_range}
 use Rattle.pp_outside.specs.MemoryDisk as disks
 use Rattle.pp_outside.specs.declared.call.Call.{Call}
 use Rattle.pp_outside.specs.declared.call.Call.TheVariants as calls
@@ -13,12 +17,15 @@ use Rattle.pp_outside.specs.declared.memory_disk.MemoryDisk.{MemoryDisk}
 use Rattle.pp_watch.specs.Shown.{ShowsDisk}
 use Rattle.pp_world.specs.Schedule as terms
 use Rattle.pp_world.specs.World.{Queued, PeerState}
+use Rattle.pp_store.specs.Growing.{IsContent}
 use Rattle.pp_store.specs.Imported.{imported}
-use Rattle.pp_world.specs.Worlds.{AreNew, IsNew, empty_disk, idle, swarm_of}
+use Rattle.pp_store.proofs.Staying.{whole_sound}
+use Rattle.pp_world.specs.Worlds.{AreNew, HasDisk, IsFilled, IsNew, empty_disk, idle, swarm_of}
 use Rattle.pp_mail.proofs.Peers.{mail_at}
 use Rattle.pp_replay.specs.Views.{as_role}
 use Rattle.pp_replay.specs.declared.types.Role.{Role}
 use Rattle.pp_actor.specs.Actor.{ActorState, ShowsActor}
+use Rattle.pp_actor.specs.Lasting.{IsSoundNow}
 use Rattle.pp_play.specs.First.{BeginAs, BeginsAs, IsReadied}
 use Rattle.pp_play.specs.Stage.{ShowActors}
 
@@ -44,6 +51,29 @@ empty_shown disk state none = record {
   len = none calls.Len;
 }
 
+-- ---- what it has at first is sound
+
+no_header : (d : Descriptor) → HasHeader d [] → ⊥
+unfolding header
+no_header d begins = (let first : 0 ≡ 80 = begins 0 (omega arith) in omega (arith, first))
+
+empty_sound : (d : Descriptor) → IsSound d []
+empty_sound d = record { long = λ begins. absurd (no_header d begins); held = λ begins. absurd (no_header d begins) }
+
+filled_sound : (chunk : ℕ) (content : List ℕ) (calls : Calls) → IsContent chunk content → IsFilled (imported content chunk) content calls
+    → IsSoundNow (imported content chunk) (history_of calls)
+filled_sound chunk content calls fits filled image since =
+    let now = subst (λ (e : Epoch). IsImage e image) filled.settled (since_now (history_of calls) image since) in
+    whole_sound chunk content fits image
+    (subst (IsStoreOf (imported content chunk) content) (sym (sole_image (history_of calls).reads image now)) filled.store)
+
+sound_first : (chunk : ℕ) (content : List ℕ) (role : terms.Role) (calls : Calls) → IsContent chunk content → HasDisk (imported content chunk) content role calls
+    → IsSoundNow (imported content chunk) (history_of calls)
+sound_first chunk content terms.Seeds calls fits filled = filled_sound chunk content calls fits filled
+sound_first chunk content (terms.Fetches order dialled) calls fits is =
+    subst (λ (c : Calls). IsSoundNow (imported content chunk) (history_of c)) (sym is)
+    (λ image since. subst (IsSound (imported content chunk)) (sym (sole_image [] image (since_now (history_of empty_disk) image since))) (empty_sound (imported content chunk)))
+
 -- ---- one more
 
 new_more : (d : Descriptor) (content : List ℕ) (roles : List terms.Role) (peers : List PeerState) (role : terms.Role) (x : PeerState)
@@ -53,22 +83,23 @@ new_more d content [] (y ∷ ys) role x are is = absurd are
 new_more d content (r ∷ roles) [] role x are is = absurd are
 new_more d content (r ∷ roles) (y ∷ ys) role x are is = (are.0, new_more d content roles ys role x are.1 is)
 
-shown_more : (most : ℕ) (actors : List ActorState) (peers : List PeerState) (a : ActorState) (x : PeerState) → ShowActors most actors peers → ShowsActor most a x
-    → ShowActors most (actors ++ a ∷ []) (peers ++ x ∷ [])
-shown_more most [] [] a x show one = (one, tt)
-shown_more most [] (y ∷ ys) a x show one = absurd show
-shown_more most (b ∷ actors) [] a x show one = absurd show
-shown_more most (b ∷ actors) (y ∷ ys) a x show one = (show.0, shown_more most actors ys a x show.1 one)
+shown_more : (d : Descriptor) (most : ℕ) (actors : List ActorState) (peers : List PeerState) (a : ActorState) (x : PeerState) → ShowActors d most actors peers
+    → ShowsActor d most a x → ShowActors d most (actors ++ a ∷ []) (peers ++ x ∷ [])
+shown_more d most [] [] a x show one = (one, tt)
+shown_more d most [] (y ∷ ys) a x show one = absurd show
+shown_more d most (b ∷ actors) [] a x show one = absurd show
+shown_more d most (b ∷ actors) (y ∷ ys) a x show one = (show.0, shown_more d most actors ys a x show.1 one)
 
-pub begin_more : (d : Descriptor) (content : List ℕ) (roles : List Role) (actors : List ActorState) (role : Role) (disk : MemoryDisk) (a : ActorState)
-    → BeginAs d content roles actors → BeginsAs d content role disk
-    → ((most : ℕ) (calls : Calls) → ShowsDisk most disk (idle calls) → ShowsActor most a (idle calls))
-    → BeginAs d content (roles ++ role ∷ []) (actors ++ a ∷ [])
-begin_more d content roles actors role disk a begin begins shows = record {
+pub begin_more : (chunk : ℕ) (content : List ℕ) (roles : List Role) (actors : List ActorState) (role : Role) (disk : MemoryDisk) (a : ActorState)
+    → IsContent chunk content → BeginAs (imported content chunk) content roles actors → BeginsAs (imported content chunk) content role disk
+    → ((d : Descriptor) (most : ℕ) (calls : Calls) → ShowsDisk most disk (idle calls) → IsSoundNow d (history_of calls) → ShowsActor d most a (idle calls))
+    → BeginAs (imported content chunk) content (roles ++ role ∷ []) (actors ++ a ∷ [])
+begin_more chunk content roles actors role disk a fits begin begins shows = let d = imported content chunk in record {
   peers = begin.peers ++ idle begins.calls ∷ [];
   new = subst (λ (rs : List terms.Role). AreNew d content rs (begin.peers ++ idle begins.calls ∷ [])) (sym (map-append as_role roles (role ∷ [])))
       (new_more d content (map as_role roles) begin.peers (as_role role) (idle begins.calls) begin.new (record { disk = begins.has; is = refl }));
-  show = shown_more 0 actors begin.peers a (idle begins.calls) begin.show (shows 0 begins.calls begins.shows);
+  show = shown_more d 0 actors begin.peers a (idle begins.calls) begin.show
+      (shows d 0 begins.calls begins.shows (sound_first chunk content (as_role role) begins.calls fits begins.has));
 }
 
 -- ---- all of them
@@ -79,11 +110,11 @@ count_new d content [] (y ∷ ys) are = absurd are
 count_new d content (r ∷ roles) [] are = absurd are
 count_new d content (r ∷ roles) (y ∷ ys) are = ap (λ (n : ℕ). suc n) (count_new d content roles ys are.1)
 
-pub count_shown : (most : ℕ) (actors : List ActorState) (peers : List PeerState) → ShowActors most actors peers → length actors ≡ length peers
-count_shown most [] [] show = refl
-count_shown most [] (y ∷ ys) show = absurd show
-count_shown most (a ∷ actors) [] show = absurd show
-count_shown most (a ∷ actors) (y ∷ ys) show = ap (λ (n : ℕ). suc n) (count_shown most actors ys show.1)
+pub count_shown : (d : Descriptor) (most : ℕ) (actors : List ActorState) (peers : List PeerState) → ShowActors d most actors peers → length actors ≡ length peers
+count_shown d most [] [] show = refl
+count_shown d most [] (y ∷ ys) show = absurd show
+count_shown d most (a ∷ actors) [] show = absurd show
+count_shown d most (a ∷ actors) (y ∷ ys) show = ap (λ (n : ℕ). suc n) (count_shown d most actors ys show.1)
 
 -- nothing waits for any of them
 abbrev pub no_mail : List Queued
@@ -114,11 +145,27 @@ module _ (s : terms.Schedule) (d : Descriptor) (content : List ℕ) (roles : Lis
     is_first = record { clock = refl; peers = new };
     shows = record {
       clock = refl;
-      actors = begin.show;
+      actors = subst (λ (e : Descriptor). ShowActors e 0 actors begin.peers) (sym is) begin.show;
       mail = waiting ∙ mail_at-new (swarm_of s) (terms.content_of s) s.roles begin.peers new;
     };
   }
 
   pub set_up : length mail ≡ length actors
   set_up = ap (λ (m : List (List Queued)). length m) waiting ∙ length-replicate (length s.roles) no_mail
-      ∙ sym (count_new (swarm_of s) (terms.content_of s) s.roles begin.peers new) ∙ sym (count_shown 0 actors begin.peers begin.show)
+      ∙ sym (count_new (swarm_of s) (terms.content_of s) s.roles begin.peers new) ∙ sym (count_shown (imported content s.chunk) 0 actors begin.peers begin.show)
+
+-- ---- the content of a schedule
+
+content_long : (shift from n : ℕ) → length (terms.content_from shift from n) ≡ n
+content_long shift from zero = refl
+content_long shift from (suc n) = ap (λ (m : ℕ). suc m) (content_long shift (from + 1) n)
+
+pub fits_content : (s : terms.Schedule) (chunk : ℕ) (content : List ℕ) → terms.IsSchedule s → chunk ≡ s.chunk → content ≡ terms.content_of s → IsContent chunk content
+fits_content s chunk content is same all =
+    subst (λ (n : ℕ). IsContent n content) (sym same) (subst (IsContent s.chunk) (sym all) (record {
+      chunk_size = is.chunk_size;
+      content_size = record {
+        some = (let long = content_long s.shift 0 s.size in let some = is.some in omega (arith, long, some));
+        within = (let long = content_long s.shift 0 s.size in let most = is.most in let one = (chunk_size_range s.chunk is.chunk_size).0 in omega (arith, long, most, one));
+      };
+    }))

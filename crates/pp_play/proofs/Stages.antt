@@ -25,20 +25,20 @@ ok_then (Err e) makes is = tt
 -- ---- a peer and its number
 
 -- the peer of a world at the number of an actor
-pub record StandsAt (most : ℕ) (a : ActorState) (peer : ℕ) (peers : List PeerState) : Type 0 where
+pub record StandsAt (d : Descriptor) (most : ℕ) (a : ActorState) (peer : ℕ) (peers : List PeerState) : Type 0 where
   pub x : PeerState
   pub here : slice_get peers peer ≡ Some x
-  pub shows : ShowsActor most a x
+  pub shows : ShowsActor d most a x
 
-pub stands_at : (most peer : ℕ) (a : ActorState) (actors : List ActorState) (peers : List PeerState) → ShowActors most actors peers
-    → slice_get actors peer ≡ Some a → StandsAt most a peer peers
-stands_at most peer a [] [] shows at = absurd cc
-stands_at most peer a [] (x ∷ xs) shows at = absurd shows
-stands_at most peer a (b ∷ actors) [] shows at = absurd shows
-stands_at most zero a (b ∷ actors) (x ∷ xs) shows at =
-    let same : b ≡ a = cc in record { x = x; here = refl; shows = subst (λ (c : ActorState). ShowsActor most c x) same shows.0 }
-stands_at most (suc peer) a (b ∷ actors) (x ∷ xs) shows at =
-    let it = stands_at most peer a actors xs shows.1 at in record { x = it.x; here = it.here; shows = it.shows }
+pub stands_at : (d : Descriptor) (most peer : ℕ) (a : ActorState) (actors : List ActorState) (peers : List PeerState) → ShowActors d most actors peers
+    → slice_get actors peer ≡ Some a → StandsAt d most a peer peers
+stands_at d most peer a [] [] shows at = absurd cc
+stands_at d most peer a [] (x ∷ xs) shows at = absurd shows
+stands_at d most peer a (b ∷ actors) [] shows at = absurd shows
+stands_at d most zero a (b ∷ actors) (x ∷ xs) shows at =
+    let same : b ≡ a = cc in record { x = x; here = refl; shows = subst (λ (c : ActorState). ShowsActor d most c x) same shows.0 }
+stands_at d most (suc peer) a (b ∷ actors) (x ∷ xs) shows at =
+    let it = stands_at d most peer a actors xs shows.1 at in record { x = it.x; here = it.here; shows = it.shows }
 
 -- the actor of a peer
 pub record Here (peer : ℕ) (actors : List ActorState) : Type 0 where
@@ -55,16 +55,16 @@ runs_now : (most : ℕ) (x : PeerState) (o : Option Running) (lives : List _) �
 runs_now most x None lives now = now.stands
 runs_now most x (Some r) lives now = now.runs
 
-pub runs_as : (most : ℕ) (a : ActorState) (x : PeerState) → ShowsActor most a x → x.is_running ≡ is_some a.running
-runs_as most a x shows = runs_now most x a.running (reverse a.lives) shows.now
+pub runs_as : (d : Descriptor) (most : ℕ) (a : ActorState) (x : PeerState) → ShowsActor d most a x → x.is_running ≡ is_some a.running
+runs_as d most a x shows = runs_now most x a.running (reverse a.lives) shows.now
 
 -- ---- more may have been refused
 
-pub more_actors : (most more : ℕ) (actors : List ActorState) (peers : List PeerState) → ShowActors most actors peers → ShowActors (most + more) actors peers
-more_actors most more [] [] shows = tt
-more_actors most more [] (x ∷ xs) shows = absurd shows
-more_actors most more (a ∷ actors) [] shows = absurd shows
-more_actors most more (a ∷ actors) (x ∷ xs) shows = (more_shown most more a x shows.0, more_actors most more actors xs shows.1)
+pub more_actors : (d : Descriptor) (most more : ℕ) (actors : List ActorState) (peers : List PeerState) → ShowActors d most actors peers → ShowActors d (most + more) actors peers
+more_actors d most more [] [] shows = tt
+more_actors d most more [] (x ∷ xs) shows = absurd shows
+more_actors d most more (a ∷ actors) [] shows = absurd shows
+more_actors d most more (a ∷ actors) (x ∷ xs) shows = (more_shown d most more a x shows.0, more_actors d most more actors xs shows.1)
 
 -- ---- queues are no part of an actor
 
@@ -80,42 +80,43 @@ requeued_now most x queue (Some r) lives now = record {
   over = now.over;
 }
 
-pub requeued : (most : ℕ) (a : ActorState) (x : PeerState) (queue : List Queued) → ShowsActor most a x → ShowsActor most a (record x { queue = queue })
-requeued most a x queue shows = record {
+pub requeued : (d : Descriptor) (most : ℕ) (a : ActorState) (x : PeerState) (queue : List Queued) → ShowsActor d most a x → ShowsActor d most a (record x { queue = queue })
+requeued d most a x queue shows = record {
   disk = same_disk most a.disk x (record x { queue = queue }) refl refl refl refl shows.disk;
   now = requeued_now most x queue a.running (reverse a.lives) shows.now;
+  lasts = shows.lasts;
 }
 
-pub requeued_all : (most first : ℕ) (sender : Address) (added : List Record) (actors : List ActorState) (peers : List PeerState) → ShowActors most actors peers
-    → ShowActors most actors (peers_after_from first sender added peers)
-requeued_all most first sender added [] [] shows = tt
-requeued_all most first sender added [] (x ∷ xs) shows = absurd shows
-requeued_all most first sender added (a ∷ actors) [] shows = absurd shows
-requeued_all most first sender added (a ∷ actors) (x ∷ xs) shows =
-    (requeued most a x (queue_after sender (address_of first) added x.queue) shows.0, requeued_all most (first + 1) sender added actors xs shows.1)
+pub requeued_all : (d : Descriptor) (most first : ℕ) (sender : Address) (added : List Record) (actors : List ActorState) (peers : List PeerState) → ShowActors d most actors peers
+    → ShowActors d most actors (peers_after_from first sender added peers)
+requeued_all d most first sender added [] [] shows = tt
+requeued_all d most first sender added [] (x ∷ xs) shows = absurd shows
+requeued_all d most first sender added (a ∷ actors) [] shows = absurd shows
+requeued_all d most first sender added (a ∷ actors) (x ∷ xs) shows =
+    (requeued d most a x (queue_after sender (address_of first) added x.queue) shows.0, requeued_all d most (first + 1) sender added actors xs shows.1)
 
 -- ---- one peer changes
 
 -- with its actor
-pub one_changes : (most peer : ℕ) (a b : ActorState) (change : PeerState → PeerState) (actors : List ActorState) (peers : List PeerState)
-    → slice_get actors peer ≡ Some a → ((x : PeerState) → ShowsActor most a x → ShowsActor most b (change x)) → ShowActors most actors peers
-    → ShowActors most (slice_set actors peer b) (with_peer peer change peers)
-one_changes most peer a b change [] [] at makes shows = absurd cc
-one_changes most peer a b change [] (x ∷ xs) at makes shows = absurd shows
-one_changes most peer a b change (c ∷ actors) [] at makes shows = absurd shows
-one_changes most zero a b change (c ∷ actors) (x ∷ xs) at makes shows =
-    let same : c ≡ a = cc in (makes x (subst (λ (e : ActorState). ShowsActor most e x) same shows.0), shows.1)
-one_changes most (suc peer) a b change (c ∷ actors) (x ∷ xs) at makes shows = (shows.0, one_changes most peer a b change actors xs at makes shows.1)
+pub one_changes : (d : Descriptor) (most peer : ℕ) (a b : ActorState) (change : PeerState → PeerState) (actors : List ActorState) (peers : List PeerState)
+    → slice_get actors peer ≡ Some a → ((x : PeerState) → ShowsActor d most a x → ShowsActor d most b (change x)) → ShowActors d most actors peers
+    → ShowActors d most (slice_set actors peer b) (with_peer peer change peers)
+one_changes d most peer a b change [] [] at makes shows = absurd cc
+one_changes d most peer a b change [] (x ∷ xs) at makes shows = absurd shows
+one_changes d most peer a b change (c ∷ actors) [] at makes shows = absurd shows
+one_changes d most zero a b change (c ∷ actors) (x ∷ xs) at makes shows =
+    let same : c ≡ a = cc in (makes x (subst (λ (e : ActorState). ShowsActor d most e x) same shows.0), shows.1)
+one_changes d most (suc peer) a b change (c ∷ actors) (x ∷ xs) at makes shows = (shows.0, one_changes d most peer a b change actors xs at makes shows.1)
 
 -- by a change that no actor shows
-pub one_stays : (most peer : ℕ) (change : PeerState → PeerState) (actors : List ActorState) (peers : List PeerState)
-    → ((a : ActorState) (x : PeerState) → ShowsActor most a x → ShowsActor most a (change x)) → ShowActors most actors peers
-    → ShowActors most actors (with_peer peer change peers)
-one_stays most peer change [] [] makes shows = tt
-one_stays most peer change [] (x ∷ xs) makes shows = absurd shows
-one_stays most peer change (a ∷ actors) [] makes shows = absurd shows
-one_stays most zero change (a ∷ actors) (x ∷ xs) makes shows = (makes a x shows.0, shows.1)
-one_stays most (suc peer) change (a ∷ actors) (x ∷ xs) makes shows = (shows.0, one_stays most peer change actors xs makes shows.1)
+pub one_stays : (d : Descriptor) (most peer : ℕ) (change : PeerState → PeerState) (actors : List ActorState) (peers : List PeerState)
+    → ((a : ActorState) (x : PeerState) → ShowsActor d most a x → ShowsActor d most a (change x)) → ShowActors d most actors peers
+    → ShowActors d most actors (with_peer peer change peers)
+one_stays d most peer change [] [] makes shows = tt
+one_stays d most peer change [] (x ∷ xs) makes shows = absurd shows
+one_stays d most peer change (a ∷ actors) [] makes shows = absurd shows
+one_stays d most zero change (a ∷ actors) (x ∷ xs) makes shows = (makes a x shows.0, shows.1)
+one_stays d most (suc peer) change (a ∷ actors) (x ∷ xs) makes shows = (shows.0, one_stays d most peer change actors xs makes shows.1)
 
 -- where the change leaves that peer
 pub with_peer_none : (peer : ℕ) (change : PeerState → PeerState) (peers : List PeerState) (x : PeerState) → slice_get peers peer ≡ Some x → change x ≡ x
@@ -142,7 +143,7 @@ waits gain old = record {
     moves = refl;
     shows = record {
       clock = ap (λ (n : ℕ). n + gain) shows.clock;
-      actors = more_actors most 4 old.actors w.peers shows.actors;
+      actors = more_actors old.descriptor most 4 old.actors w.peers shows.actors;
       mail = shows.mail;
     };
   };
@@ -152,11 +153,11 @@ waits gain old = record {
 module _ (peer : ℕ) (act : Move) (change : PeerState → PeerState) (changed : List Queued → List Queued) (a : ActorState) (old : StageState)
     (acts : (d : Descriptor) (w : World) → Moves d act w (with_change peer (while_running change) w))
     (is : (x : PeerState) → change x ≡ record x { queue = changed x.queue }) (here : slice_get old.actors peer ≡ Some a) where
-  queue_shown : (most : ℕ) (b : ActorState) (x : PeerState) → ShowsActor most b x → ShowsActor most b (while_running change x)
-  queue_shown most b x shows = of x.is_running
+  queue_shown : (d : Descriptor) (most : ℕ) (b : ActorState) (x : PeerState) → ShowsActor d most b x → ShowsActor d most b (while_running change x)
+  queue_shown d most b x shows = of x.is_running
     where
-      of : (runs : Bool) → ShowsActor most b (if runs then change x else x)
-      of true = subst (ShowsActor most b) (sym (is x)) (requeued most b x (changed x.queue) shows)
+      of : (runs : Bool) → ShowsActor d most b (if runs then change x else x)
+      of true = subst (ShowsActor d most b) (sym (is x)) (requeued d most b x (changed x.queue) shows)
       of false = shows
 
   pub queue_changes : runs_at peer old.actors ≡ true → MovesAs act old (record old { mail = with_queue peer changed old.mail })
@@ -164,14 +165,14 @@ module _ (peer : ℕ) (act : Move) (change : PeerState → PeerState) (changed :
     descriptor = refl;
     count = refl;
     moves = λ most w low shows.
-        let it = stands_at most peer a old.actors w.peers shows.actors here in
-        let on : it.x.is_running ≡ true = runs_as most a it.x it.shows ∙ sym (ap does_run here) ∙ runs in record {
+        let it = stands_at old.descriptor most peer a old.actors w.peers shows.actors here in
+        let on : it.x.is_running ≡ true = runs_as old.descriptor most a it.x it.shows ∙ sym (ap does_run here) ∙ runs in record {
           after = with_change peer (while_running change) w;
           moves = acts old.descriptor w;
           shows = record {
             clock = shows.clock;
-            actors = more_actors most 4 old.actors (with_peer peer (while_running change) w.peers)
-                (one_stays most peer (while_running change) old.actors w.peers (queue_shown most) shows.actors);
+            actors = more_actors old.descriptor most 4 old.actors (with_peer peer (while_running change) w.peers)
+                (one_stays old.descriptor most peer (while_running change) old.actors w.peers (queue_shown old.descriptor most) shows.actors);
             mail = ap (with_queue peer changed) shows.mail ∙ sym (mail_at-with_peer (while_running change) changed peer w.peers it.x it.here
                 (ap (λ (b : Bool). (if b then change it.x else it.x).queue) on ∙ ap (λ (x : PeerState). x.queue) (is it.x)));
           };
@@ -183,15 +184,15 @@ module _ (peer : ℕ) (act : Move) (change : PeerState → PeerState) (changed :
     descriptor = refl;
     count = refl;
     moves = λ most w low shows.
-        let it = stands_at most peer a old.actors w.peers shows.actors here in
-        let off : it.x.is_running ≡ false = runs_as most a it.x it.shows ∙ sym (ap does_run here) ∙ runs in
+        let it = stands_at old.descriptor most peer a old.actors w.peers shows.actors here in
+        let off : it.x.is_running ≡ false = runs_as old.descriptor most a it.x it.shows ∙ sym (ap does_run here) ∙ runs in
         let same = with_peer_none peer (while_running change) w.peers it.x it.here (ap (λ (b : Bool). if b then change it.x else it.x) off) in record {
           after = with_change peer (while_running change) w;
           moves = acts old.descriptor w;
           shows = record {
             clock = shows.clock;
-            actors = more_actors most 4 old.actors (with_peer peer (while_running change) w.peers)
-                (subst (ShowActors most old.actors) (sym same) shows.actors);
+            actors = more_actors old.descriptor most 4 old.actors (with_peer peer (while_running change) w.peers)
+                (subst (ShowActors old.descriptor most old.actors) (sym same) shows.actors);
             mail = shows.mail ∙ sym (ap mail_at same);
           };
         };
@@ -201,7 +202,7 @@ module _ (peer : ℕ) (act : Move) (change : PeerState → PeerState) (changed :
 pub actor_changes : (peer : ℕ) (act : Move) (change : PeerState → PeerState) (a b : ActorState) (old : StageState)
     → ((d : Descriptor) (w : World) → Moves d act w (with_change peer change w)) → ((x : PeerState) → (change x).queue ≡ x.queue)
     → slice_get old.actors peer ≡ Some a → length (slice_set old.actors peer b) ≡ length old.actors
-    → ((most : ℕ) (x : PeerState) → ShowsActor most a x → ShowsActor most b (change x))
+    → ((d : Descriptor) (most : ℕ) (x : PeerState) → ShowsActor d most a x → ShowsActor d most b (change x))
     → MovesAs act old (record old { actors = slice_set old.actors peer b })
 actor_changes peer act change a b old acts same here count makes = record {
   descriptor = refl;
@@ -211,8 +212,8 @@ actor_changes peer act change a b old acts same here count makes = record {
     moves = acts old.descriptor w;
     shows = record {
       clock = shows.clock;
-      actors = more_actors most 4 (slice_set old.actors peer b) (with_peer peer change w.peers)
-          (one_changes most peer a b change old.actors w.peers here (makes most) shows.actors);
+      actors = more_actors old.descriptor most 4 (slice_set old.actors peer b) (with_peer peer change w.peers)
+          (one_changes old.descriptor most peer a b change old.actors w.peers here (makes old.descriptor most) shows.actors);
       mail = shows.mail ∙ sym (mail_at-with_peer_same peer change w.peers same);
     };
   };

@@ -5,6 +5,7 @@ use Rattle.std.proofs.lemmas.List.{length-reverse, length-set}
 use Rattle.std.proofs.lemmas.Option.{slice_get_read}
 use Rattle.pp_play.specs.Starting.{lives_of, next_life}
 use Rattle.std.specs.Prelude.{is_some, min, option_map, drop, if◌then◌else◌, slice_get, slice_set, reverse, MatchBool}
+use Rattle.pp_terms.specs.format.Descriptor.{Descriptor}
 use Rattle.pp_terms.specs.format.Traffic.{Record, Received}
 use Rattle.pp_outside.specs.MemoryLink as links
 use Rattle.pp_outside.specs.Outside.{address_of}
@@ -33,13 +34,13 @@ use Rattle.pp_play.proofs.Stages.{more_actors, requeued_all, runs_as, stands_at}
 -- ---- lists
 
 -- a peer in place of another
-pub set_shown : (most peer : ℕ) (b : ActorState) (y : PeerState) (actors : List ActorState) (peers : List PeerState) → ShowActors most actors peers
-    → ShowsActor most b y → ShowActors most (slice_set actors peer b) (slice_set peers peer y)
-set_shown most peer b y [] [] shows one = tt
-set_shown most peer b y [] (x ∷ xs) shows one = absurd shows
-set_shown most peer b y (a ∷ actors) [] shows one = absurd shows
-set_shown most zero b y (a ∷ actors) (x ∷ xs) shows one = (one, shows.1)
-set_shown most (suc peer) b y (a ∷ actors) (x ∷ xs) shows one = (shows.0, set_shown most peer b y actors xs shows.1 one)
+pub set_shown : (d : Descriptor) (most peer : ℕ) (b : ActorState) (y : PeerState) (actors : List ActorState) (peers : List PeerState) → ShowActors d most actors peers
+    → ShowsActor d most b y → ShowActors d most (slice_set actors peer b) (slice_set peers peer y)
+set_shown d most peer b y [] [] shows one = tt
+set_shown d most peer b y [] (x ∷ xs) shows one = absurd shows
+set_shown d most peer b y (a ∷ actors) [] shows one = absurd shows
+set_shown d most zero b y (a ∷ actors) (x ∷ xs) shows one = (one, shows.1)
+set_shown d most (suc peer) b y (a ∷ actors) (x ∷ xs) shows one = (shows.0, set_shown d most peer b y actors xs shows.1 one)
 
 -- the queue of a peer
 pub queue_at : (peer : ℕ) (peers : List PeerState) (x : PeerState) → slice_get peers peer ≡ Some x → queue_of peer (mail_at peers) ≡ x.queue
@@ -64,20 +65,20 @@ no_records = []
 
 -- One peer may have opened its store.
 pub starts : (peer : ℕ) (a b : ActorState) (old : StageState) → slice_get old.actors peer ≡ Some a → length (slice_set old.actors peer b) ≡ length old.actors
-    → ((most : ℕ) (x : PeerState) → most + 4 < 2 ^ 64 → ShowsActor most a x → ActorOpens old.descriptor most x b)
+    → ((most : ℕ) (x : PeerState) → most + 4 < 2 ^ 64 → ShowsActor old.descriptor most a x → ActorOpens old.descriptor most x b)
     → MovesAs (Make (Start peer)) old (record old { actors = slice_set old.actors peer b })
 starts peer a b old here count opens = record {
   descriptor = refl;
   count = count;
   moves = λ most w low shows.
-      let it = stands_at most peer a old.actors w.peers shows.actors here in
+      let it = stands_at old.descriptor most peer a old.actors w.peers shows.actors here in
       let at = opens most it.x low it.shows in record {
         after = record w { peers = peers_after peer [] (slice_set w.peers peer at.after) };
         moves = record { before = it.x; after = at.after; added = []; here = it.here; changed = at.opens; is = refl };
         shows = record {
           clock = shows.clock;
-          actors = requeued_all (most + 4) 0 (worlds.address_of peer) [] (slice_set old.actors peer b) (slice_set w.peers peer at.after)
-              (set_shown (most + 4) peer b at.after old.actors w.peers (more_actors most 4 old.actors w.peers shows.actors) at.shows);
+          actors = requeued_all old.descriptor (most + 4) 0 (worlds.address_of peer) [] (slice_set old.actors peer b) (slice_set w.peers peer at.after)
+              (set_shown old.descriptor (most + 4) peer b at.after old.actors w.peers (more_actors old.descriptor most 4 old.actors w.peers shows.actors) at.shows);
           mail = shows.mail ∙ sym (mail_at-same peer it.x w.peers it.here) ∙ ap (slice_set (mail_at w.peers) peer) (sym (queue_stays it.x at.after at.opens))
               ∙ sym (mail_at-set peer at.after w.peers) ∙ sym (ap mail_at (peers_after_from-none 0 (worlds.address_of peer) (slice_set w.peers peer at.after)));
         };
@@ -118,7 +119,7 @@ module _ (peer : ℕ) (r : Running) (old mid : StageState) (heard : HasHeard pee
   abbrev pub waited : StageState
   waited = record mid { mail = if r.is_deaf then mid.mail else with_queue peer (drop 1) mid.mail }
 
-  pub turns : (sent : List Record) → ((most : ℕ) (x : PeerState) (s : Session) (earlier : List Session) (takes : ActorTurns old.clock most x heard.after)
+  pub turns : (sent : List Record) → ((most : ℕ) (x : PeerState) (s : Session) (earlier : List Session) (takes : ActorTurns old.descriptor old.clock most x heard.after)
       → x.sessions ≡ s ∷ earlier → (links.state_of r.link).traffic ≡ Some s.traffic → x.is_running ≡ true
       → (mail : List (List Queued)) → mail_after peer sent mail ≡ mail_after peer takes.added mail)
       → MovesAs (Make (Turn peer)) old (record waited { mail = mail_after peer sent waited.mail })
@@ -126,11 +127,11 @@ module _ (peer : ℕ) (r : Running) (old mid : StageState) (heard : HasHeard pee
     descriptor = ap (λ (s : StageState). s.descriptor) heard.is;
     count = ap (λ (s : StageState). length s.actors) heard.is ∙ count;
     moves = λ most w low shows.
-        let it = stands_at most peer heard.before old.actors w.peers shows.actors heard.was in
+        let it = stands_at old.descriptor most peer heard.before old.actors w.peers shows.actors heard.was in
         let now : IsPlaying most it.x r (reverse heard.before.lives) =
         subst (λ (o : Option Running). ShowsNow most it.x o (reverse heard.before.lives)) was it.shows.now in
         let mail = ap (queue_of peer) shows.mail ∙ queue_at peer w.peers it.x it.here in
-        let at : ActorTurns old.clock most it.x heard.after = heard.turns most it.x low it.shows mail in record {
+        let at : ActorTurns old.descriptor old.clock most it.x heard.after = heard.turns most it.x low it.shows mail in record {
           after = record w { peers = peers_after peer at.added (slice_set w.peers peer at.after) };
           moves = record {
             before = it.x;
@@ -142,9 +143,9 @@ module _ (peer : ℕ) (r : Running) (old mid : StageState) (heard : HasHeard pee
           };
           shows = record {
             clock = ap (λ (s : StageState). s.clock) heard.is ∙ shows.clock;
-            actors = subst (λ (s : StageState). ShowActors (most + 4) s.actors (peers_after peer at.added (slice_set w.peers peer at.after))) (sym heard.is)
-                (requeued_all (most + 4) 0 (worlds.address_of peer) at.added (slice_set old.actors peer heard.after) (slice_set w.peers peer at.after)
-                (set_shown (most + 4) peer heard.after at.after old.actors w.peers (more_actors most 4 old.actors w.peers shows.actors) at.shows));
+            actors = subst (λ (s : StageState). ShowActors s.descriptor (most + 4) s.actors (peers_after peer at.added (slice_set w.peers peer at.after))) (sym heard.is)
+                (requeued_all old.descriptor (most + 4) 0 (worlds.address_of peer) at.added (slice_set old.actors peer heard.after) (slice_set w.peers peer at.after)
+                (set_shown old.descriptor (most + 4) peer heard.after at.after old.actors w.peers (more_actors old.descriptor most 4 old.actors w.peers shows.actors) at.shows));
             mail = same most it.x now.session now.earlier at now.sessions now.shows.link.traffic now.runs waited.mail
                 ∙ ap (mail_after peer at.added) (waits most w it.x at.after shows now.shows.deaf it.here
                 (takes_queue it.x at.added at.after now.runs at.takes))
@@ -177,7 +178,7 @@ module _ (peer : ℕ) (r : Running) (old mid : StageState) (heard : HasHeard pee
   turns_on r' records is size = turns (reverse (drop records (links.in_order r'.link))) (λ most x s earlier takes sessions traffic runs mail.
       ap (λ (rs : List Record). mail_after peer rs mail) (gains most x s earlier takes sessions traffic))
     where
-      gains : (most : ℕ) (x : PeerState) (s : Session) (earlier : List Session) (takes : ActorTurns old.clock most x heard.after) → x.sessions ≡ s ∷ earlier
+      gains : (most : ℕ) (x : PeerState) (s : Session) (earlier : List Session) (takes : ActorTurns old.descriptor old.clock most x heard.after) → x.sessions ≡ s ∷ earlier
           → (links.state_of r.link).traffic ≡ Some s.traffic → reverse (drop records (links.in_order r'.link)) ≡ takes.added
       gains most x s earlier takes sessions traffic =
           let gained : (links.state_of r'.link).traffic ≡ Some (takes.added ++ s.traffic) =
@@ -192,12 +193,12 @@ module _ (peer : ℕ) (r : Running) (old mid : StageState) (heard : HasHeard pee
   pub turns_off : heard.after.running ≡ None → MovesAs (Make (Turn peer)) old waited
   turns_off is = turns [] (λ most x s earlier takes sessions traffic runs mail. nothing most x takes runs mail)
     where
-      nothing : (most : ℕ) (x : PeerState) (takes : ActorTurns old.clock most x heard.after) → x.is_running ≡ true → (mail : List (List Queued))
+      nothing : (most : ℕ) (x : PeerState) (takes : ActorTurns old.descriptor old.clock most x heard.after) → x.is_running ≡ true → (mail : List (List Queued))
           → mail ≡ mail_after peer takes.added mail
       nothing most x takes runs mail =
           let turn : TakesTurn old.clock x takes.added takes.after =
           subst (λ (b : Bool). MatchBool b (TakesTurn old.clock x takes.added takes.after) (Stays x takes.added takes.after)) runs takes.takes in
-          let stands : takes.after.is_running ≡ false = runs_as (most + 4) heard.after takes.after takes.shows ∙ ap is_some is in
+          let stands : takes.after.is_running ≡ false = runs_as old.descriptor (most + 4) heard.after takes.after takes.shows ∙ ap is_some is in
           let silent : turn.sent ≡ [] = ⊎_elim (λ on. let never : true ≡ false = sym on ∙ stands in cc) (λ off. off.1) turn.goes_on in
           sym (ap (λ (rs : List Record). mail_after peer rs mail) (turn.gained ∙ ap (λ (rs : List Record). rs ++ wait_records old.clock x) silent)
           ∙ sends_nothing peer old.clock x mail)
@@ -251,14 +252,14 @@ turns_none peer a old here none = record {
   descriptor = refl;
   count = refl;
   moves = λ most w low shows.
-      let it = stands_at most peer a old.actors w.peers shows.actors here in
-      let off : it.x.is_running ≡ false = runs_as most a it.x it.shows ∙ ap is_some (runs_not a.running none) in record {
+      let it = stands_at old.descriptor most peer a old.actors w.peers shows.actors here in
+      let off : it.x.is_running ≡ false = runs_as old.descriptor most a it.x it.shows ∙ ap is_some (runs_not a.running none) in record {
         after = record w { peers = peers_after peer [] (slice_set w.peers peer it.x) };
         moves = record { before = it.x; after = it.x; added = []; here = it.here; changed = stays_idle w.clock it.x off; is = refl };
         shows = record {
           clock = shows.clock;
-          actors = requeued_all (most + 4) 0 (worlds.address_of peer) [] old.actors (slice_set w.peers peer it.x)
-              (subst (ShowActors (most + 4) old.actors) (sym (set_same peer it.x w.peers it.here)) (more_actors most 4 old.actors w.peers shows.actors));
+          actors = requeued_all old.descriptor (most + 4) 0 (worlds.address_of peer) [] old.actors (slice_set w.peers peer it.x)
+              (subst (ShowActors old.descriptor (most + 4) old.actors) (sym (set_same peer it.x w.peers it.here)) (more_actors old.descriptor most 4 old.actors w.peers shows.actors));
           mail = shows.mail ∙ sym (ap mail_at (set_same peer it.x w.peers it.here))
               ∙ sym (ap mail_at (peers_after_from-none 0 (worlds.address_of peer) (slice_set w.peers peer it.x)));
         };

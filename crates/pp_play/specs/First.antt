@@ -22,7 +22,7 @@ pub record BeginsAs (d : Descriptor) (content : List ℕ) (role : Role) (disk : 
 pub record BeginAs (d : Descriptor) (content : List ℕ) (roles : List Role) (actors : List ActorState) : Type 0 where
   pub peers : List PeerState
   pub new : AreNew d content (map as_role roles) peers
-  pub show : ShowActors 0 actors peers
+  pub show : ShowActors d 0 actors peers
 
 -- The peers are those of the schedule's first world.
 pub record IsReadied (s : Schedule) (stage : StageState) : Type 0 where

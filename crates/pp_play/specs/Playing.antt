@@ -4,6 +4,7 @@ use Rattle.pp_world.specs.Move.{Move}
 use Rattle.pp_world.specs.Schedule.{Schedule}
 use Rattle.pp_terms.specs.format.Descriptor.{Descriptor}
 use Rattle.pp_world.specs.Outcome.{IsEndOf}
+use Rattle.pp_world.specs.Survival.{KeepsAnnounced}
 use Rattle.pp_world.specs.World.{PeerState, World}
 use Rattle.pp_world.specs.Worlds.{Happened, swarm_of}
 use Rattle.pp_actor.specs.Actor.{ActorState, ShowsRemains}
@@ -27,13 +28,13 @@ pub record PlaysAs (moves : List Move) (old new : StageState) : Type 0 where
 
 -- ---- the end
 
--- The peers at the end are those of a world, each with its devices and its numbers.
+-- The peers at the end are those of a world, each with its devices and its numbers, and what each announced lasts.
 abbrev pub AreEnds : Descriptor → List PeerEnd → List PeerState → Type 0
 AreEnds d [] [] = Unit {0}
 AreEnds d [] (x ∷ xs) = ⊥
 AreEnds d (end ∷ ends) [] = ⊥
-AreEnds d (end ∷ ends) (x ∷ xs) = ShowsRemains end.remains x × IsEndOf d (end_as x end) × AreEnds d ends xs
+AreEnds d (end ∷ ends) (x ∷ xs) = ShowsRemains end.remains x × IsEndOf d (end_as x end) × KeepsAnnounced d x × AreEnds d ends xs
 
 -- This holds of each world whose peers the actors were.
 abbrev pub EndAs : Descriptor → List ActorState → List PeerEnd → Type 0
-EndAs d actors ends = (most : ℕ) (peers : List PeerState) → ShowActors most actors peers → AreEnds d ends peers
+EndAs d actors ends = (most : ℕ) (peers : List PeerState) → ShowActors d most actors peers → AreEnds d ends peers

@@ -6,6 +6,7 @@ use Rattle.pp_world.specs.Outcome as terms
 use Rattle.pp_world.specs.Outcome.{IsEndOf}
 use Rattle.pp_world.specs.Schedule.{Schedule}
 use Rattle.pp_world.specs.ScheduleRead.{read_schedule}
+use Rattle.pp_world.specs.Survival.{AnnouncedSurvives}
 use Rattle.pp_world.specs.World.{World}
 use Rattle.pp_world.specs.Worlds.{AreWorlds, swarm_of}
 use Rattle.pp_replay.specs.Views.{as_fault}
@@ -27,13 +28,15 @@ ShowEnds [] (e ∷ es) = ⊥
 ShowEnds (end ∷ ends) [] = ⊥
 ShowEnds (end ∷ ends) (e ∷ es) = ShowsEnd end e × ShowEnds ends es
 
--- Peers at the end of worlds of a schedule, with their numbers.
+-- Peers at the end of worlds of a schedule, with their numbers. What any of them announced in any session is held in what its disk reads
+-- at the end of each later opening, and stands in each image that a crash at any later moment leaves.
 pub record IsEnded (s : Schedule) (peers : List terms.PeerEnd) : Type 0 where
   pub last : World
   pub before : List World
   pub worlds : AreWorlds s (last ∷ before)
   pub same : map (λ e. e.state) peers ≡ last.peers
   pub numbers : AllByRecursion (IsEndOf (swarm_of s)) peers
+  pub survives : AnnouncedSurvives (swarm_of s) last
 
 -- A schedule was played to this outcome.
 pub record IsPlayed (s : Schedule) (outcome : Outcome) : Type 0 where

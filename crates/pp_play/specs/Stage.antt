@@ -21,17 +21,17 @@ IsSet actors mail = length mail ≡ length actors
 
 -- ---- a world
 
--- These actors are the peers of a world, each at its number.
-abbrev pub ShowActors : ℕ → List ActorState → List PeerState → Type 0
-ShowActors most [] [] = Unit {0}
-ShowActors most [] (x ∷ xs) = ⊥
-ShowActors most (a ∷ actors) [] = ⊥
-ShowActors most (a ∷ actors) (x ∷ xs) = ShowsActor most a x × ShowActors most actors xs
+-- These actors are the peers of a world of this swarm, each at its number.
+abbrev pub ShowActors : Descriptor → ℕ → List ActorState → List PeerState → Type 0
+ShowActors d most [] [] = Unit {0}
+ShowActors d most [] (x ∷ xs) = ⊥
+ShowActors d most (a ∷ actors) [] = ⊥
+ShowActors d most (a ∷ actors) (x ∷ xs) = ShowsActor d most a x × ShowActors d most actors xs
 
 -- Of the calls of each disk, and of each link, at most so many were refused.
 pub record ShowsStage (most : ℕ) (stage : StageState) (w : World) : Type 0 where
   pub clock : stage.clock ≡ w.clock
-  pub actors : ShowActors most stage.actors w.peers
+  pub actors : ShowActors stage.descriptor most stage.actors w.peers
   pub mail : stage.mail ≡ mail_at w.peers
 
 -- ---- moves
@@ -63,8 +63,8 @@ pub record HasHeard (peer : ℕ) (old new : StageState) : Type 0 where
   pub after : ActorState
   pub was : slice_get old.actors peer ≡ Some before
   pub is : new ≡ record old { actors = slice_set old.actors peer after }
-  pub turns : (most : ℕ) (x : PeerState) → most + 4 < 2 ^ 64 → ShowsActor most before x → queue_of peer old.mail ≡ x.queue
-      → ActorTurns old.clock most x after
+  pub turns : (most : ℕ) (x : PeerState) → most + 4 < 2 ^ 64 → ShowsActor old.descriptor most before x → queue_of peer old.mail ≡ x.queue
+      → ActorTurns old.descriptor old.clock most x after
 
 -- ---- what is sent
 

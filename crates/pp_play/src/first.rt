@@ -2,6 +2,7 @@
 ghost use Rattle.std.specs.Prelude.{◌≡◌, IfOk};
 ghost use Rattle.pp_terms.specs.tree.Content.{IsChunkSize};
 ghost use Rattle.pp_world.specs.Schedule.{IsSchedule, content_of};
+ghost use Rattle.pp_store.specs.Growing.{IsContent};
 ghost use Rattle.pp_store.specs.Imported.{imported};
 ghost use Rattle.pp_play.specs.First.{BeginAs, BeginsAs, IsReadied};
 
@@ -47,13 +48,14 @@ fn content_of(alloc: Global, schedule: &Schedule<'_>) -> Result<Vec<u8>, AllocEr
     Ok(content)
 }
 
+// The peers of these roles, none of which was started.
 fn actors_of(
     alloc: Global,
     chunk: u32,
     content: &[u8],
     roles: &[Role],
 ) -> Result<Vec<Actor>, AllocError>
-    requires { IsChunkSize chunk }
+    requires { IsContent chunk content.now }
     ensures { IfOk result (λ actors. BeginAs (imported content.now chunk) content.now roles.now actors.items) }
 {
     let mut actors = Vec::with_capacity(alloc, roles.len())?;

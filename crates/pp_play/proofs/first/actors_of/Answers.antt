@@ -21,8 +21,8 @@ loop-role-preserved c =
     ∙ ap (λ (r : Role). take c.loop-role.role-index c.args.roles.now ++ r ∷ []) (sym c.role-item.is) in
     subst (BeginAs (imported c.args.content.now c.args.chunk) c.args.content.now (take (c.loop-role.role-index + 1) c.args.roles.now)) (sym c.in_ok-push.ensures.items)
     (subst (λ (roles : List Role). BeginAs (imported c.args.content.now c.args.chunk) c.args.content.now roles (c.loop-role.actors.items ++ c.new.result ∷ [])) (sym more)
-    (begin_more (imported c.args.content.now c.args.chunk) c.args.content.now (take c.loop-role.role-index c.args.roles.now) c.loop-role.actors.items role
-    c.in_ok-disk_of.field-0 c.new.result c.loop-role.invariant c.in_ok-disk_of.ensures c.new.ensures))
+    (begin_more c.args.chunk c.args.content.now (take c.loop-role.role-index c.args.roles.now) c.loop-role.actors.items role
+    c.in_ok-disk_of.field-0 c.new.result c.requires c.loop-role.invariant c.in_ok-disk_of.ensures c.new.ensures))
 
 pub returns : goal.returns
 returns c =

@@ -5,7 +5,7 @@ use Rattle.pp_actor.proofs.Actors.{crashes, if_ok}
 use Rattle.pp_actor.proofs.actor.Actor.crash.Goals as goal
 
 pub returns : goal.returns
-returns c = if_ok c.enough.result (λ ok most x shows. ⊎_elim
-    (λ is. crashes most c.args.pick c.self.inside.disk c.crash.new.self c.self.inside.lives.items c.self.inside.running x is.0 c.crash.ensures.orders
-    (subst (λ (a : ActorState). ShowsActor most a (with_stop x)) (sym c.self.view_is) (c.in_ok-stop.ensures most x shows)))
+returns c = if_ok c.enough.result (λ ok d most x shows. ⊎_elim
+    (λ is. crashes d most c.args.pick c.self.inside.disk c.crash.new.self c.self.inside.lives.items c.self.inside.running x is.0 c.crash.ensures.orders
+    (subst (λ (a : ActorState). ShowsActor d most a (with_stop x)) (sym c.self.view_is) (c.in_ok-stop.ensures d most x shows)))
     (λ is. let enough = sym c.short.ensures ∙ c.enough.ensures.0 ok in let short = is.1 in cc) c.crash.ensures.crashed)

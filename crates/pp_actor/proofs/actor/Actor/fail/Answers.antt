@@ -4,7 +4,7 @@ use Rattle.pp_actor.specs.Actor.{ActorState, ShowsActor}
 use Rattle.pp_actor.proofs.actor.Actor.fail.Goals as goal
 
 pub returns : goal.returns
-returns c most x shows =
-    c.order.ensures.fails most c.self.inside.lives.items x
-    (subst (λ (o : Option Running). ShowsActor most (record { disk = c.self.inside.disk; lives = c.self.inside.lives.items; running = o }) x)
-    (sym c.take.ensures.value ∙ c.in-Some.is) (subst (λ (a : ActorState). ShowsActor most a x) (sym c.self.view_is) shows))
+returns c d most x shows =
+    c.order.ensures.fails d most c.self.inside.lives.items x
+    (subst (λ (o : Option Running). ShowsActor d most (record { disk = c.self.inside.disk; lives = c.self.inside.lives.items; running = o }) x)
+    (sym c.take.ensures.value ∙ c.in-Some.is) (subst (λ (a : ActorState). ShowsActor d most a x) (sym c.self.view_is) shows))

@@ -24,6 +24,6 @@ returns c =
       after = after;
       was = here;
       is = ap (λ (i : ℕ). record seen { actors = slice_set seen.actors i after }) c.from.ensures;
-      turns = λ most x low shows queue. turns most x low shows (λ runs. came_as seen.clock c.oldest-came.result x.queue
+      turns = λ most x low shows queue. turns seen.descriptor most x low shows (λ runs. came_as seen.clock c.oldest-came.result x.queue
           (c.oldest-came.ensures ∙ ap (λ (q : List Queued). slice_get q 0) queue));
     })) c.turn.ensures
