@@ -1,15 +1,17 @@
 #!/usr/bin/env bash
-# How fast a fetch is over loopback: a content of seeded bytes is imported, so many seeders serve it, and one fetcher that
-# names them all fetches it into a new store, whose export is compared with the content. Prints megabytes a second, from the
-# fetch's start to its end, the processor seconds of the fetcher, its counts of datagrams, and the quotient of the time to
-# that of `sha256sum` on the content. Exits with 1 where the fetch fails or the content differs.
-# Usage: bench/fetch.sh [MEBIBYTES [CHUNK [SEEDERS]]]; 64, 1024 and 1 unless given.
+# How fast fetches are over loopback: a content of seeded bytes is imported, so many seeders serve it, and so many fetchers, started
+# together, that name these seeders alone fetch it into new stores, whose exports are compared with the content. Prints for each fetcher
+# megabytes a second, from its start to its end, its processor seconds and its counts of datagrams; then the processor seconds of each
+# seeder, and the time of `sha256sum` on the content with the quotient of the
+# slowest fetch to it. Exits with 1 where a fetch fails or a content differs.
+# Usage: bench/fetch.sh [MEBIBYTES [CHUNK [SEEDERS [FETCHERS]]]]; 64, 1024, 1 and 1 unless given.
 set -eu
 
 root=$(cd -- "$(dirname -- "$(readlink -f -- "${BASH_SOURCE[0]}")")/.." >/dev/null && pwd -P)
 size=$((${1:-64} * 1024 * 1024))
 chunk=${2:-1024}
 seeders=${3:-1}
+fetchers=${4:-1}
 first_port=17001
 
 folder=$(mktemp -d)
@@ -36,19 +38,46 @@ done
 sleep 1
 
 now() { date +%s%3N; }
+# the processor seconds of a process that runs, in hundredths
+busy() { awk '{ print $14 + $15 }' "/proc/$1/stat"; }
+
 begun=$(now)
 sha256sum content >/dev/null
 hashed=$(($(now) - begun))
-begun=$(now)
-status=0
-TIMEFORMAT='%U user and %S system'
-{ time "$root/ppspp" fetch fetched "$descriptor" 127.0.0.1:17000 4000000000 rarest "${peers[@]}" >report; } 2>times || status=$?
-took=$(($(now) - begun))
 
-"$root/ppspp" export fetched "$descriptor" >exported || status=$?
-cmp -s content exported || status=1
-awk "BEGIN { printf \"%d bytes, chunk %d, %d seeders: %.1f MB/s, %d ms, %.1f times sha256sum\\n\", $size, $chunk, $seeders, $size / 1000 / $took, $took, $took / $hashed }"
-echo "processor seconds of the fetcher: $(tail -n 1 times)"
-grep -E '^(turns|datagrams|sent|stored|repeats|missing|wrong|send_faults) ' report | tr '\n' ' '
-echo
-[ "$status" -eq 0 ] || { echo "the fetch failed with status $status" >&2; exit 1; }
+# fetch N: fetcher N, with its time in milliseconds, its status and its processor seconds in files of its own
+fetch() {
+    local begun status=0
+    begun=$(now)
+    TIMEFORMAT='%U user and %S system'
+    { time "$root/ppspp" fetch "fetched.$1" "$descriptor" "127.0.0.1:$((first_port + 100 + $1))" 4000000000 rarest "${peers[@]}" >"report.$1"; } 2>"times.$1" ||
+        status=$?
+    echo $(($(now) - begun)) >"took.$1"
+    echo "$status" >"status.$1"
+}
+
+fetching=()
+for ((n = 0; n < fetchers; n++)); do
+    fetch "$n" &
+    fetching+=($!)
+done
+wait "${fetching[@]}"
+
+failed=0
+slowest=0
+for ((n = 0; n < fetchers; n++)); do
+    status=$(cat "status.$n")
+    took=$(cat "took.$n")
+    [ "$took" -le "$slowest" ] || slowest=$took
+    "$root/ppspp" export "fetched.$n" "$descriptor" >exported || status=$?
+    cmp -s content exported || status=1
+    awk "BEGIN { printf \"%d bytes, chunk %d, %d seeders, fetcher %d of %d: %.1f MB/s, %d ms\n\", $size, $chunk, $seeders, $n + 1, $fetchers, $size / 1000 / $took, $took }"
+    echo "  processor seconds: $(tail -n 1 "times.$n")"
+    echo "  $(grep -E '^(turns|datagrams|sent|stored|repeats|missing|wrong|send_faults) ' "report.$n" | tr '\n' ' ')"
+    [ "$status" -eq 0 ] || { echo "  failed with status $status" >&2; failed=1; }
+done
+for ((n = 0; n < seeders; n++)); do
+    echo "seeder $((n + 1)): processor hundredths of a second: $(busy "${children[$n]}")"
+done
+awk "BEGIN { printf \"sha256sum of the content: %d ms; the slowest fetch took %.1f times that\n\", $hashed, $slowest / $hashed }"
+[ "$failed" -eq 0 ]

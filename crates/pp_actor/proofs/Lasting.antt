@@ -14,7 +14,7 @@ use Rattle.pp_store.specs.Sound.{StaysSound}
 use Rattle.pp_store.specs.Store.{GoesOn}
 use Rattle.pp_store.proofs.Sealing.{throughout_later}
 use Rattle.pp_turns.proofs.Steps.{each_announced}
-use Rattle.pp_world.specs.Session.{Mark, Session}
+use Rattle.pp_world.specs.Session.{Mark, Session, last_mark}
 use Rattle.pp_world.specs.Survival.{AllOutlast, FindsAnnounced, Outlasts}
 use Rattle.pp_world.specs.World.{disk_since, reads_at}
 use Rattle.pp_actor.specs.Lasting.{AllLast, HasStood, IsSoundNow, KeepsOn, Lasts, disk_before}
@@ -141,6 +141,7 @@ module _ (d : Descriptor) where
         let same = before_same disk calls s lasts.began in record {
           began = longer s.began.calls lasts.began;
           opened = longer s.opened.calls lasts.opened;
+          marked = longer (last_mark s).calls lasts.marked;
           sound = subst (λ (c : Calls). IsSoundNow d (history_of c)) (sym same) lasts.sound;
           goes_on = subst (λ (c : Calls). KeepsOn d (history_of c) (history_of new)) (sym same)
               (keeps_longer (history_of (disk_before disk s)) (history_of disk) (history_of new) lasts.goes_on keeps);

@@ -1,5 +1,5 @@
 -- Calls of an actor's devices that are ordered to fail.
-use Rattle.std.proofs.Common.{◌≡◌, ◌≢◌, ℕ, Bool, true, false, Some, List, refl, sym, ◌∙◌, ap, subst}
+use Rattle.std.proofs.Common.{◌≡◌, ◌≢◌, ℕ, Bool, true, false, None, Some, List, refl, sym, ◌∙◌, ap, subst}
 use Rattle.std.specs.Prelude.{if◌then◌else◌}
 use Rattle.pp_terms.specs.disk.Calls.{attached}
 use Rattle.pp_terms.specs.disk.Disk.{DiskState, fresh}
@@ -14,6 +14,7 @@ use Rattle.pp_outside.specs.declared.call.Call.TheVariants as calls
 use Rattle.pp_outside.specs.declared.memory_disk.MemoryDisk.{MemoryDisk}
 use Rattle.pp_core.specs.Peers.{PeerState as Peer}
 use Rattle.pp_turns.specs.Turning.{post}
+use Rattle.pp_watch.specs.Used.{order_if}
 use Rattle.pp_world.specs.Change.{while_running, with_failing}
 use Rattle.pp_world.specs.Orders.{Orders}
 use Rattle.pp_world.specs.Schedule.{Read, Write, Sync, Send, Receive}
@@ -21,6 +22,7 @@ use Rattle.pp_world.specs.World.{PeerState}
 use Rattle.pp_actor.specs.Actor.{ActorState, ShowsActor}
 use Rattle.pp_actor.specs.Going.{IsGoingIn}
 use Rattle.pp_actor.specs.declared.life.Life.{Life}
+use Rattle.pp_stage.specs.declared.opening.Start.{Start}
 use Rattle.pp_stage.specs.declared.turning.Running.{Running}
 
 -- A peer that doesn't run stays as it is, and one that runs changes.
@@ -34,12 +36,12 @@ changes d most a x change runs shows = subst (ShowsActor d most a) (sym (ap (λ 
 
 -- ---- the disk
 
-module _ (d : Descriptor) (most : ℕ) (old new : MemoryDisk) (lives : List Life) (r : Running) (x : PeerState) (state : disks.state_of new ≡ disks.state_of old)
-    (shows : ShowsActor d most (record { disk = old; lives = lives; running = Some r }) x) where
+module _ (d : Descriptor) (most number : ℕ) (start : Start) (old new : MemoryDisk) (lives : List Life) (r : Running) (x : PeerState) (state : disks.state_of new ≡ disks.state_of old)
+    (shows : ShowsActor d most (record { number = number; start = start; disk = old; lives = lives; running = Some r }) x) where
   -- with other orders of the disk
-  ordered : (orders : Orders) → orders.send ≡ x.orders.send → orders.receive ≡ x.orders.receive → disks.is_ordered new calls.Read ≡ orders.read
-      → disks.is_ordered new calls.Write ≡ orders.write → disks.is_ordered new calls.Sync ≡ orders.sync → disks.is_ordered new calls.Attach ≡ false
-      → disks.is_ordered new calls.Len ≡ false → ShowsActor d most (record { disk = new; lives = lives; running = Some r }) (record x { orders = orders })
+  ordered : (orders : Orders) → orders.send ≡ x.orders.send → orders.receive ≡ x.orders.receive → disks.order_of new calls.Read ≡ order_if orders.read
+      → disks.order_of new calls.Write ≡ order_if orders.write → disks.order_of new calls.Sync ≡ order_if orders.sync → disks.order_of new calls.Attach ≡ None
+      → disks.order_of new calls.Len ≡ None → ShowsActor d most (record { number = number; start = start; disk = new; lives = lives; running = Some r }) (record x { orders = orders })
   ordered orders send receive read write sync attach len = record {
     disk = record {
       unattached = shows.disk.unattached;
@@ -66,8 +68,8 @@ module _ (d : Descriptor) (most : ℕ) (old new : MemoryDisk) (lives : List Life
           nexts = shows.now.shows.link.nexts;
           few = shows.now.shows.link.few;
           few_turns = shows.now.shows.link.few_turns;
-          send = shows.now.shows.link.send ∙ sym send;
-          receive = shows.now.shows.link.receive ∙ sym receive;
+          send = shows.now.shows.link.send ∙ sym (ap order_if send);
+          receive = shows.now.shows.link.receive ∙ sym (ap order_if receive);
           bind = shows.now.shows.link.bind;
           idle = shows.now.shows.link.idle;
         };
@@ -76,40 +78,40 @@ module _ (d : Descriptor) (most : ℕ) (old new : MemoryDisk) (lives : List Life
       };
       over = shows.now.over;
     };
-    lasts = subst (IsGoingIn d x.disk x.sessions) (sym (ap (λ (s : DiskState). post r.peer s (links.state_of r.link)) state)) shows.lasts;
+    lasts = subst (IsGoingIn d (record { number = number; asks = start.asks; dialled = start.dialled.items }) x.disk x.sessions) (sym (ap (λ (s : DiskState). post r.peer s (links.state_of r.link)) state)) shows.lasts;
   }
 
-  pub fails_read : disks.is_ordered new calls.Read ≡ true → ((other : Call) → other ≢ calls.Read → disks.is_ordered new other ≡ disks.is_ordered old other)
-      → ShowsActor d most (record { disk = new; lives = lives; running = Some r }) (while_running (with_failing Read) x)
-  fails_read is others = changes d most (record { disk = new; lives = lives; running = Some r }) x (with_failing Read) shows.now.runs
+  pub fails_read : disks.order_of new calls.Read ≡ Some 0 → ((other : Call) → other ≢ calls.Read → disks.order_of new other ≡ disks.order_of old other)
+      → ShowsActor d most (record { number = number; start = start; disk = new; lives = lives; running = Some r }) (while_running (with_failing Read) x)
+  fails_read is others = changes d most (record { number = number; start = start; disk = new; lives = lives; running = Some r }) x (with_failing Read) shows.now.runs
       (ordered (record x.orders { read = true }) refl refl is
       (others calls.Write (λ e. cc) ∙ shows.disk.write) (others calls.Sync (λ e. cc) ∙ shows.disk.sync)
       (others calls.Attach (λ e. cc) ∙ shows.disk.attach) (others calls.Len (λ e. cc) ∙ shows.disk.len))
 
-  pub fails_write : disks.is_ordered new calls.Write ≡ true → ((other : Call) → other ≢ calls.Write → disks.is_ordered new other ≡ disks.is_ordered old other)
-      → ShowsActor d most (record { disk = new; lives = lives; running = Some r }) (while_running (with_failing Write) x)
-  fails_write is others = changes d most (record { disk = new; lives = lives; running = Some r }) x (with_failing Write) shows.now.runs
+  pub fails_write : disks.order_of new calls.Write ≡ Some 0 → ((other : Call) → other ≢ calls.Write → disks.order_of new other ≡ disks.order_of old other)
+      → ShowsActor d most (record { number = number; start = start; disk = new; lives = lives; running = Some r }) (while_running (with_failing Write) x)
+  fails_write is others = changes d most (record { number = number; start = start; disk = new; lives = lives; running = Some r }) x (with_failing Write) shows.now.runs
       (ordered (record x.orders { write = true }) refl refl
       (others calls.Read (λ e. cc) ∙ shows.disk.read) is (others calls.Sync (λ e. cc) ∙ shows.disk.sync)
       (others calls.Attach (λ e. cc) ∙ shows.disk.attach) (others calls.Len (λ e. cc) ∙ shows.disk.len))
 
-  pub fails_sync : disks.is_ordered new calls.Sync ≡ true → ((other : Call) → other ≢ calls.Sync → disks.is_ordered new other ≡ disks.is_ordered old other)
-      → ShowsActor d most (record { disk = new; lives = lives; running = Some r }) (while_running (with_failing Sync) x)
-  fails_sync is others = changes d most (record { disk = new; lives = lives; running = Some r }) x (with_failing Sync) shows.now.runs
+  pub fails_sync : disks.order_of new calls.Sync ≡ Some 0 → ((other : Call) → other ≢ calls.Sync → disks.order_of new other ≡ disks.order_of old other)
+      → ShowsActor d most (record { number = number; start = start; disk = new; lives = lives; running = Some r }) (while_running (with_failing Sync) x)
+  fails_sync is others = changes d most (record { number = number; start = start; disk = new; lives = lives; running = Some r }) x (with_failing Sync) shows.now.runs
       (ordered (record x.orders { sync = true }) refl refl
       (others calls.Read (λ e. cc) ∙ shows.disk.read) (others calls.Write (λ e. cc) ∙ shows.disk.write) is
       (others calls.Attach (λ e. cc) ∙ shows.disk.attach) (others calls.Len (λ e. cc) ∙ shows.disk.len))
 
 -- ---- the link
 
-module _ (d : Descriptor) (most : ℕ) (disk : MemoryDisk) (lives : List Life) (old new : Running) (x : PeerState)
+module _ (d : Descriptor) (most number : ℕ) (start : Start) (disk : MemoryDisk) (lives : List Life) (old new : Running) (x : PeerState)
     (state : links.state_of new.link ≡ links.state_of old.link) (events : links.arrivals_of new.link ≡ links.arrivals_of old.link)
-    (peer : new.peer ≡ old.peer) (shows : ShowsActor d most (record { disk = disk; lives = lives; running = Some old }) x) where
+    (peer : new.peer ≡ old.peer) (shows : ShowsActor d most (record { number = number; start = start; disk = disk; lives = lives; running = Some old }) x) where
   -- with other orders of the link
   linked : (orders : Orders) → orders.read ≡ x.orders.read → orders.write ≡ x.orders.write → orders.sync ≡ x.orders.sync
-      → links.is_ordered new.link calls.Send ≡ orders.send → links.is_ordered new.link calls.Next ≡ orders.receive
-      → links.is_ordered new.link calls.Bind ≡ false → new.is_deaf ≡ orders.receive
-      → ShowsActor d most (record { disk = disk; lives = lives; running = Some new }) (record x { orders = orders })
+      → links.order_of new.link calls.Send ≡ order_if orders.send → links.order_of new.link calls.Next ≡ order_if orders.receive
+      → links.order_of new.link calls.Bind ≡ None → new.is_deaf ≡ orders.receive
+      → ShowsActor d most (record { number = number; start = start; disk = disk; lives = lives; running = Some new }) (record x { orders = orders })
   linked orders read write sync send receive bind deaf = record {
     disk = record {
       unattached = shows.disk.unattached;
@@ -118,9 +120,9 @@ module _ (d : Descriptor) (most : ℕ) (disk : MemoryDisk) (lives : List Life) (
       hard = shows.disk.hard;
       few = shows.disk.few;
       few_hard = shows.disk.few_hard;
-      read = shows.disk.read ∙ sym read;
-      write = shows.disk.write ∙ sym write;
-      sync = shows.disk.sync ∙ sym sync;
+      read = shows.disk.read ∙ sym (ap order_if read);
+      write = shows.disk.write ∙ sym (ap order_if write);
+      sync = shows.disk.sync ∙ sym (ap order_if sync);
       attach = shows.disk.attach;
       len = shows.disk.len;
     };
@@ -146,20 +148,20 @@ module _ (d : Descriptor) (most : ℕ) (disk : MemoryDisk) (lives : List Life) (
       };
       over = shows.now.over;
     };
-    lasts = subst (IsGoingIn d x.disk x.sessions) (sym (ap (λ (p : Peer). post p (disks.state_of disk) (links.state_of new.link)) peer
+    lasts = subst (IsGoingIn d (record { number = number; asks = start.asks; dialled = start.dialled.items }) x.disk x.sessions) (sym (ap (λ (p : Peer). post p (disks.state_of disk) (links.state_of new.link)) peer
         ∙ ap (λ (l : LinkState). post old.peer (disks.state_of disk) l) state)) shows.lasts;
   }
 
-  pub fails_send : links.is_ordered new.link calls.Send ≡ true
-      → ((other : Call) → other ≢ calls.Send → links.is_ordered new.link other ≡ links.is_ordered old.link other) → new.is_deaf ≡ old.is_deaf
-      → ShowsActor d most (record { disk = disk; lives = lives; running = Some new }) (while_running (with_failing Send) x)
-  fails_send is others deaf = changes d most (record { disk = disk; lives = lives; running = Some new }) x (with_failing Send) shows.now.runs
+  pub fails_send : links.order_of new.link calls.Send ≡ Some 0
+      → ((other : Call) → other ≢ calls.Send → links.order_of new.link other ≡ links.order_of old.link other) → new.is_deaf ≡ old.is_deaf
+      → ShowsActor d most (record { number = number; start = start; disk = disk; lives = lives; running = Some new }) (while_running (with_failing Send) x)
+  fails_send is others deaf = changes d most (record { number = number; start = start; disk = disk; lives = lives; running = Some new }) x (with_failing Send) shows.now.runs
       (linked (record x.orders { send = true }) refl refl refl is (others calls.Next (λ e. cc) ∙ shows.now.shows.link.receive)
       (others calls.Bind (λ e. cc) ∙ shows.now.shows.link.bind) (deaf ∙ shows.now.shows.deaf))
 
-  pub fails_receive : links.is_ordered new.link calls.Next ≡ true
-      → ((other : Call) → other ≢ calls.Next → links.is_ordered new.link other ≡ links.is_ordered old.link other) → new.is_deaf ≡ true
-      → ShowsActor d most (record { disk = disk; lives = lives; running = Some new }) (while_running (with_failing Receive) x)
-  fails_receive is others deaf = changes d most (record { disk = disk; lives = lives; running = Some new }) x (with_failing Receive) shows.now.runs
+  pub fails_receive : links.order_of new.link calls.Next ≡ Some 0
+      → ((other : Call) → other ≢ calls.Next → links.order_of new.link other ≡ links.order_of old.link other) → new.is_deaf ≡ true
+      → ShowsActor d most (record { number = number; start = start; disk = disk; lives = lives; running = Some new }) (while_running (with_failing Receive) x)
+  fails_receive is others deaf = changes d most (record { number = number; start = start; disk = disk; lives = lives; running = Some new }) x (with_failing Receive) shows.now.runs
       (linked (record x.orders { receive = true }) refl refl refl (others calls.Send (λ e. cc) ∙ shows.now.shows.link.send) is
       (others calls.Bind (λ e. cc) ∙ shows.now.shows.link.bind) deaf)

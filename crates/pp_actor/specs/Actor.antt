@@ -22,10 +22,15 @@ use Rattle.pp_stage.specs.declared.turning.Running.{Running}
 use Rattle.pp_stage.specs.declared.opening.Start.{Start}
 use Rattle.pp_stage.specs.Opening.{Begins}
 use Rattle.pp_stage.specs.Shown.{IsReady, ShowsRunning}
+use Rattle.pp_replay.specs.declared.types.Role.{Role}
 use Rattle.pp_actor.specs.Going.{LastsNow}
+use Rattle.pp_actor.specs.Keeping.{Part}
+use Rattle.pp_actor.specs.Starting.{IsSetFor, life_after, random_of}
 
--- What an actor is: its disk, the lives that are over, the oldest first, and what it is while it runs.
+-- What an actor is: its number, what it is opened with, its disk, the lives that are over, the oldest first, and what it is while it runs.
 pub record ActorState : Type 0 where
+  pub number : ℕ
+  pub start : Start
   pub disk : MemoryDisk
   pub lives : List Life
   pub running : Option Running
@@ -43,6 +48,20 @@ is_deaf (Some r) = r.is_deaf
 abbrev pub IsAwake : Option Running → Type 0
 IsAwake None = Unit {0}
 IsAwake (Some r) = IsReady r
+
+-- ---- what it is told
+
+abbrev pub part_of : ActorState → Part
+part_of a = record { number = a.number; asks = a.start.asks; dialled = a.start.dialled.items }
+
+-- An actor of that number and role.
+pub record HasPart (number : ℕ) (role : Role) (a : ActorState) : Type 0 where
+  pub is : a.number ≡ number
+  pub set : IsSetFor role a.start
+
+-- what it is opened with for its next life
+abbrev pub next_start : ActorState → Start
+next_start a = record a.start { random = random_of a.number (life_after (length a.lives)) }
 
 -- ---- what a peer of a world is
 
@@ -78,11 +97,11 @@ ShowsNow most x None lives = IsIdle x lives
 ShowsNow most x (Some r) lives = IsPlaying most x r lives
 
 -- The actor is the peer of this swarm, but for its queue. Of the calls of its disk, and of its link, at most so many were refused.
--- What it announced in any session lasts.
+-- What it announced in any session lasts, and each that is over kept the promise of a run.
 pub record ShowsActor (d : Descriptor) (most : ℕ) (a : ActorState) (x : PeerState) : Type 0 where
   pub disk : ShowsDisk most a.disk x
   pub now : ShowsNow most x a.running (reverse a.lives)
-  pub lasts : LastsNow d x.disk x.sessions a.disk a.running
+  pub lasts : LastsNow d (part_of a) x.disk x.sessions a.disk a.running
 
 -- What is left of a peer is its disk, wherever that was attached, and its sessions.
 pub record ShowsRemains (r : Remains) (x : PeerState) : Type 0 where
@@ -98,10 +117,10 @@ pub record ActorOpens (d : Descriptor) (most : ℕ) (x : PeerState) (a : ActorSt
   pub opens : MayOpen d x [] after
   pub shows : ShowsActor d (most + 4) a after
 
--- A peer that didn't run and now does has begun by these bytes, order and addresses, over what its disk had.
-abbrev pub BeginsBy : Descriptor → Start → (old new : ActorState) → Type 0
-BeginsBy d start old new =
-    old.running ≡ None → IfSome new.running (λ r. Begins d start (disks.state_of old.disk) (disks.state_of new.disk) r.peer)
+-- A peer that didn't run and now does has begun its next life, over what its disk had.
+abbrev pub BeginsBy : Descriptor → (old new : ActorState) → Type 0
+BeginsBy d old new =
+    old.running ≡ None → IfSome new.running (λ r. Begins d (next_start old) (disks.state_of old.disk) (disks.state_of new.disk) r.peer)
 
 -- What comes in a turn is what a world says.
 abbrev pub Hears : Cue → PeerState → Type 0

@@ -1,13 +1,16 @@
 -- What lasts on the disk of a peer over its sessions.
-use Rattle.std.specs.Prelude.{ℕ, ◌≤◌, List, [], ◌∷◌, length, take}
-use Rattle.std.specs.List.{AllByRecursion}
+use Rattle.std.specs.Prelude.{◌≡◌, ℕ, ◌≤◌, false, List, [], ◌∷◌, length, take}
+use Rattle.std.specs.List.{AllByRecursion, list_any}
 use Rattle.pp_terms.specs.disk.Calls.{Calls, history_of}
 use Rattle.pp_terms.specs.disk.Disk.{History, Throughout, moment_of}
 use Rattle.pp_terms.specs.disk.Sound.{IsSound}
 use Rattle.pp_terms.specs.format.Descriptor.{Descriptor}
 use Rattle.pp_traffic.specs.Keeping.{EachAnnounced, StandsSince}
-use Rattle.pp_world.specs.Session.{Session}
+use Rattle.pp_traffic.specs.Turns.{is_closing}
+use Rattle.pp_world.specs.Knowing.{AllKnowTold}
+use Rattle.pp_world.specs.Session.{Session, last_mark}
 use Rattle.pp_world.specs.Survival.{FindsAnnounced}
+use Rattle.pp_actor.specs.Keeping.{AllKeep, Part}
 
 -- What stood in every image since a moment goes on doing so, and where every image was sound since one, it goes on so.
 pub record KeepsOn (d : Descriptor) (old new : History) : Type 0 where
@@ -34,6 +37,7 @@ disk_before disk s = record disk { done = take s.began.calls disk.done }
 pub record Lasts (d : Descriptor) (disk : Calls) (s : Session) : Type 0 where
   pub began : s.began.calls ≤ length disk.done
   pub opened : s.opened.calls ≤ length disk.done
+  pub marked : (last_mark s).calls ≤ length disk.done
   pub sound : IsSoundNow d (history_of (disk_before disk s))
   pub goes_on : KeepsOn d (history_of (disk_before disk s)) (history_of disk)
   pub announced : EachAnnounced d (HasStood d (history_of disk)) s.traffic
@@ -43,9 +47,18 @@ abbrev pub AllLast : Descriptor → Calls → List Session → Type 0
 AllLast d disk [] = Unit {0}
 AllLast d disk (s ∷ earlier) = Lasts d disk s × AllByRecursion (λ e. FindsAnnounced d disk e s) earlier × AllLast d disk earlier
 
+-- ---- whatever becomes of the disk
+
+-- None of these sessions closed a channel, and each knows what it told and what those before it did.
+pub record AreSettled (d : Descriptor) (sessions : List Session) : Type 0 where
+  pub closes_none : AllByRecursion (λ s. list_any (is_closing d) s.traffic ≡ false) sessions
+  pub knows : AllKnowTold d sessions
+
 -- ---- a peer that doesn't run
 
--- Every image of its disk is sound, and all that its sessions announced stands.
-pub record IsLasting (d : Descriptor) (disk : Calls) (sessions : List Session) : Type 0 where
+-- Every image of its disk is sound, all that its sessions announced stands, and each kept the promise of a run.
+pub record IsLasting (d : Descriptor) (part : Part) (disk : Calls) (sessions : List Session) : Type 0 where
   pub sound : IsSoundNow d (history_of disk)
   pub all : AllLast d disk sessions
+  pub keep : AllKeep d part disk sessions
+  pub settled : AreSettled d sessions

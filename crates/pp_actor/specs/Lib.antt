@@ -1,3 +1,5 @@
+pub mod Starting
+pub mod Keeping
 pub mod Lasting
 pub mod Going
 pub mod Actor

@@ -4,6 +4,7 @@
 mod actor;
 mod life;
 mod memory;
+mod starting;
 
 pub use actor::Actor;
 pub use life::{Life, Remains};

@@ -10,15 +10,16 @@ ghost use Rattle.pp_adapt.specs.UdpState.{UdpState, unbound, with_refused_call, 
 use crate::cause::{Cause, Step};
 use crate::meter::{LinkMeter, Stream, is_terminal, micros_since};
 use libc::net;
+use libc::types::pollfd;
 use pp_outside::{Address, Disk, Event, Link, LinkFault};
 use std::io::{self, ErrorKind};
 use std::marker::Model;
 use std::net::{IpAddr, Ipv4Addr, Ipv6Addr, Net, SocketAddr, UdpSocket};
 use std::os::fd::AsRawFd;
-use std::time::{Clock, Duration, Instant};
+use std::time::{Clock, Instant};
 
-// How long a wait lasts at most behind a datagram, in microseconds. The system rounds it up to a tick of its clock, some milliseconds.
-const BURST_US: u64 = 1_000;
+// How long a short wait lasts at most, in milliseconds.
+const BRISK_MS: i32 = 1;
 
 /// A link over one UDP socket of the system, for peers of the family of the address that it is bound to.
 ///
@@ -44,10 +45,8 @@ pub struct UdpLink<R: Net + Clock + Eprint> {
 struct Bound {
     socket: UdpSocket,
     listen: Address,
-    // for how long a reading waits at most, in microseconds, once that was set
-    limit_us: Option<u64>,
-    // the last wait brought a datagram
-    in_burst: bool,
+    // the next wait is short: the last one brought a datagram, or there was none yet
+    is_brisk: bool,
 }
 
 impl<R: Net + Clock + Eprint> Model for UdpLink<R> {
@@ -161,41 +160,53 @@ fn open(net: &impl Net, listen: &Address) -> io::Result<Bound>
 {
     let socket = UdpSocket::bind(net, socket_of(*listen))?;
     widen(&socket);
+    socket.set_nonblocking(true)?;
     Ok(Bound {
         socket,
         listen: *listen,
-        limit_us: None,
-        in_burst: false,
+        is_brisk: true,
     })
 }
 
 impl Bound {
-    fn limit(&mut self, limit_us: u64) -> io::Result<()>
-        ensures { self.new.listen ≡ self.old.listen }
-    {
-        if self.limit_us != Some(limit_us) {
-            // A limit of 0 would be none.
-            self.socket
-                .set_read_timeout(Some(Duration::from_micros(limit_us.max(1))))?;
-            self.limit_us = Some(limit_us);
-        }
-        Ok(())
+    // Waits until the socket is ready for one of these events, the time is over, or a signal comes. A negative limit is none.
+    fn await_ready(&self, events: i16, limit_ms: i32) {
+        let fd = self.socket.as_raw_fd();
+        net::poll(
+            &mut [pollfd {
+                fd,
+                events,
+                revents: 0,
+            }],
+            limit_ms,
+        );
     }
 
-    // The size and the sender of a datagram, or none where the time was over or a signal came.
+    // The size and the sender of a datagram, or none where none is there or a signal came.
     fn receive(&self, buffer: &mut [u8]) -> io::Result<Option<(usize, SocketAddr)>>
         ensures { IfOk result (λ found. IfSome found (λ pair. pair.0 ≤ length buffer.new)) }
     {
         match self.socket.recv_from(buffer) {
             Ok(found) => Ok(Some(found)),
             Err(e) => match e.kind() {
-                ErrorKind::WouldBlock | ErrorKind::TimedOut | ErrorKind::Interrupted => Ok(None),
+                ErrorKind::WouldBlock | ErrorKind::Interrupted => Ok(None),
                 _ => Err(e),
             },
         }
     }
 
-    // Sends it whole to an address of the same family, again where a signal came.
+    // The same, once it has waited where none is there.
+    fn wait(&self, limit_ms: i32, buffer: &mut [u8]) -> io::Result<Option<(usize, SocketAddr)>>
+        ensures { IfOk result (λ found. IfSome found (λ pair. pair.0 ≤ length buffer.new)) }
+    {
+        if let Some(found) = self.receive(buffer)? {
+            return Ok(Some(found));
+        }
+        self.await_ready(net::POLLIN, limit_ms);
+        self.receive(buffer)
+    }
+
+    // Sends it whole to an address of the same family: again where a signal came, and once there is room where there is none.
     fn send(&self, to: &Address, bytes: &[u8]) -> io::Result<()>
         ensures { OnOk result (IsSameFamily self.now.listen to.now) }
     {
@@ -210,8 +221,11 @@ impl Bound {
             match self.socket.send_to(bytes, receiver) {
                 Ok(n) if n == bytes.len() => return Ok(()),
                 Ok(_) => return Err(ErrorKind::WriteZero.into()),
-                Err(e) if e.kind() == ErrorKind::Interrupted => {}
-                Err(e) => return Err(e),
+                Err(e) => match e.kind() {
+                    ErrorKind::Interrupted => {}
+                    ErrorKind::WouldBlock => self.await_ready(net::POLLOUT, -1),
+                    _ => return Err(e),
+                },
             }
         }
         Err(ErrorKind::TimedOut.into())
@@ -237,11 +251,12 @@ impl<R: Net + Clock + Eprint> UdpLink<R> {
         let Some(bound) = &mut self.bound else {
             return Err(ErrorKind::NotConnected.into());
         };
-        // Behind a datagram the end of the burst is told soon, so that what it brought can be committed.
-        let burst_us = if bound.in_burst { BURST_US } else { u64::MAX };
-        bound.limit(limit_us.min(burst_us))?;
-        let found = bound.receive(buffer)?;
-        bound.in_burst = found.is_some();
+        // Behind a datagram the end of the burst is told soon, so that what it brought can be committed; and the first wait ends soon, so
+        // that a peer dials at once.
+        let most_ms = if bound.is_brisk { BRISK_MS } else { i32::MAX };
+        let limit_ms = limit_us.div_ceil(1_000).min(most_ms as u64) as i32;
+        let found = bound.wait(limit_ms, buffer)?;
+        bound.is_brisk = found.is_some();
         let now = micros_since(&self.system, &self.made)?;
         // The system's clock never falls; this doesn't rest on it.
         self.moment = self.moment.max(now);
@@ -302,8 +317,8 @@ impl<R: Net + Clock + Eprint> Link for UdpLink<R> {
         }
     }
 
-    /// A wait that a signal cut short brought no datagram, and one behind a datagram ends after some milliseconds: a burst is
-    /// over then. `at` is in microseconds since the link was made, and never falls.
+    /// A wait that a signal cut short brought no datagram, and one behind a datagram ends after a millisecond: a burst is
+    /// over then. So does the first one. `at` is in microseconds since the link was made, and never falls.
     fn next(&mut self, limit_us: u64, buffer: &mut [u8]) -> Result<Event, LinkFault>
         requires { 65536 ≤ length buffer.old }
         ensures does { DoesNext (silent_link self.old) buffer.new result (silent_link self.new) }

@@ -1,10 +1,12 @@
 -- The best of several chunks.
-use Rattle.std.proofs.Common.{◌≡◌, ◌≢◌, ◌==◌, ◌⊎◌, ⊎_elim, ℕ, ◌<◌, ◌≤◌, Bool, true, false, ◌&&◌, List, [], length, Option, None, Some, sym, ◌∙◌, ap, subst, arith, slice_index_or}
+use Rattle.std.proofs.Common.{◌≡◌, ◌≢◌, ◌==◌, ◌⊎◌, inl, inr, ⊎_elim, ℕ, ◌+◌, ◌<◌, ◌≤◌, Bool, true, false, ◌&&◌, List, [], length, Option, None, Some, sym, ◌∙◌, ap, subst, arith, slice_index_or}
 use Rattle.std.specs.Prelude.{MatchOption}
-use Rattle.std.proofs.lemmas.Bool.{cases_lt, eqb-true, eq-eqb, and_parts, false_from_ne_true, and_from}
+use Rattle.std.proofs.lemmas.Bool.{cases_lt, cases_eq, eqb-true, eq-eqb, and_parts, false_from_ne_true, and_from}
 use Rattle.pp_terms.proofs.Facts.{member_below}
 use Rattle.pp_tree.specs.Sets.{is_in_all}
 use Rattle.pp_avail.specs.declared.ranker.Rank.{Rank}
+use Rattle.pp_avail.specs.declared.ranker.Rank.TheVariants.{Sequential, Rarest, Blocks}
+use Rattle.pp_avail.specs.Ranks.{rank_of}
 use Rattle.pp_avail.specs.declared.choice.Choice.{Choice}
 use Rattle.pp_avail.specs.Offers.{Offers, has, copies}
 use Rattle.pp_avail.specs.Picks.{is_candidate, rank_in, Precedes, IsLeast, IsPick}
@@ -43,6 +45,20 @@ better kind o seat wanted Before Now (Some b) choice result is best first covers
       (λ after. along result.rank result.chunk choice.rank choice.chunk (rank_in kind o j) j first.1 after)
       (covers j candidate now);
 }
+
+-- among chunks of as many copies the rank never falls with the number
+pub rising : (kind : Rank) (copies i j : ℕ) → i ≤ j → Precedes (rank_of kind i copies) i (rank_of kind j copies) j
+rising Sequential copies i j le = (omega arith, λ _. le)
+rising Rarest copies i j le = (omega arith, λ _. le)
+rising Blocks copies i j le = (omega (arith, le), λ _. le)
+
+-- The first chunk of so many copies comes before all of as many, and those of fewer are counted already.
+pub covered : (kind : Rank) (o : Offers) (fewer i j : ℕ) → (copies o j ≡ fewer + 1 → i ≤ j) → (0 < copies o j) × (copies o j ≤ fewer + 1)
+    → ((0 < copies o j) × (copies o j ≤ fewer)) ⊎ Precedes (rank_of kind i (fewer + 1)) i (rank_in kind o j) j
+covered kind o fewer i j first counted = ⊎_elim
+    (λ here. inr (subst (λ (n : ℕ). Precedes (rank_of kind i (fewer + 1)) i (rank_of kind j n) j) (sym here) (rising kind (fewer + 1) i j (first here))))
+    (λ other. inl (counted.0, omega (arith, counted.1, other)))
+    (cases_eq (copies o j) (fewer + 1))
 
 -- what is picked once all candidates are counted
 pub picked : (kind : Rank) (o : Offers) (seat : ℕ) (wanted : List Bool) (Counts : ℕ → Type 0) (rank i : ℕ)

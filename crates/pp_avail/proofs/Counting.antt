@@ -6,7 +6,7 @@ use Rattle.std.specs.Int.{bit_at, bit_not}
 use Rattle.std.proofs.lemmas.Nat.Bits.{bit_at_and, bit_at_not, bit_at-lt}
 use Rattle.std.proofs.lemmas.List.{length-set, length-replicate, get_or-set_same, get_or-set_other, get_or-replicate, get_or_past, get_or_default}
 use Rattle.std.proofs.lemmas.List.Sums.{sum_by-set, sum_by-cons, count_by-le-length}
-use Rattle.std.proofs.lemmas.Bool.{cases_eq, cases_lt, eq-eqb, ne_eqb, eqb-true, eqb-false, and_parts, not-true, false_from_ne_true, both_ways, and_right}
+use Rattle.std.proofs.lemmas.Bool.{cases_eq, cases_lt, eq-eqb, ne_eqb, eqb-true, eqb-false, and_parts, not-true, false_from_ne_true, both_ways}
 use Rattle.std.proofs.lemmas.Bool.Decides.{nat_tests}
 use Rattle.std.proofs.Math.Bool.{or-false}
 use Rattle.pp_tree.specs.Bits.{bit_of}
@@ -222,18 +222,18 @@ filled_none true t i first last = refl
 filled_none false false i first last = refl
 filled_none false true i first last = grind (arith, nat_tests)
 
-pub filled_more : (old cur new t inside : Bool) (q w : ℕ) → cur ≡ (old || (t && (inside && nat_lt q w))) → new ≡ (cur || (t && (q == w && inside)))
-    → new ≡ (old || (t && (inside && nat_lt q (w + 1))))
-filled_more true cur new t inside q w now then = then ∙ ap (λ (b : Bool). b || (t && (q == w && inside))) now
-filled_more false cur new false inside q w now then = then ∙ ap (λ (b : Bool). b || false) now
-filled_more false cur new true false q w now then = then ∙ ap (λ (b : Bool). b || (q == w && false)) now ∙ and_right (q == w) false refl
-filled_more false cur new true true q w now then = grind (arith, nat_tests)
+pub filled_more : (old cur new : Bool) (s seat i first last next w : ℕ) → next ≤ w
+    → cur ≡ (old || (s == seat && ((nat_le first i && nat_le i last) && nat_lt (i / 64) next)))
+    → new ≡ (cur || (s == seat && (i / 64 == w && (nat_le first i && nat_le i last))))
+    → (s ≡ seat → next ≤ i / 64 → i / 64 < w → i ≤ last → cur ≡ true)
+    → new ≡ (old || (s == seat && ((nat_le first i && nat_le i last) && nat_lt (i / 64) (w + 1))))
+filled_more old cur new s seat i first last next w up now then between = grind (arith, nat_tests)
 
-pub filled_all : (old t : Bool) (i first last w : ℕ) → last / 64 < w
-    → (old || (t && ((nat_le first i && nat_le i last) && nat_lt (i / 64) w))) ≡ (old || (t && (nat_le first i && nat_le i last)))
-filled_all true t i first last w past = refl
-filled_all false false i first last w past = refl
-filled_all false true i first last w past = grind (arith, nat_tests)
+pub filled_all : (old cur : Bool) (s seat i first last next : ℕ)
+    → cur ≡ (old || (s == seat && ((nat_le first i && nat_le i last) && nat_lt (i / 64) next)))
+    → (s ≡ seat → next ≤ i / 64 → i / 64 ≤ last / 64 → i ≤ last → cur ≡ true)
+    → cur ≡ (old || (s == seat && (nat_le first i && nat_le i last)))
+filled_all old cur s seat i first last next now rest = grind (arith, nat_tests)
 
 -- which numbers of a word lie in the part of a range
 pub part_bit : (w first last low high i : ℕ) → first / 64 ≤ w → w ≤ last / 64 → first ≤ last
@@ -309,6 +309,20 @@ next_of_seat o seat from row marks (Some w) is size are first = (
   first.0,
   omega (arith, are.inside w first.1, ap (λ (n : ℕ). words_for n) size),
   (λ i low high. unmarked_chunk o seat i row marks is are (first.2 (i / 64) low high)),
+)
+
+-- a seat's next word that lacks a chunk
+pub lacking_of_seat : (o : Offers) (seat from to : ℕ) (row : List Bool) (result : Option ℕ) → row ≡ slice_index_or o.seats seat [] → length row ≡ o.chunks
+    → MatchOption result ((i : ℕ) → from ≤ i / 64 → i / 64 ≤ to → i < length row → slice_index_or row i false ≡ true)
+    (λ w. (from ≤ w) × (w ≤ to) × ((i : ℕ) → from ≤ i / 64 → i / 64 < w → i < length row → slice_index_or row i false ≡ true))
+    → MatchOption result ((i : ℕ) → from ≤ i / 64 → i / 64 ≤ to → i < o.chunks → has o seat i ≡ true)
+    (λ w. (from ≤ w) × (w ≤ to) × ((i : ℕ) → from ≤ i / 64 → i / 64 < w → i < o.chunks → has o seat i ≡ true))
+lacking_of_seat o seat from to row None is size full = λ i low high inside.
+    ap (λ (xs : List Bool). slice_index_or xs i false) (sym is) ∙ full i low high (omega (arith, inside, size))
+lacking_of_seat o seat from to row (Some w) is size first = (
+  first.0,
+  first.1,
+  (λ i low high inside. ap (λ (xs : List Bool). slice_index_or xs i false) (sym is) ∙ first.2 i low high (omega (arith, inside, size))),
 )
 
 -- no seat offers anything, and nothing is counted

@@ -12,8 +12,8 @@ pub record IsLevelAt (levels : List (List Bool)) (w : ℕ) (planes : Planes) (fe
   pub some : (k : ℕ) → k < 64 → number_at planes k ≡ fewer + 1 → is_in levels fewer w ≡ true
   pub none : ((k : ℕ) → k < 64 → number_at planes k ≢ fewer + 1) → is_in levels fewer w ≡ false
 
--- The planes of so many words hold numbers up to 64, and of 64 rows the first has the words with a 1, the next those with a 2,
--- and so on.
+-- The planes of so many words hold numbers up to 64, and of 64 rows the first has the words with a 1, the
+-- next those with a 2, and so on.
 pub record IsLevelled (planes : List Planes) (levels : List (List Bool)) : Type 0 where
   pub small : length planes < 2 ^ 26
   pub width : length levels ≡ 64

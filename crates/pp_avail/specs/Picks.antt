@@ -15,7 +15,7 @@ rank_in kind o i = rank_of kind i (copies o i)
 abbrev pub Precedes : ℕ → ℕ → ℕ → ℕ → Type 0
 Precedes rank i other j = (rank ≤ other) × (rank ≡ other → i ≤ j)
 
--- It is a candidate, and has the least rank and number of those candidates that are counted.
+-- The chunk is a candidate, and has the least rank and number of those candidates that are counted.
 pub record IsLeast (kind : Rank) (o : Offers) (seat : ℕ) (wanted : List Bool) (Counts : ℕ → Type 0) (rank i : ℕ) : Type 0 where
   pub inside : i < o.chunks
   pub candidate : is_candidate o seat wanted i ≡ true

@@ -100,7 +100,8 @@ impl Avail {
         self.counts.of(i as usize)
     }
 
-    /// A seat offers the chunks of a range, which lies in the content; of no chunks, nothing is kept.
+    /// A seat offers the chunks of a range, which lies in the content; of no chunks, nothing is kept. Where it
+    /// offers all of them already, that costs no more than a step for every 4,096 chunks of the content, at most 256.
     pub fn offer(&mut self, seat: u8, range: ChunkRange)
         requires seat { seat < 64 }
         requires inside { 0 < self.old.chunks → range.last < self.old.chunks }
@@ -122,9 +123,22 @@ impl Avail {
         ensures chunks { self.new.chunks ≡ self.old.chunks }
         ensures seats { (s i : ℕ) → offers.has self.new s i ≡ (offers.has self.old s i || (s == seat && (nat_le first i && nat_le i last))) }
     {
-        for w in first / 64..last / 64 + 1 {
+        let to = last / 64;
+        let mut next = first / 64;
+        while let Some(w) = self.next_lacking(seat, next, to) {
             self.add(seat, w, part(w, first, last));
+            next = w + 1;
         }
+    }
+
+    // The least word from one to another of which a seat doesn't offer all chunks.
+    fn next_lacking(&self, seat: u8, from: usize, to: usize) -> Option<usize>
+        requires { seat < 64 }
+        ensures { MatchOption result ((i : ℕ) → from ≤ i / 64 → i / 64 ≤ to → i < self.now.chunks → offers.has self.now seat i ≡ true)
+            (λ w. (from ≤ w) × (w ≤ to)
+            × ((i : ℕ) → from ≤ i / 64 → i / 64 < w → i < self.now.chunks → offers.has self.now seat i ≡ true)) }
+    {
+        self.seats[seat as usize].next_lacking(from, to)
     }
 
     // A seat offers some chunks of one word.

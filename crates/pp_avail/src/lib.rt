@@ -12,4 +12,4 @@ mod row;
 
 pub use avail::Avail;
 pub use picks::pick;
-pub use ranker::{Rank, Ranker, Rule};
+pub use ranker::{Rank, Ranker, Rule, by_blocks};

@@ -1,6 +1,7 @@
 // Rules by which a chunk is chosen.
 ghost use Rattle.std.specs.Prelude.{◌≡◌, ℕ, ◌^◌, ◌<◌, ◌≤◌};
 ghost use Rattle.pp_avail.specs.Ranks.{rank_of, Follows};
+ghost use Rattle.pp_avail.specs.declared.ranker.Rank.TheVariants.{Blocks};
 
 /// The kinds of rules.
 #[derive(Clone, Copy, PartialEq, Eq, Debug, Drop)]
@@ -9,6 +10,9 @@ pub enum Rank {
     Sequential,
     /// A chunk's rank is the number of seats that have it.
     Rarest,
+    /// Blocks of 1,024 chunks come in the order of their numbers, and in a block those chunks come first that the fewest seats
+    /// have, 63 and more counted alike. A rank is at most 65,535.
+    Blocks,
 }
 
 /// What ranks chunks, by the number of a chunk and of the seats that have it.
@@ -28,6 +32,14 @@ fn ask(rule: Rule, i: u32, copies: u32) -> u32
     ensures { Rule.post rule i copies result }
 {
     rule(i, copies)
+}
+
+/// The rule of `Rank::Blocks`. Of a chunk below 2^20 it gives at most 65,535.
+pub fn by_blocks(i: u32, copies: u32) -> u32
+    ensures value { result ≡ rank_of Blocks i copies }
+    ensures range { i < 2 ^ 20 → result < 2 ^ 16 }
+{
+    i / 1024 * 64 + copies.min(63)
 }
 
 impl Ranker {

@@ -39,7 +39,9 @@ pub mod Judging
 pub mod Arriving
 pub mod Claiming
 pub mod Proven
+pub mod Brought
 pub mod Promised
+pub mod Shipping
 pub mod Steadily
 pub mod Named
 pub mod Askable

@@ -13,7 +13,7 @@ use Rattle.pp_traffic.specs.Past.{now}
 use Rattle.pp_traffic.specs.Life.{Life}
 use Rattle.pp_traffic.specs.Story.{Line, hear}
 use Rattle.pp_promises.specs.ReadStory.{proven_story}
-use Rattle.pp_promises.specs.Stored.{met_before}
+use Rattle.pp_promises.specs.Stored.{BringsChunk}
 use Rattle.pp_promises.proofs.Growth.{contradictions_stay}
 use Rattle.pp_outside.specs.Arrivals.{IsEvent}
 use Rattle.pp_outside.specs.Outside.{address_of, record_of}
@@ -48,7 +48,7 @@ use Rattle.pp_core.proofs.Arriving.{on_its_seat}
 use Rattle.pp_core.proofs.Claiming.{HasRoom, ClaimsAt}
 use Rattle.pp_core.proofs.Deciding.{contradicts_or_not}
 use Rattle.pp_core.proofs.Judging.{proven_judged, proven_within}
-use Rattle.pp_core.proofs.Proven.{front_heard, EachSteady, ComesAt, HasBegun, comes_behind, none_claimed}
+use Rattle.pp_core.proofs.Proven.{front_heard, EachSteady, ComesAt, HasBegun, begun_first, comes_behind, none_claimed}
 
 -- ---- the path of the datagram
 
@@ -150,11 +150,11 @@ begun_room d slot before after begun = shown_room begun.mid after begun.shown �
 -- Where the chunk comes, the book contradicts what its climbs meet, or the chunk is held.
 chunk_judged : (d : Descriptor) (seat : ℕ) (store : StoreState) (i sent_at : ℕ) (bytes : List ℕ) (story : List Line) (first : HoldingState)
     (last : Parts)
-    → ComesAt d seat store (Data i sent_at bytes) story first last → IsDescriptor d → Proves d (traffic.claimed (chunks_of d) story) i bytes
-    → (book : LookUp)
-    → KeepsEntries (entry first.book) book → KeepsEntries (entry last.holding.book) book
+    → (c : ComesAt d seat store (Data i sent_at bytes) story first last) → IsDescriptor d
+    → Proves d (traffic.claimed (chunks_of d) story) i bytes
+    → (book : LookUp) → KeepsEntries (entry c.at.holding.book) book
     → (is_held store i ≡ true) ⊎ Contradicts book (met d (traffic.claimed (chunks_of d) story) i bytes)
-chunk_judged d seat store i sent_at bytes story first last c is proof book from_first from_last = ⊎_elim
+chunk_judged d seat store i sent_at bytes story first last c is proof book keeps = ⊎_elim
     (λ against. inr (contradictions_stay (entry c.at.holding.book) book (met d known i bytes) keeps against))
     (λ none. inl (c.holds (record { proven = c.claims.proven; judged_fit = fit none })))
     (contradicts_or_not d (entry c.at.holding.book) known i bytes)
@@ -170,12 +170,6 @@ chunk_judged d seat store i sent_at bytes story first last c is proof book from_
 
     swarm : d ≡ at.store.descriptor
     swarm = sym c.steady.swarm
-
-    keeps : KeepsEntries (entry c.at.holding.book) book
-    keeps = ⊎_elim
-        (λ same. subst (λ (h : HoldingState). KeepsEntries (entry h.book) book) (sym same) from_first)
-        (λ kept k j x here. from_last k j x (kept k j x here))
-        c.keeps
 
     fit : (Contradicts (entry c.at.holding.book) (met d known i bytes) → ⊥)
         → IsJudgedFit at (latest (claims_in (slice_get c.at.seats.seats seat))) i bytes
@@ -199,12 +193,20 @@ pub record TakesSteadily (d : Descriptor) (event : Event) (bytes : List ℕ) (ol
 pub if_some : (P : Path → Type 0) (o : Option Path) (path : Path) → o ≡ Some path → IfSome o P → P path
 if_some P o path is h = subst (λ (x : Option Path). IfSome x P) is h
 
+-- A message came behind others, and the new book has the entries of the one that it met.
+pub record ComesBy (d : Descriptor) (past : List Record) (life : Life) (came : Record) (front : List Message) (m : Message) (old new : Parts) : Type 0 where
+  pub seat : ℕ
+  pub last : Parts
+  pub comes : ComesAt d seat new.holding.store m (hear (now (came ∷ past)) front (proven_story d life past)) old.holding last
+  pub keeps : KeepsEntries (entry comes.at.holding.book) (entry new.holding.book)
+
 module _ (b : Beginning) (most : ℕ) (past : List Record) (bytes : List ℕ) (old new : Parts)
     (stands : StandsFor b most old past) where
-  datagram_proved : (sender : Address) (len stamp : ℕ) (stores : StoresWhatFits (events.Datagram sender len stamp) bytes old new)
-      → TakesSteadily b.d (events.Datagram sender len stamp) bytes old new stores
-      → StoresIn b.d (entry new.holding.book) new.holding.store past (Received stamp (address_of sender) bytes)
-  datagram_proved sender len stamp stores takes life i text brings proof = ⊎_elim
+  datagram_comes : (sender : Address) (len stamp : ℕ) (stores : StoresWhatFits (events.Datagram sender len stamp) bytes old new)
+      → TakesSteadily b.d (events.Datagram sender len stamp) bytes old new stores → (life : Life) (i : ℕ) (text : List ℕ)
+      → (brings : BringsChunk b.d life past (Received stamp (address_of sender) bytes) i text)
+      → ComesBy b.d past life (Received stamp (address_of sender) bytes) brings.front (Data i brings.sent_at text) old new
+  datagram_comes sender len stamp stores takes life i text brings = ⊎_elim
       (λ heard. on_path_of heard.has.seat heard.long
       (heard_path t.arrival sender bytes t.slot t.mid mid t.hears heard.has.seat heard.is)
       (λ p same. shown_claims b most stands.known_of old.seats t.mid.seats past stands.seats life heard.has
@@ -230,15 +232,12 @@ module _ (b : Beginning) (most : ℕ) (past : List Record) (bytes : List ℕ) (o
       came : Record
       came = Received stamp (address_of sender) bytes
 
-      story : List Line
-      story = hear (now (came ∷ past)) brings.front (proven_story b.d life past)
-
       kept : (o : HoldingState) → new.holding.book ≡ o.book → KeepsEntries (entry o.book) (entry new.holding.book)
       kept o same = subst (λ (x : BookState). KeepsEntries (entry x) (entry new.holding.book)) same (λ k j x here. here)
 
       on_path_of : (seat : ℕ) → 4 ≤ length bytes → IsPathOn seat bytes (path_heard t.arrival sender bytes t.slot t.mid mid t.hears) t.mid
           → ((p : Parts) → p.seats ≡ t.mid.seats → ClaimsAt seat (chunks_of b.d) (proven_story b.d life past) p)
-          → (is_held new.holding.store i ≡ true) ⊎ Contradicts (entry new.holding.book) (met_before b.d life came past brings.front i text)
+          → ComesBy b.d past life came brings.front (Data i brings.sent_at text) old new
       on_path_of seat long on claims =
           let path = on.path in
           let ends = if_some (λ path. Ends path old mid) (path_of (events.Datagram sender len stamp) bytes old mid t) path on.is
@@ -256,16 +255,38 @@ module _ (b : Beginning) (most : ℕ) (past : List Record) (bytes : List ℕ) (o
           (if_some (λ path. EachSteady b.d path.seat path.messages path.first path.last path.in_turn)
           (path_of (events.Datagram sender len stamp) bytes old mid t) path on.is takes.steady)
           (subst (λ (k : ℕ). ClaimsAt k (chunks_of b.d) (proven_story b.d life past) path.first) (sym on.seat_is) (claims path.first on.seats))
-          (inl ends.begins) in
-          chunk_judged b.d path.seat new.holding.store i brings.sent_at text story old.holding path.last comes takes.valid proof
-          (entry new.holding.book)
-          takes.entries (kept path.last.holding (stores.absorbs.book ∙ ap (λ (h : HoldingState). h.book) ends.holding))
+          (begun_first old.holding path.first.holding ends.begins) in
+          record {
+            seat = path.seat;
+            last = path.last;
+            comes = comes;
+            keeps = keeps_then comes.at.holding path.last.holding comes.keeps
+                (kept path.last.holding (stores.absorbs.book ∙ ap (λ (h : HoldingState). h.book) ends.holding));
+          }
+        where
+          keeps_then : (at last : HoldingState) → (at ≡ old.holding) ⊎ KeepsEntries (entry at.book) (entry last.book)
+              → KeepsEntries (entry last.book) (entry new.holding.book) → KeepsEntries (entry at.book) (entry new.holding.book)
+          keeps_then at last (inl same) from_last =
+              subst (λ (h : HoldingState). KeepsEntries (entry h.book) (entry new.holding.book)) (sym same) takes.entries
+          keeps_then at last (inr to_last) from_last = λ k j x here. from_last k j x (to_last k j x here)
 
-  -- what an event brings is stored as is promised
+  -- what an event brings comes along a path
+  pub event_comes : (event : Event) → IsEvent event bytes → (stores : StoresWhatFits event bytes old new)
+      → TakesSteadily b.d event bytes old new stores → (life : Life) (i : ℕ) (text : List ℕ)
+      → (brings : BringsChunk b.d life past (record_of event bytes) i text)
+      → ComesBy b.d past life (record_of event bytes) brings.front (Data i brings.sent_at text) old new
+  event_comes (events.Datagram sender len stamp) fits stores takes =
+      subst (λ (r : Record). (life : Life) (i : ℕ) (text : List ℕ) → (brings : BringsChunk b.d life past r i text)
+      → ComesBy b.d past life r brings.front (Data i brings.sent_at text) old new)
+      (sym (datagram_is (events.Datagram sender len stamp) bytes sender len stamp refl fits))
+      (datagram_comes sender len stamp stores takes)
+  event_comes (events.Quiet stamp) fits stores takes = λ life i text brings. absurd (let never = brings.comes in cc)
+
+  -- and is stored as is promised
   pub event_proved : (event : Event) → IsEvent event bytes → (stores : StoresWhatFits event bytes old new)
       → TakesSteadily b.d event bytes old new stores → StoresIn b.d (entry new.holding.book) new.holding.store past (record_of event bytes)
-  event_proved (events.Datagram sender len stamp) fits stores takes =
-      subst (λ (r : Record). StoresIn b.d (entry new.holding.book) new.holding.store past r)
-      (sym (datagram_is (events.Datagram sender len stamp) bytes sender len stamp refl fits))
-      (datagram_proved sender len stamp stores takes)
-  event_proved (events.Quiet stamp) fits stores takes = λ life i text brings proof. absurd (let never = brings.comes in cc)
+  event_proved event fits stores takes = λ life i text brings proof.
+      let by = event_comes event fits stores takes life i text brings in
+      chunk_judged b.d by.seat new.holding.store i brings.sent_at text
+      (hear (now (record_of event bytes ∷ past)) brings.front (proven_story b.d life past)) old.holding by.last by.comes takes.valid proof
+      (entry new.holding.book) by.keeps

@@ -1,5 +1,5 @@
 -- The path of a datagram of a plain channel, and what is claimed where each of its messages comes.
-use Rattle.std.proofs.Common.{◌≡◌, ◌⊎◌, inl, inr, ⊎_elim, ℕ, ◌^◌, ◌<◌, ◌≤◌, leb, eqb, Bool, true, false, cond, ◌&&◌, Some, List, [], ◌∷◌, ◌++◌, length, refl, sym, ◌∙◌, ap, arith}
+use Rattle.std.proofs.Common.{◌≡◌, ◌⊎◌, inl, inr, ⊎_elim, ℕ, ◌^◌, ◌<◌, ◌≤◌, leb, eqb, Bool, true, false, cond, ◌&&◌, Some, List, [], ◌∷◌, ◌++◌, length, refl, sym, ◌∙◌, ap, subst, arith}
 use Rattle.std.specs.Prelude.{slice_get, ◌==◌}
 use Rattle.std.specs.Option.{option_or}
 use Rattle.std.proofs.lemmas.Bool.{or_parts, le-leb}
@@ -14,7 +14,7 @@ use Rattle.pp_traffic.specs.Claims as traffic
 use Rattle.pp_promises.specs.ReadStory.{with_unread, proven_story}
 use Rattle.sha2.specs.Sha256.{sha256}
 use Rattle.pp_terms.specs.tree.Book.{LookUp, IsRooted}
-use Rattle.pp_terms.specs.tree.Claims.{latest}
+use Rattle.pp_terms.specs.tree.Claims.{Claim, latest}
 use Rattle.pp_terms.specs.tree.Content.{chunk_length}
 use Rattle.pp_paths.specs.declared.judging.Verdict.{Verdict}
 use Rattle.pp_paths.specs.declared.judging.Verdict.TheVariants as verdicts
@@ -26,8 +26,9 @@ use Rattle.pp_paths.specs.Settle.{settled, path_of_peaks}
 use Rattle.pp_store.specs.Answer.{peaked, with_path, with_peaks, put_learned}
 use Rattle.pp_store.specs.Store.{StoreState, is_held}
 use Rattle.pp_holding.specs.Holding.{HoldingState}
+use Rattle.pp_holding.specs.declared.queue.Ticket.{Ticket}
 use Rattle.pp_peer.specs.declared.parts.Parts.{Parts}
-use Rattle.pp_peer.specs.Messages.{is_proven_in, Does, InTurn, before_close}
+use Rattle.pp_peer.specs.Messages.{is_proven_in, Puts, Does, InTurn, before_close}
 use Rattle.pp_core.specs.Storing.{HoldsIfFit, HoldsFitting}
 use Rattle.pp_core.proofs.Storing.{does_keep, in_turn_keeps}
 use Rattle.pp_core.proofs.Claiming.{HasRoom, ClaimsAt, does_claims}
@@ -83,24 +84,37 @@ learned_keeps false d book claims i bytes k j digest at =
     by false = at
 
 -- The store may be written to, and the book has the entries.
-record IsLater (book : LookUp) (h : HoldingState) : Type 0 where
-  live : h.store.live ≡ true
-  keeps : KeepsEntries book (entry h.book)
+pub record IsLater (book : LookUp) (h : HoldingState) : Type 0 where
+  pub live : h.store.live ≡ true
+  pub keeps : KeepsEntries book (entry h.book)
+
+-- so it is after a put
+put_later : (book : LookUp) (ticket : Ticket) (bytes : List ℕ) (claims : List Claim) (old new : Parts) → Puts ticket bytes claims old new
+    → IsLater book old.holding → IsLater book new.holding
+put_later book ticket bytes claims old new puts later = record {
+  live = puts.live;
+  keeps = λ k j digest at. puts.learned later.live k j
+      ∙ learned_keeps (is_held old.holding.store ticket.chunk) old.holding.store.descriptor (entry old.holding.book)
+      (latest claims) ticket.chunk bytes k j digest
+      (later.keeps k j digest at);
+}
 
 path_entries : (seat : ℕ) (ms : List Message) (old new : Parts) → InTurn seat ms old new → old.holding.store.live ≡ true
     → KeepsEntries (entry old.holding.book) (entry new.holding.book)
 path_entries seat ms old new in_turn live =
-    (in_turn_keeps (IsLater (entry old.holding.book)) (λ ticket bytes claims mid after puts later. record {
-      live = puts.live;
-      keeps = λ k j digest at. puts.learned later.live k j
-          ∙ learned_keeps (is_held mid.holding.store ticket.chunk) mid.holding.store.descriptor (entry mid.holding.book)
-          (latest claims) ticket.chunk bytes k j digest
-          (later.keeps k j digest at);
-    }) seat ms old new in_turn (record { live = live; keeps = λ k j digest at. at })).keeps
+    (in_turn_keeps (IsLater (entry old.holding.book)) (put_later (entry old.holding.book)) seat ms old new in_turn
+    (record { live = live; keeps = λ k j digest at. at })).keeps
 
--- it is the first holding still, or its store may be written to
-abbrev pub HasBegun : HoldingState → HoldingState → Type 0
-HasBegun first h = (h ≡ first) ⊎ (h.store.live ≡ true)
+-- It is the first holding still, or its store may be written to; and where the first one's may, the book has the entries of the first one's.
+pub record HasBegun (first h : HoldingState) : Type 0 where
+  pub begun : (h ≡ first) ⊎ (h.store.live ≡ true)
+  pub later : first.store.live ≡ true → IsLater (entry first.book) h
+
+pub begun_first : (first h : HoldingState) → h ≡ first → HasBegun first h
+begun_first first h same = record {
+  begun = inl same;
+  later = λ live. subst (IsLater (entry first.book)) (sym same) (record { live = live; keeps = λ k j digest at. at });
+}
 
 -- ---- along the path
 
@@ -137,7 +151,8 @@ module _ (d : Descriptor) (seat : ℕ)
       let here : Steady d seat m old = record { room = of.room; swarm = of.swarm; rooted = rooted m old in_turn.0 in_turn.1 of } in
       (here, each_steady ms in_turn.0 new in_turn.2 (keeps m old in_turn.0 in_turn.1 here))
 
--- Where a message comes, the claims are those of the story so far, and the book is that of the first state, or keeps its entries.
+-- Where a message comes, the claims are those of the story so far, and the book is that of the first state, or the last one keeps its
+-- entries; where the first store may be written to, the book has the entries of the first.
 pub record ComesAt (d : Descriptor) (seat : ℕ) (store : StoreState) (m : Message) (story : List Line) (first : HoldingState)
     (last : Parts) : Type 0 where
   pub at : Parts
@@ -145,6 +160,7 @@ pub record ComesAt (d : Descriptor) (seat : ℕ) (store : StoreState) (m : Messa
   pub claims : ClaimsAt seat (chunks_of d) story at
   pub steady : Steady d seat m at
   pub keeps : (at.holding ≡ first) ⊎ KeepsEntries (entry at.holding.book) (entry last.holding.book)
+  pub grows : first.store.live ≡ true → KeepsEntries (entry first.book) (entry at.holding.book)
 
 pub comes_behind : (d : Descriptor) (seat moment : ℕ) (store : StoreState) (m : Message) (front rest : List Message) (story : List Line)
     (first : HoldingState) (old new : Parts)
@@ -156,12 +172,16 @@ comes_behind d seat moment store m [] rest story first old new in_turn most hold
   holds = holds.0;
   claims = claims;
   steady = steady.0;
-  keeps = ⊎_elim (λ same. inl same) (λ live. inr (path_entries seat (m ∷ rest) old new in_turn live)) begun;
+  keeps = ⊎_elim (λ same. inl same) (λ live. inr (path_entries seat (m ∷ rest) old new in_turn live)) begun.begun;
+  grows = λ live. (begun.later live).keeps;
 }
 comes_behind d seat moment store m (f ∷ front) rest story first old new in_turn most holds steady claims begun =
     comes_behind d seat moment store m front rest (Heard moment f ∷ story) first in_turn.0 new in_turn.2 most holds.1 steady.1
     (does_claims seat (chunks_of d) moment f story old in_turn.0 most steady.0.room in_turn.1 claims)
-    (does_keep (HasBegun first) (λ ticket bytes claims old new puts begun'. inr puts.live) seat f old in_turn.0 in_turn.1 begun)
+    (does_keep (HasBegun first) (λ ticket bytes claims before after puts was. record {
+      begun = inr puts.live;
+      later = λ live. put_later (entry first.book) ticket bytes claims before after puts (was.later live);
+    }) seat f old in_turn.0 in_turn.1 begun)
 
 -- ---- before a reply
 

@@ -1,5 +1,5 @@
 -- Along a path all stays of the content: each message keeps of how many chunks a seat is, and each put of what content the store is.
-use Rattle.std.proofs.Common.{◌≡◌, ◌⊎◌, inl, inr, ⊎_elim, ℕ, ◌<◌, Bool, false, Option, List, refl, sym, ◌∙◌, ap, subst, Some, None}
+use Rattle.std.proofs.Common.{◌≡◌, ◌⊎◌, inl, inr, ⊎_elim, ℕ, ◌<◌, Bool, true, false, Option, List, refl, sym, ◌∙◌, ap, subst, Some, None}
 use Rattle.std.specs.Prelude.{slice_get, IfSome}
 use Rattle.std.proofs.lemmas.Bool.{cases_Bool}
 use Rattle.std.proofs.lemmas.Option.{same_Some}
@@ -8,8 +8,10 @@ use Rattle.pp_terms.specs.format.Traffic.{Record}
 use Rattle.pp_outside.specs.Arrivals.{IsEvent}
 use Rattle.pp_outside.specs.Outside.{record_of}
 use Rattle.pp_paths.specs.Judge.{KeepsEntries}
+use Rattle.pp_complete.specs.Shipped.{StoresShipped}
+use Rattle.pp_store.specs.Store.{is_held}
 use Rattle.pp_peer.specs.Standing.{Beginning, StandsFor}
-use Rattle.pp_core.specs.Storing.{StoresWhatFits, StoresIn}
+use Rattle.pp_core.specs.Storing.{StoresWhatFits, StoresIn, CommitsTold}
 use Rattle.pp_terms.specs.format.Messages.{Message, Data, Ack, Have, Integrity, Request, Cancel, Choke, Unchoke}
 use Rattle.pp_terms.specs.tree.Book.{IsRooted}
 use Rattle.pp_terms.specs.tree.Claims.{Claim}
@@ -21,7 +23,7 @@ use Rattle.pp_outside.specs.declared.link.Event.{Event}
 use Rattle.pp_outside.specs.declared.link.Event.TheVariants as events
 use Rattle.pp_lives.specs.declared.arriving.Arrival.{Arrival}
 use Rattle.pp_lives.specs.declared.arriving.Arrival.TheVariants as arrivals
-use Rattle.pp_holding.specs.Holding.{HoldingState}
+use Rattle.pp_holding.specs.Holding.{HoldingState, AreTied}
 use Rattle.pp_holding.specs.declared.queue.Ticket.{Ticket}
 use Rattle.pp_plan.specs.Told.{ToldNodes}
 use Rattle.pp_seat.specs.Lines.{inside}
@@ -37,7 +39,8 @@ use Rattle.pp_core.proofs.Paths.{seat_after, heeded_beside, data_or_other}
 use Rattle.pp_core.proofs.Storing.{proven_same, does_keep}
 use Rattle.pp_core.proofs.Claiming.{HasRoom, data_seats}
 use Rattle.pp_core.proofs.Proven.{JudgesRooted, Steady, IsOfContent, EachSteady, each_steady}
-use Rattle.pp_core.proofs.Promised.{first_room, shown_room, begun_room, event_proved}
+use Rattle.pp_core.proofs.Promised.{first_room, shown_room, begun_room, TakesSteadily, event_proved}
+use Rattle.pp_core.proofs.Shipping.{event_shipped}
 
 -- ---- what is heard on a seat
 
@@ -165,14 +168,21 @@ module _ (d : Descriptor) where
 
 -- ---- the whole
 
--- what an event brings is stored as is promised
-pub promised : (b : Beginning) (most : ℕ) (past : List Record) (event : Event) (bytes : List ℕ) (old new : Parts)
-    → IsDescriptor b.d → AllHold (chunks_of b.d) old.seats.seats → IsEvent event bytes → StandsFor b most old past
-    → KeepsEntries (entry old.holding.book) (entry new.holding.book) → StoresWhatFits event bytes old new
-    → StoresIn b.d (entry new.holding.book) new.holding.store past (record_of event bytes)
-promised b most past event bytes old new valid all fits stands entries stores =
-    event_proved b most past bytes old new stands event fits stores (record {
-      valid = valid;
-      steady = event_steady b.d event bytes old stores.absorbs.mid stores.absorbs.takes all stands.ledger.swarm;
-      entries = entries;
-    })
+module _ (b : Beginning) (most : ℕ) (past : List Record) (event : Event) (bytes : List ℕ) (old new : Parts)
+    (valid : IsDescriptor b.d) (all : AllHold (chunks_of b.d) old.seats.seats) (fits : IsEvent event bytes) (stands : StandsFor b most old past)
+    (entries : KeepsEntries (entry old.holding.book) (entry new.holding.book)) (stores : StoresWhatFits event bytes old new) where
+  takes_steadily : TakesSteadily b.d event bytes old new stores
+  takes_steadily = record {
+    valid = valid;
+    steady = event_steady b.d event bytes old stores.absorbs.mid stores.absorbs.takes all stands.ledger.swarm;
+    entries = entries;
+  }
+
+  -- what an event brings is stored as is promised, where claims prove it
+  pub promised : StoresIn b.d (entry new.holding.book) new.holding.store past (record_of event bytes)
+  promised = event_proved b most past bytes old new stands event fits stores takes_steadily
+
+  -- and where it comes with the hashes that the peer lacks
+  pub shipped : old.holding.store.live ≡ true → AreTied old.holding → (had : ℕ → Bool) → CommitsTold b.d had past old.holding.store
+      → StoresShipped b.d had (entry new.holding.book) (is_held new.holding.store) past (record_of event bytes)
+  shipped = event_shipped b most past event bytes old new stands fits stores takes_steadily

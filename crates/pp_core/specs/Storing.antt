@@ -1,5 +1,5 @@
 -- What comes and fits is held.
-use Rattle.std.specs.Prelude.{◌≡◌, ◌⊎◌, ℕ, ◌<◌, true, IfSome, List, [], ◌∷◌, slice_get}
+use Rattle.std.specs.Prelude.{◌≡◌, ◌⊎◌, ℕ, ◌<◌, Bool, true, IfSome, List, [], ◌∷◌, slice_get}
 use Rattle.pp_terms.specs.format.Descriptor.{Descriptor, chunks_of}
 use Rattle.pp_terms.specs.format.Messages.{Message, Data}
 use Rattle.pp_terms.specs.format.Traffic.{Record}
@@ -14,7 +14,8 @@ use Rattle.pp_paths.specs.declared.settling.Settled.TheVariants as settlements
 use Rattle.pp_paths.specs.Judge.{judged}
 use Rattle.pp_paths.specs.Settle.{settled}
 use Rattle.pp_store.specs.Answer.{peaked}
-use Rattle.pp_store.specs.Store.{StoreState, is_held}
+use Rattle.pp_store.specs.Store.{StoreState, is_committed, is_held}
+use Rattle.pp_world.specs.Outcome.{is_announced_in}
 use Rattle.pp_outside.specs.declared.link.Event.{Event}
 use Rattle.pp_holding.specs.Holding.{HoldingState}
 use Rattle.pp_peer.specs.declared.parts.Parts.{Parts}
@@ -56,3 +57,7 @@ abbrev pub StoresIn : Descriptor → LookUp → StoreState → List Record → R
 StoresIn d book store before r = (life : Life) (i : ℕ) (bytes : List ℕ) → (b : BringsChunk d life before r i bytes)
     → Proves d (claimed_before d life r before b.front) i bytes
     → (is_held store i ≡ true) ⊎ Contradicts book (met_before d life r before b.front i bytes)
+
+-- What a peer had at first, and what it announced in these records, is committed in the store.
+pub record CommitsTold (d : Descriptor) (had : ℕ → Bool) (past : List Record) (store : StoreState) : Type 0 where
+  pub committed : (i : ℕ) → (had i ≡ true) ⊎ (is_announced_in d i past ≡ true) → is_committed store i ≡ true

@@ -1,6 +1,6 @@
 //! A peer of one swarm.
 
-ghost use Rattle.std.specs.Prelude.{◌≡◌, ◌↔◌, Err, ◌<◌, ◌≤◌, [], ◌∷◌, ℕ, List, length, true, false, IfOk, IfErr, OnOk, OnErr, is_some, position};
+ghost use Rattle.std.specs.Prelude.{◌≡◌, ◌↔◌, Err, ◌<◌, ◌≤◌, [], ◌∷◌, ℕ, Bool, List, length, true, false, IfOk, IfErr, OnOk, OnErr, is_some, position};
 ghost use Rattle.pp_terms.specs.Count.{HasCause};
 ghost use Rattle.pp_terms.specs.disk.Disk.{IsKnown, Throughout, moment_of};
 ghost use Rattle.pp_terms.specs.disk.Image.{StandsIn};
@@ -15,7 +15,7 @@ ghost use Rattle.pp_terms.specs.tree.Content.{chunk_length};
 ghost use Rattle.pp_store.specs.Keep.{KeepsDisk};
 ghost use Rattle.pp_store.specs.ReadChunk.{HasRead};
 ghost use Rattle.pp_store.specs.Sound.{StaysSound};
-ghost use Rattle.pp_store.specs.Store.{is_committed, HoldsAll, IsOpened, GoesOn};
+ghost use Rattle.pp_store.specs.Store.{is_committed, is_held, HoldsAll, IsOpened, GoesOn};
 ghost use Rattle.pp_terms.specs.format.Descriptor.{chunks_of};
 ghost use Rattle.pp_holding.specs.Holding.{stock_of, AreTied};
 ghost use Rattle.pp_holding.specs.Opening.{IsOpenFault};
@@ -23,6 +23,7 @@ ghost use Rattle.pp_holding.specs.Stock.{IsKept};
 ghost use Rattle.pp_peer.specs.Absorbing.{with_event, Advanced, InTime, is_quiet};
 ghost use Rattle.pp_peer.specs.Events.{Absorbs};
 ghost use Rattle.pp_paths.specs.Judge.{KeepsEntries};
+ghost use Rattle.pp_complete.specs.Shipped.{StoresShipped};
 ghost use Rattle.pp_terms.specs.tree.Book.{LookUp};
 ghost use Rattle.pp_peer.specs.Standing.{Beginning, Ledger, StandsFor};
 ghost use Rattle.pp_channels.specs.Seats.{is_found};
@@ -37,7 +38,7 @@ ghost use Rattle.pp_core.specs.Promising.{Promises};
 ghost use Rattle.pp_core.specs.Reaching.{Reaches};
 ghost use Rattle.pp_core.specs.Remembering.{KeepsWrote, StaysUnchoked, KeepsTold, HasNoTicket, KeepsAcks, HasNoRepeat};
 ghost use Rattle.pp_core.specs.Slots.{KeepsSlots};
-ghost use Rattle.pp_core.specs.Storing.{StoresWhatFits, StoresIn};
+ghost use Rattle.pp_core.specs.Storing.{StoresWhatFits, StoresIn, CommitsTold};
 ghost use Rattle.pp_core.specs.Telling.{Acknowledges, Announces, Greets, Cancels, Exchanges, TakesTurns};
 ghost use Rattle.pp_core.specs.Turning.{after_refusal, limited, with_limit, scene, Sends, Closes};
 
@@ -184,10 +185,17 @@ impl Peer {
         // What came on a plain channel and is proved by what its peer claims is held, or the book contradicts it.
         ensures proves { OnOk result ((b : Beginning) (most : ℕ) (past : List Record) → StandsFor b most self.old.parts past
             → StoresIn b.d (entry self.new.parts.holding.book) self.new.parts.holding.store past (record_of event.now bytes.now)) }
+        // What comes on a plain channel is held, where the hashes with it complete the path for what this peer had or announced, or a book is
+        // at fault.
+        ensures ships { OnOk result ((b : Beginning) (most : ℕ) (past : List Record) → StandsFor b most self.old.parts past
+            → self.old.parts.holding.store.live ≡ true → (had : ℕ → Bool) → CommitsTold b.d had past self.old.parts.holding.store
+            → StoresShipped b.d had (entry self.new.parts.holding.book) (is_held self.new.parts.holding.store) past
+            (record_of event.now bytes.now)) }
     {
-        // Their contracts tell of the swarm, and of how many chunks a seat is.
+        // Their contracts tell of the swarm, of how many chunks a seat is, and that the book is the store's.
         let _ = self.descriptor().chunk();
         let _ = self.parts.seats.far(0);
+        let _ = self.parts.holding.store();
         self.parts.absorb(event, bytes, disk)
     }
 

@@ -88,25 +88,30 @@ DialsStay = (d : Descriptor) (t new : Seats) (lives : ℕ → Option Life) (seat
 
 -- the first handshake of a dial was sent, and nothing behind it: a life begins
 abbrev pub DialledStays : Type 0
-DialledStays = (d : Descriptor) (t new : Seats) (lives : ℕ → Option Life) (seat : ℕ) (c c' : Channel) (moment : ℕ) (bytes : List ℕ) (past : List Record)
+DialledStays = (d : Descriptor) (t new : Seats) (lives : ℕ → Option Life) (seat : ℕ) (c c' : Channel) (moment : ℕ) (bytes : List ℕ)
+    (past : List Record)
     → Standing d t lives past → channel_at t seat ≡ Some c → lives seat ≡ None → is_waiting c ≡ true → c.made ≡ now past
     → IsDialOf d c (sent_on c moment bytes) → Steady c c' → is_begun c'.opening ≡ true
     → AreSeats new.channels → Changes t new seat (Some c')
     → Standing d new (with_life seat (Some (life_of c past)) lives) (sent_on c moment bytes ∷ past)
-    × ((other : ℕ) → read_at d new (with_life seat (Some (life_of c past)) lives) (sent_on c moment bytes ∷ past) other ≡ read_at d t lives past other)
+    × ((other : ℕ) → read_at d new (with_life seat (Some (life_of c past)) lives) (sent_on c moment bytes ∷ past) other
+    ≡ read_at d t lives past other)
 
 -- a dial's handshake was sent again
 abbrev pub RedialledStays : Type 0
-RedialledStays = (d : Descriptor) (t new : Seats) (lives : ℕ → Option Life) (seat : ℕ) (c c' : Channel) (life : Life) (moment : ℕ) (bytes : List ℕ) (past : List Record)
+RedialledStays = (d : Descriptor) (t new : Seats) (lives : ℕ → Option Life) (seat : ℕ) (c c' : Channel) (life : Life) (moment : ℕ)
+    (bytes : List ℕ) (past : List Record)
     → Standing d t lives past → channel_at t seat ≡ Some c → lives seat ≡ Some life → is_waiting c ≡ true
-    → IsDialOf d c (sent_on c moment bytes) → Steady c c' → is_begun c'.opening ≡ (answers d life (sent_on c moment bytes) || is_begun c.opening)
+    → IsDialOf d c (sent_on c moment bytes) → Steady c c'
+    → is_begun c'.opening ≡ (answers d life (sent_on c moment bytes) || is_begun c.opening)
     → AreSeats new.channels → Changes t new seat (Some c')
     → Standing d new lives (sent_on c moment bytes ∷ past)
     × ((other : ℕ) → read_at d new lives (sent_on c moment bytes ∷ past) other ≡ read_at d t lives past other)
 
 -- a channel was changed in what doesn't count for the traffic
 abbrev pub SteadyStays : Type 0
-SteadyStays = (d : Descriptor) (t new : Seats) (lives : ℕ → Option Life) (seat : ℕ) (c c' : Channel) (past : List Record) → Standing d t lives past
+SteadyStays = (d : Descriptor) (t new : Seats) (lives : ℕ → Option Life) (seat : ℕ) (c c' : Channel) (past : List Record)
+    → Standing d t lives past
     → channel_at t seat ≡ Some c → Steady c c' → is_begun c'.opening ≡ is_begun c.opening
     → AreSeats new.channels → Changes t new seat (Some c')
     → Standing d new lives past × ((other : ℕ) → read_at d new lives past other ≡ read_at d t lives past other)
@@ -115,31 +120,37 @@ SteadyStays = (d : Descriptor) (t new : Seats) (lives : ℕ → Option Life) (se
 
 -- a channel is dialled where none has the address; it has no life yet
 abbrev pub DialKeeps : Type 0
-DialKeeps = (d : Descriptor) (t : Seats) (lives : ℕ → Option Life) (receiver : Address) (moment seat : ℕ) (past : List Record) → Standing d t lives past
+DialKeeps = (d : Descriptor) (t : Seats) (lives : ℕ → Option Life) (receiver : Address) (moment seat : ℕ) (past : List Record)
+    → Standing d t lives past
     → free_seat t ≡ Some seat → list_any (has_address receiver) t.channels ≡ false
     → Standing d (with_channel (dialled receiver moment) t) (with_life seat None lives) past
 
 -- a datagram was sent on a channel whose peer's number is known, and it is noted whether it began with this channel's handshake
 abbrev pub SentKeeps : Type 0
-SentKeeps = (d : Descriptor) (t : Seats) (lives : ℕ → Option Life) (seat : ℕ) (c : Channel) (life : Life) (handshake : Bool) (at moment : ℕ) (bytes : List ℕ) (past : List Record)
+SentKeeps = (d : Descriptor) (t : Seats) (lives : ℕ → Option Life) (seat : ℕ) (c : Channel) (life : Life) (handshake : Bool)
+    (at moment : ℕ) (bytes : List ℕ) (past : List Record)
     → Standing d t lives past → channel_at t seat ≡ Some c → lives seat ≡ Some life → is_waiting c ≡ false
     → (read d (sent_on c moment bytes)).channel ≡ Some life.remote
     → ((number : ℕ) → 0 < number → begins_as number (read d (sent_on c moment bytes)).messages.read ≡ true → number ≡ c.local)
     → handshake ≡ begins_as c.local (read d (sent_on c moment bytes)).messages.read
     → Standing d (with_datagram t seat handshake at) lives (sent_on c moment bytes ∷ past)
-    × Says (now past) seat (read d (sent_on c moment bytes)).messages.read (read_at d t lives past) (read_at d (with_datagram t seat handshake at) lives (sent_on c moment bytes ∷ past))
+    × Says (now past) seat (read d (sent_on c moment bytes)).messages.read (read_at d t lives past)
+    (read_at d (with_datagram t seat handshake at) lives (sent_on c moment bytes ∷ past))
 
 -- the first handshake of a dial was sent
 abbrev pub FirstKeeps : Type 0
-FirstKeeps = (d : Descriptor) (t : Seats) (lives : ℕ → Option Life) (seat : ℕ) (c : Channel) (at moment : ℕ) (bytes : List ℕ) (past : List Record)
+FirstKeeps = (d : Descriptor) (t : Seats) (lives : ℕ → Option Life) (seat : ℕ) (c : Channel) (at moment : ℕ) (bytes : List ℕ)
+    (past : List Record)
     → Standing d t lives past → channel_at t seat ≡ Some c → lives seat ≡ None → is_waiting c ≡ true → c.made ≡ now past
     → IsDialOf d c (sent_on c moment bytes)
     → Standing d (with_datagram t seat true at) (with_life seat (Some (life_of c past)) lives) (sent_on c moment bytes ∷ past)
-    × ((other : ℕ) → read_at d (with_datagram t seat true at) (with_life seat (Some (life_of c past)) lives) (sent_on c moment bytes ∷ past) other ≡ read_at d t lives past other)
+    × ((other : ℕ) → read_at d (with_datagram t seat true at) (with_life seat (Some (life_of c past)) lives)
+    (sent_on c moment bytes ∷ past) other ≡ read_at d t lives past other)
 
 -- a later handshake of a dial was sent
 abbrev pub AgainKeeps : Type 0
-AgainKeeps = (d : Descriptor) (t : Seats) (lives : ℕ → Option Life) (seat : ℕ) (c : Channel) (life : Life) (at moment : ℕ) (bytes : List ℕ) (past : List Record)
+AgainKeeps = (d : Descriptor) (t : Seats) (lives : ℕ → Option Life) (seat : ℕ) (c : Channel) (life : Life) (at moment : ℕ)
+    (bytes : List ℕ) (past : List Record)
     → Standing d t lives past → channel_at t seat ≡ Some c → lives seat ≡ Some life → is_waiting c ≡ true
     → IsDialOf d c (sent_on c moment bytes)
     → Standing d (with_datagram t seat true at) lives (sent_on c moment bytes ∷ past)
@@ -147,7 +158,8 @@ AgainKeeps = (d : Descriptor) (t : Seats) (lives : ℕ → Option Life) (seat : 
 
 -- a dial is dropped whose first handshake couldn't be sent
 abbrev pub RefusedKeeps : Type 0
-RefusedKeeps = (d : Descriptor) (t : Seats) (lives : ℕ → Option Life) (seat : ℕ) (c : Channel) (past : List Record) → Standing d t lives past
+RefusedKeeps = (d : Descriptor) (t : Seats) (lives : ℕ → Option Life) (seat : ℕ) (c : Channel) (past : List Record)
+    → Standing d t lives past
     → channel_at t seat ≡ Some c → lives seat ≡ None
     → Standing d (closed t seat) lives past × Ends seat (read_at d t lives past) (read_at d (closed t seat) lives past)
 
@@ -159,9 +171,12 @@ BegunBut t seat = (other : ℕ) (c : Channel) → other ≢ seat → channel_at 
 
 -- After a dial all others have begun. Once its first handshake was sent, or the channel is dropped, all have.
 pub record BegunKept : Type 0 where
-  pub dial : (t : Seats) (receiver : Address) (moment seat : ℕ) → AreSeats t.channels → free_seat t ≡ Some seat → AllBegun t → BegunBut (with_channel (dialled receiver moment) t) seat
-  pub first : (t : Seats) (seat : ℕ) (c : Channel) (at : ℕ) → channel_at t seat ≡ Some c → BegunBut t seat → AllBegun (with_datagram t seat true at)
-  pub sent : (t : Seats) (seat : ℕ) (c : Channel) (handshake : Bool) (at : ℕ) → channel_at t seat ≡ Some c → AllBegun t → AllBegun (with_datagram t seat handshake at)
+  pub dial : (t : Seats) (receiver : Address) (moment seat : ℕ) → AreSeats t.channels → free_seat t ≡ Some seat → AllBegun t
+      → BegunBut (with_channel (dialled receiver moment) t) seat
+  pub first : (t : Seats) (seat : ℕ) (c : Channel) (at : ℕ) → channel_at t seat ≡ Some c → BegunBut t seat
+      → AllBegun (with_datagram t seat true at)
+  pub sent : (t : Seats) (seat : ℕ) (c : Channel) (handshake : Bool) (at : ℕ) → channel_at t seat ≡ Some c → AllBegun t
+      → AllBegun (with_datagram t seat handshake at)
   pub close : (t : Seats) (seat : ℕ) (c : Channel) → channel_at t seat ≡ Some c → BegunBut t seat → AllBegun (closed t seat)
 
 -- ---- how many seats are in use

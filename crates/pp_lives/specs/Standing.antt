@@ -71,7 +71,8 @@ pub record Seated (d : Descriptor) (t : Seats) (lives : ℕ → Option Life) (pa
   pub each : (seat : ℕ) → StandsAt d (channel_at t seat) (lives seat) past
   pub apart : (seat other : ℕ) (c e : Channel) (remote : ℕ) → channel_at t seat ≡ Some c → channel_at t other ≡ Some e
       → c.remote ≡ Some remote → e.remote ≡ Some remote → address_of c.address ≡ address_of e.address → seat ≡ other
-  pub blank : (seat : ℕ) (c : Channel) (life : Life) → channel_at t seat ≡ Some c → lives seat ≡ Some life → is_waiting c ≡ true → WaitsBlank d t c life past
+  pub blank : (seat : ℕ) (c : Channel) (life : Life) → channel_at t seat ≡ Some c → lives seat ≡ Some life → is_waiting c ≡ true
+      → WaitsBlank d t c life past
   pub unknown : (seat : ℕ) (c : Channel) → channel_at t seat ≡ Some c → is_waiting c ≡ true → c.remote ≡ None
 
 -- ---- plain channels

@@ -1,9 +1,10 @@
 -- How a run ended, from how the command ended that its words spell.
 use Rattle.std.proofs.Common.{◌≡◌, ◌⊎◌, ℕ, ◌+◌, List, [], ◌∷◌, codes, refl, sym, ◌∙◌, subst}
-use Rattle.pp_terms.specs.command.Commands.{Order, Command, Import, Seed, Fetch, Check, Export, Upgrade, Replay, Rehearse}
-use Rattle.pp_terms.specs.command.CommandLine.{Spells, IsImport, IsSeed, IsFetch, IsOnStore, IsRehearse, IsOneOf, IsFirstWrong}
+use Rattle.pp_terms.specs.command.Order.{Order}
+use Rattle.pp_words.specs.Commands.{Command, Import, Seed, Fetch, Check, Export, Upgrade, Replay, Rehearse, Play, Record, Audit}
+use Rattle.pp_words.specs.CommandLine.{Spells, IsImport, IsSeed, IsFetch, IsOnStore, IsRehearse, IsOneOf, IsFirstWrong}
 use Rattle.pp_terms.specs.command.Stream.{SourceState, SinkState}
-use Rattle.pp_terms.specs.command.Usage as wrong
+use Rattle.pp_words.specs.Usage as wrong
 use Rattle.pp_terms.specs.disk.Disk.{DiskState, IsKnown, GainsName}
 use Rattle.pp_terms.specs.format.Descriptor.{Descriptor}
 use Rattle.pp_terms.specs.format.Traffic.{Address, LinkState}
@@ -76,7 +77,7 @@ rehearse_ended status n link disk source sink sink' book ends = record { status 
 
 module _ (words : List (List ℕ)) (command : Command) (status : Status) (result : ℕ) (old new : Outside) (read : Spells words command)
     (number : result ≡ number_of status) (ended : HasEnded command (number_of status) old new) where
-  ended_as : (c : Command) → Spells words c → HasEnded c result old new
+  pub ended_as : (c : Command) → Spells words c → HasEnded c result old new
   ended_as c spelled = subst (λ (n : ℕ). HasEnded c n old new) (sym number)
       (subst (λ (x : Command). HasEnded x (number_of status) old new) (one_command words command c read spelled) ended)
 
@@ -143,6 +144,9 @@ never Replay number old new one end =
     (subst (λ (s : Status). ReplaysIn s old.source new.source old.sink new.sink) (usage_only end.status (sym end.number ∙ one)) end.ends).plays
 never (Rehearse n) number old new one end =
     subst (λ (s : Status). PlaysText (rehearsal_text (first_words 2002 (rehearsal_key n))) s old.sink new.sink) (usage_only end.status (sym end.is_number ∙ one)) end.ends
+never (Play store descriptor listen turns window peers) number old new one end = end
+never (Record peer life) number old new one end = end
+never Audit number old new one end = end
 
 pub no_usage : (command : Command) (status : Status) (result : ℕ) (old new : Outside) → result ≡ number_of status
     → HasEnded command (number_of status) old new → result ≡ 1 → ⊥

@@ -37,7 +37,7 @@ use Rattle.pp_node.specs.Exporting.{IsChunk, AreChunks, HasPut, IsWhole, IsExpor
 use Rattle.pp_node.specs.declared.exporting.PutFault.{PutFault}
 use Rattle.pp_node.specs.declared.exporting.PutFault.TheVariants.{Disk, Sink, Damaged}
 use Rattle.pp_node.proofs.Looks.{other_since}
-use Rattle.pp_node.proofs.Written.{gains-nil, gains_more}
+use Rattle.pp_stream.proofs.Written.{gains-nil, gains_more}
 
 -- bytes behind whole chunks change none of them
 chunk_kept : (bytes piece : List ℕ) (chunk n i : ℕ) → length bytes ≡ n * chunk → i < n → chunk_of (bytes ++ piece) chunk i ≡ chunk_of bytes chunk i

@@ -1,4 +1,3 @@
-pub mod Written
 pub mod Lines
 pub mod Runs
 pub mod Attached
@@ -13,3 +12,4 @@ pub mod Commands
 pub mod Seeds
 pub mod Exports
 pub mod Replays
+pub mod Untroubled

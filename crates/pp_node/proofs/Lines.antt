@@ -4,7 +4,7 @@ use Rattle.std.specs.Prelude.{count_by, IsErr}
 use Rattle.pp_terms.specs.Count.{HasCause}
 use Rattle.pp_terms.specs.command.Stream.{SinkState, Gains}
 use Rattle.pp_terms.specs.format.Descriptor.{Descriptor, descriptor_text}
-use Rattle.pp_terms.specs.command.Usage.{Usage, kind_text, usage_line}
+use Rattle.pp_words.specs.Usage.{Usage, kind_text, usage_line}
 use Rattle.pp_terms.specs.command.Report.{descriptor_line, disk_fault_line, source_fault_line, not_empty_line, content_size_line, not_a_store_line, held_line, ranges_text, SaysHeld}
 use Rattle.pp_store.specs.declared.importing.ImportFault.{ImportFault}
 use Rattle.pp_node.specs.declared.status.Status.{Status}
@@ -13,7 +13,7 @@ use Rattle.pp_scan.specs.declared.scanning.ScanFault.{ScanFault}
 use Rattle.pp_node.specs.Run.{Reports}
 use Rattle.pp_node.specs.Held.{HasRanges}
 use Rattle.pp_node.specs.Checking.{ReportsScan}
-use Rattle.pp_node.proofs.Written.{gains_more}
+use Rattle.pp_stream.proofs.Written.{gains_more}
 
 pub says : {T E : Type 0} (text said : List ℕ) (old new : SinkState) (result : Result T E) → said ≡ text → OnOk result (Gains old.taken said new.taken)
     → HasCause old.faults new.faults result → Says text old new

@@ -2,7 +2,7 @@
 use Rattle.std.proofs.Common.{◌≡◌, Bool, true, false, Some, None, List, [], ◌∷◌, ℕ, refl, sym, subst, if◌then◌else◌, codes}
 use Rattle.std.specs.Str.{bytes_eq}
 use Rattle.std.proofs.lemmas.Slice.Eq.{bytes_eq-Decides}
-use Rattle.pp_terms.specs.command.CommandLine.{Shape, named, import_shape, seed_shape, fetch_shape, check_shape, export_shape, upgrade_shape, replay_shape, rehearse_shape}
+use Rattle.pp_words.specs.CommandLine.{Shape, named, import_shape, seed_shape, fetch_shape, check_shape, export_shape, upgrade_shape, replay_shape, rehearse_shape}
 use Rattle.pp_node.specs.Built.{built}
 
 other_name : (name text : List ℕ) → (text ≡ name → ⊥) → bytes_eq name text ≡ false

@@ -23,7 +23,7 @@ use Rattle.pp_node.specs.Replaying.{PlaysText, ReplaysIn}
 use Rattle.pp_node.specs.declared.status.Status.{Status}
 use Rattle.pp_node.specs.declared.status.Status.TheVariants.{Done, Usage, NotAStore, Incomplete, DiskFault, LinkFault, SourceFault, SinkFault, NotEmpty, ContentSize, Schedule as NoSchedule, Memory, Damaged}
 use Rattle.pp_node.specs.Shown.{HasLine, HasLines, numbers_of}
-use Rattle.pp_node.proofs.Written.{gains-nil, gains_more}
+use Rattle.pp_stream.proofs.Written.{gains-nil, gains_more}
 
 -- ---- lines
 

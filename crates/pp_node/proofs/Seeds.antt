@@ -19,7 +19,7 @@ use Rattle.pp_node.specs.declared.status.Status.{Status}
 use Rattle.pp_node.specs.declared.preparing.SeedFault.{SeedFault}
 use Rattle.pp_node.specs.declared.status.Status.TheVariants.{Done, Usage, NotAStore, Incomplete, DiskFault, LinkFault, SourceFault, SinkFault, NotEmpty, ContentSize, Schedule, Memory, Damaged}
 use Rattle.pp_node.proofs.Lines.{says}
-use Rattle.pp_node.proofs.Written.{gains_more}
+use Rattle.pp_stream.proofs.Written.{gains_more}
 
 pub report_said : {T E : Type 0} (set : List Bool) (tally : Tally) (old mid new : SinkState) (result : Result T E) → SaysHeld set old mid
     → OnOk result (Gains mid.taken (tally_text tally) new.taken) → OnOk result (SaysReport set tally old new)

@@ -11,7 +11,7 @@ use Rattle.pp_terms.proofs.Within.{within_from, within_past}
 use Rattle.pp_audit.proofs.ReportRanges.{within_low}
 use Rattle.pp_node.specs.Held.{HasRanges, HasMore}
 use Rattle.pp_terms.specs.command.Report.{span_text, more_text}
-use Rattle.pp_node.proofs.Written.{gains-nil, gains_more}
+use Rattle.pp_stream.proofs.Written.{gains-nil, gains_more}
 
 -- no range reaches the number before
 abbrev pub AllEnd : ℕ → List Span → Type 0

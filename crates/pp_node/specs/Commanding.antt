@@ -1,6 +1,6 @@
 -- The commands that words may ask for, and how each of them ends.
 use Rattle.std.specs.Prelude.{ℕ}
-use Rattle.pp_terms.specs.command.Commands.{Command, Import, Seed, Fetch, Check, Export, Upgrade, Replay, Rehearse}
+use Rattle.pp_words.specs.Commands.{Command, Import, Seed, Fetch, Check, Export, Upgrade, Replay, Rehearse}
 use Rattle.pp_node.specs.Checking.{CheckEnds}
 use Rattle.pp_node.specs.Exporting.{ExportEnds}
 use Rattle.pp_node.specs.Outside.{Outside}
@@ -23,7 +23,7 @@ UsesLink (Seed store descriptor listen turns) = Unit {0}
 UsesLink (Fetch store descriptor listen turns order peers) = Unit {0}
 UsesLink _ = ⊥
 
--- How a command ended, by the number that it answered.
+-- How a command ended, by the number that it answered; one that isn't built never does.
 abbrev pub HasEnded : Command → ℕ → Outside → Outside → Type 0
 HasEnded (Import store chunk) number old new = ImportEnds number store chunk old new
 HasEnded (Check store descriptor) number old new = CheckEnds number store descriptor old new
@@ -35,3 +35,4 @@ HasEnded (Export store descriptor) number old new = ExportEnds number store desc
 HasEnded (Upgrade store descriptor) number old new = UpgradeEnds number store descriptor old new
 HasEnded Replay number old new = ReplayEnds number old new
 HasEnded (Rehearse n) number old new = RehearseEnds number n old new
+HasEnded _ number old new = ⊥

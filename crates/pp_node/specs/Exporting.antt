@@ -19,7 +19,7 @@ use Rattle.pp_store.specs.declared.reading.ReadFault.TheVariants as reads
 use Rattle.pp_node.specs.Looking.{IsOf, Lasts, IsRefused, IsUnwritten}
 use Rattle.pp_node.specs.Outside.{Outside}
 use Rattle.pp_node.specs.Faults.{Faults}
-use Rattle.pp_node.specs.Text.{GainsPart}
+use Rattle.pp_stream.specs.Pieces.{GainsPart}
 use Rattle.pp_node.specs.Status.{number_of}
 use Rattle.pp_node.specs.declared.exporting.PutFault.{PutFault}
 use Rattle.pp_node.specs.declared.exporting.PutFault.TheVariants as puts

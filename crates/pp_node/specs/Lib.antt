@@ -15,3 +15,4 @@ pub mod Upgrading
 pub mod Commanding
 pub mod Replaying
 pub mod Shown
+pub mod Untroubled

@@ -1,6 +1,6 @@
 // The commands that are built. Each is one name here, one line in specs/Built.antt, a module, and an arm of `run`.
 ghost use Rattle.std.specs.Prelude.{◌≡◌, None, IfOk, IfErr, MatchBool};
-ghost use Rattle.pp_terms.specs.command.CommandLine.{Spells, IsOneOf, IsFirstWrong, commands, named};
+ghost use Rattle.pp_words.specs.CommandLine.{Spells, IsOneOf, IsFirstWrong, commands, named};
 ghost use Rattle.pp_words.specs.Views.{texts, command_of, usage_of};
 ghost use Rattle.pp_node.specs.Built.{built};
 

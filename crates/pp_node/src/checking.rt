@@ -11,11 +11,12 @@ ghost use Rattle.pp_terms.specs.command.Report.{not_a_store_line};
 ghost use Rattle.pp_node.specs.Checking.{ChecksIn, ReportsScan};
 
 use crate::looking::look;
-use crate::printing::{put_all, put_counted};
+use crate::printing::put_counted;
 use crate::ranges::put_held;
 use crate::status::Status;
 use pp_outside::{Disk, Sink, SinkFault};
 use pp_scan::ScanFault;
+use pp_stream::put_all;
 use pp_tree::{Book, Descriptor};
 use std::alloc::Global;
 

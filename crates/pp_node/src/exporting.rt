@@ -12,11 +12,11 @@ ghost use Rattle.pp_node.specs.Looking.{IsFound, IsUnwritten, Lasts};
 ghost use Rattle.pp_node.specs.Exporting.{ExportsIn, IsReadable, PutsRun, answer_of, status_of_scan, status_of_fault, status_of_put};
 
 use crate::looking::look;
-use crate::printing::put_all;
 use crate::status::Status;
 use pp_outside::{Disk, Sink};
 use pp_scan::ScanFault;
 use pp_store::{ReadFault, Run, read_run};
+use pp_stream::put_all;
 use pp_tree::{Book, ChunkSet, Descriptor};
 use std::alloc::Global;
 

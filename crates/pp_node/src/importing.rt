@@ -11,10 +11,11 @@ ghost use Rattle.pp_terms.specs.Count.{HasCause, HasRisen};
 ghost use Rattle.pp_terms.specs.disk.Untouched.{IsFreshlyAttached};
 ghost use Rattle.pp_node.specs.Run.{ImportsIn, IsImportRun, Reports};
 
-use crate::printing::{put_all, put_counted};
+use crate::printing::put_counted;
 use crate::status::Status;
 use pp_outside::{Disk, Sink, SinkFault, Source};
 use pp_store::ImportFault;
+use pp_stream::put_all;
 use pp_tree::Descriptor;
 
 /// Makes what the source gives the named store, and prints its descriptor.

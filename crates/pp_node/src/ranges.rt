@@ -5,8 +5,9 @@ ghost use Rattle.pp_terms.specs.command.Stream.{Gains};
 ghost use Rattle.pp_node.specs.Held.{HasRanges, HasMore};
 ghost use Rattle.pp_terms.specs.command.Report.{SaysHeld};
 
-use crate::printing::{put_all, put_counted};
+use crate::printing::put_counted;
 use pp_outside::{Sink, SinkFault};
+use pp_stream::put_all;
 use pp_tree::ChunkSet;
 
 /// Prints `held H of N RANGES`: how many chunks are in the set of the first N, and their ranges in rising order.

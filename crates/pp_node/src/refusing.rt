@@ -2,13 +2,14 @@
 ghost use Rattle.std.specs.Prelude.{◌≡◌, [], ◌∷◌, ◌++◌, OnOk};
 ghost use Rattle.pp_terms.specs.Count.{HasCause};
 ghost use Rattle.pp_terms.specs.command.Stream.{Gains};
-ghost use Rattle.pp_terms.specs.command.Usage.{kind_text, usage_line};
+ghost use Rattle.pp_words.specs.Usage.{kind_text, usage_line};
 ghost use Rattle.pp_words.specs.Views.{kind_of, usage_of};
 ghost use Rattle.pp_node.specs.Text.{Says};
 
-use crate::printing::{put_all, put_counted};
+use crate::printing::put_counted;
 use crate::status::Status;
 use pp_outside::{Sink, SinkFault};
+use pp_stream::put_all;
 use pp_tree::DescriptorFault;
 use pp_words::{Usage, UsageKind};
 

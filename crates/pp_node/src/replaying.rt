@@ -11,7 +11,7 @@ ghost use Rattle.pp_store.specs.Import.{TakesAtMost};
 ghost use Rattle.pp_node.specs.Replaying.{PlaysText, ReplaysIn};
 ghost use Rattle.pp_node.specs.Shown.{HasLine, HasLines};
 
-use crate::printing::{put_all, put_counted};
+use crate::printing::put_counted;
 use crate::ranges::put_ranges;
 use crate::status::Status;
 use crate::taking::take;
@@ -19,6 +19,7 @@ use pp_outcome::PeerEnd;
 use pp_outside::{Sink, SinkFault, Source};
 use pp_play::ReplayFault;
 use pp_replay::{ScheduleFault, ScheduleKind, rehearsal};
+use pp_stream::put_all;
 use std::alloc::Global;
 
 // One byte more than a text may have.

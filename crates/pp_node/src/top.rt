@@ -1,12 +1,13 @@
 // The top call.
 ghost use Rattle.std.specs.Prelude.{◌≡◌, ◌↔◌, ℕ, List, [], ◌∷◌, codes};
-ghost use Rattle.pp_terms.specs.command.Commands as terms;
-ghost use Rattle.pp_terms.specs.command.CommandLine.{Spells, IsImport, IsSeed, IsFetch, IsOnStore, IsRehearse, IsOneOf, IsFirstWrong};
+ghost use Rattle.pp_terms.specs.command.Order as orders;
+ghost use Rattle.pp_words.specs.CommandLine.{Spells, IsImport, IsSeed, IsFetch, IsOnStore, IsRehearse, IsOneOf, IsFirstWrong};
 ghost use Rattle.pp_terms.specs.format.Descriptor.{Descriptor};
 ghost use Rattle.pp_terms.specs.format.Traffic.{Address};
-ghost use Rattle.pp_terms.specs.command.Usage as wrong;
-ghost use Rattle.pp_terms.specs.command.Usage.{usage_line};
+ghost use Rattle.pp_words.specs.Usage as wrong;
+ghost use Rattle.pp_words.specs.Usage.{usage_line};
 ghost use Rattle.pp_tree.specs.Book.{empty_book};
+ghost use Rattle.pp_words.specs.Commands as terms;
 ghost use Rattle.pp_words.specs.Views.{texts, command_of};
 ghost use Rattle.pp_node.specs.Built.{built};
 ghost use Rattle.pp_node.specs.Replaying.{ReplayEnds, RehearseEnds};
@@ -19,6 +20,7 @@ ghost use Rattle.pp_node.specs.Promising.{PeerWords, SeedEnds, FetchEnds};
 ghost use Rattle.pp_node.specs.Outside.{outside};
 ghost use Rattle.pp_node.specs.Status.{number_of};
 ghost use Rattle.pp_node.specs.Commanding.{FillsBook, UsesLink, HasEnded};
+ghost use Rattle.pp_node.specs.Untroubled.{IsUntroubled, AnswersWell};
 
 use crate::built::read_built;
 use crate::checking::check;
@@ -72,7 +74,7 @@ pub fn run<D: Disk, L: Link, S: Source, K: Sink>(
         → SeedEnds result w (outside (D.state disk.old) (L.seen link.old) (S.state source.old) (K.state sink.old) book.old)
         (outside (D.state disk.new) (L.seen link.new) (S.state source.new) (K.state sink.new) book.new) }
 
-    ensures fetch { (w : PeerWords) (order : terms.Order) (peers : List Address)
+    ensures fetch { (w : PeerWords) (order : orders.Order) (peers : List Address)
         → IsFetch (texts words.now) w.store w.descriptor w.listen w.turns order peers
         → FetchEnds result w peers (outside (D.state disk.old) (L.seen link.old) (S.state source.old) (K.state sink.old) book.old)
         (outside (D.state disk.new) (L.seen link.new) (S.state source.new) (K.state sink.new) book.new) }
@@ -95,6 +97,13 @@ pub fn run<D: Disk, L: Link, S: Source, K: Sink>(
 
     ensures rehearse { (number : ℕ) → IsRehearse (texts words.now) number
         → RehearseEnds result number (outside (D.state disk.old) (L.seen link.old) (S.state source.old) (K.state sink.old) book.old)
+        (outside (D.state disk.new) (L.seen link.new) (S.state source.new) (K.state sink.new) book.new) }
+
+    // Where no device refused a call, a command that has what it is for is done, but for want of memory and chunks that are missing.
+    ensures untroubled { (c : terms.Command) → Spells (texts words.now) c
+        → IsUntroubled (outside (D.state disk.old) (L.seen link.old) (S.state source.old) (K.state sink.old) book.old)
+        (outside (D.state disk.new) (L.seen link.new) (S.state source.new) (K.state sink.new) book.new)
+        → IsOneOf built c → AnswersWell c result (outside (D.state disk.old) (L.seen link.old) (S.state source.old) (K.state sink.old) book.old)
         (outside (D.state disk.new) (L.seen link.new) (S.state source.new) (K.state sink.new) book.new) }
 
     // Only `seed` and `fetch` use the link, and only they, `check`, `export` and `upgrade` fill the book.
@@ -174,6 +183,8 @@ fn obey<D: Disk, L: Link, S: Source, K: Sink>(
         }
         Command::Replay => replay(alloc, source, sink),
         Command::Rehearse { number } => rehearse(alloc, *number, sink),
+        // These are not built, so they are never asked for.
+        Command::Play { .. } | Command::Record { .. } | Command::Audit => unreachable!(),
     }
 }
 

@@ -8,11 +8,12 @@ ghost use Rattle.pp_node.specs.Outside.{outside};
 ghost use Rattle.pp_node.specs.Upgrading.{UpgradesIn, IsUpgradeRun, ReportsUpgrade};
 
 use crate::checking::put_not_a_store;
-use crate::printing::{put_all, put_counted};
+use crate::printing::put_counted;
 use crate::ranges::put_held;
 use crate::status::Status;
 use pp_outside::{Disk, Sink, Source};
 use pp_store::UpgradeFault;
+use pp_stream::put_all;
 use pp_tree::{Book, Descriptor};
 use std::alloc::Global;
 

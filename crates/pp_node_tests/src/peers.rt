@@ -11,10 +11,12 @@ use std::test::Fail;
 
 mod counting;
 mod cutting;
+mod failing;
 mod fetching;
 mod joining;
 mod methods;
 mod refusing;
+mod stopping;
 mod trees;
 
 // Version 1, least version 1, the root, integrity method 1, hash function 2, addressing method 2, the supported messages,
@@ -97,12 +99,16 @@ impl Coming {
     }
 
     fn add(&mut self, parts: &[&[u8]]) -> Result<(), Fail> {
+        self.add_from(PEER, parts)
+    }
+
+    fn add_from(&mut self, from: Address, parts: &[&[u8]]) -> Result<(), Fail> {
         let bytes = joined(self.alloc, parts)?;
         if bytes.len() > 65536 {
             return Err("too long".into());
         }
         let event = Event::Datagram {
-            from: PEER,
+            from,
             len: bytes.len(),
             at: BEGIN.saturating_add(self.count),
         };

@@ -1,11 +1,8 @@
 -- How many calls a log has, by what they left.
-use Rattle.std.proofs.Common.{◌≡◌, ℕ, ◌+◌, List, [], ◌∷◌, ◌++◌, length, map, refl, sym, ◌∙◌, ap, arith}
-use Rattle.std.proofs.lemmas.List.{length-map}
+use Rattle.std.proofs.Common.{◌≡◌, ◌+◌, List, [], ◌∷◌, ◌++◌, length, arith}
 use Rattle.pp_terms.specs.disk.Disk.{Epoch, History, fresh}
 use Rattle.pp_terms.specs.disk.Calls.{Did, Calls, Wrote, Refused, Synced, Crashed, after_call, replay, history_of}
 use Rattle.pp_outside.specs.CallCount.{calls_of_ended, calls_in}
-use Rattle.pp_outside.specs.Steps.{did_of}
-use Rattle.pp_outside.specs.declared.log.Step.{Step}
 
 ended_more : (epochs : List Epoch) (epoch : Epoch) → calls_of_ended (epochs ++ epoch ∷ []) ≡ calls_of_ended epochs + (length epoch.pending + 1)
 ended_more [] epoch = omega arith

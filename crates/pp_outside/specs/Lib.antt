@@ -12,6 +12,7 @@ pub mod MemoryLink
 pub mod MemorySource
 pub mod MemorySink
 pub mod LyingDisk
+pub mod FuseDisk
 pub mod NullDisk
 pub mod ZeroSource
 pub mod CallCount

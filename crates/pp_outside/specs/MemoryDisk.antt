@@ -1,9 +1,10 @@
 -- A disk in memory: its meaning, the calls that it is ordered to refuse, and whether memory ran out.
-use Rattle.std.specs.Prelude.{◌≡◌, ◌⊎◌, ◌≢◌, ◌↔◌, ℕ, Bool, true, false, ◌&&◌, if◌then◌else◌, List, length, Result, IsTrue, IsErr, IfOk, OnOk, OnErr}
+use Rattle.std.specs.Prelude.{◌≡◌, ◌⊎◌, ◌≢◌, ◌↔◌, ℕ, Bool, true, false, if◌then◌else◌, Option, None, List, length, Result, IsTrue, IsErr, IfOk, OnOk, OnErr}
 use Rattle.pp_terms.specs.disk.Disk.{History, DiskState, IsRead, pends, after_write, settled}
 use Rattle.pp_terms.specs.disk.Calls.{history_of, attached}
 use Rattle.pp_outside.specs.Faults.{counted}
-use Rattle.pp_outside.specs.Orders.{has_order, is_disk_call}
+use Rattle.pp_outside.specs.Orders as orders
+use Rattle.pp_outside.specs.Orders.{is_disk_call, is_due, after_one}
 use Rattle.pp_outside.specs.declared.call.Call.{Call}
 use Rattle.pp_outside.specs.declared.call.Call.TheVariants.{Attach, Len, Read, Write, Sync}
 use Rattle.pp_outside.specs.declared.memory_disk.MemoryDisk.{MemoryDisk}
@@ -22,9 +23,13 @@ state_of disk = record {
   hard = disk.hard;
 }
 
+-- of the order of a call, if one stands, how many calls of its kind pass before the one that is refused
+abbrev pub order_of : MemoryDisk → Call → Option ℕ
+order_of disk call = if is_disk_call call then orders.order_of disk.orders call else None
+
 -- the next call of this kind is to be refused
 abbrev pub is_ordered : MemoryDisk → Call → Bool
-is_ordered disk call = is_disk_call call && has_order disk.orders call
+is_ordered disk call = is_due (order_of disk call)
 
 -- a call found no memory
 abbrev pub is_short : MemoryDisk → Bool
@@ -34,11 +39,11 @@ is_short disk = disk.short
 abbrev pub after_refused_write : History → ℕ → List ℕ → History
 after_refused_write h place bytes = record h { epoch = pends h.epoch place bytes }
 
--- The order of this call is used up, and the others stay. Each refusal is counted, by one count only where it is a
--- read's.
+-- One call fewer passes before the order of this call, or it is used up; the others stay. Each refusal is counted, by
+-- one count only where it is a read's.
 pub record Spends {T E : Type 0} (old : MemoryDisk) (call : Call) (result : Result T E) (new : MemoryDisk) : Type 0 where
-  pub spent : is_ordered new call ≡ false
-  pub others : (other : Call) → other ≢ call → is_ordered new other ≡ is_ordered old other
+  pub spent : order_of new call ≡ after_one (order_of old call)
+  pub others : (other : Call) → other ≢ call → order_of new other ≡ order_of old other
   pub faults : (state_of new).faults ≡ counted (state_of old).faults result
   pub hard : (state_of new).hard ≡ (if is_read call then (state_of old).hard else counted (state_of old).hard result)
 
@@ -58,6 +63,12 @@ pub record MayRunShort {T E : Type 0} (old : MemoryDisk) (call : Call) (result :
   pub cause : IsErr result → IsTrue (is_ordered old call) ⊎ RunsShort old new
   pub short : IsTrue (is_short old) → IsTrue (is_short new)
   pub spends : Spends old call result new
+
+-- Of an attachment that was refused above it is noted, and nothing else is changed.
+pub record NotesAttachment (old new : MemoryDisk) : Type 0 where
+  pub state : state_of new ≡ record (state_of old) { history = attached (state_of old).history (state_of old).history }
+  pub orders : (call : Call) → order_of new call ≡ order_of old call
+  pub short : is_short new ≡ is_short old
 
 -- What each call does, exactly.
 pub record Attaches {E : Type 0} (old : MemoryDisk) (result : Result (Unit {0}) E) (new : MemoryDisk) : Type 0 where

@@ -1,9 +1,10 @@
 -- A link in memory: its meaning, what it is still to hand out, the calls that it is ordered to refuse, and whether
 -- memory ran out.
-use Rattle.std.specs.Prelude.{◌≡◌, ◌⊎◌, ◌≢◌, Bool, false, ◌&&◌, None, Some, List, reverse, Result, IsTrue, IsErr, OnOk}
+use Rattle.std.specs.Prelude.{◌≡◌, ◌⊎◌, ◌≢◌, ℕ, Bool, if◌then◌else◌, Option, None, Some, List, reverse, Result, IsTrue, IsErr, OnOk}
 use Rattle.pp_terms.specs.format.Traffic.{Record, LinkState}
 use Rattle.pp_outside.specs.Faults.{counted}
-use Rattle.pp_outside.specs.Orders.{has_order, is_link_call}
+use Rattle.pp_outside.specs.Orders as orders
+use Rattle.pp_outside.specs.Orders.{is_link_call, is_due, after_one}
 use Rattle.pp_outside.specs.Arrivals.{Arrivals}
 use Rattle.pp_outside.specs.Records.{told_of}
 use Rattle.pp_outside.specs.declared.call.Call.{Call}
@@ -25,18 +26,22 @@ state_of link = record {
 abbrev pub arrivals_of : MemoryLink → Arrivals
 arrivals_of link = link.events
 
+-- of the order of a call, if one stands, how many calls of its kind pass before the one that is refused
+abbrev pub order_of : MemoryLink → Call → Option ℕ
+order_of link call = if is_link_call call then orders.order_of link.orders call else None
+
 -- the next call of this kind is to be refused
 abbrev pub is_ordered : MemoryLink → Call → Bool
-is_ordered link call = is_link_call call && has_order link.orders call
+is_ordered link call = is_due (order_of link call)
 
 -- a call found no memory
 abbrev pub is_short : MemoryLink → Bool
 is_short link = link.short
 
--- The order of this call is used up, and the others stay; each refusal is counted once.
+-- One call fewer passes before the order of this call, or it is used up; the others stay; each refusal is counted once.
 pub record Spends {T E : Type 0} (old : MemoryLink) (call : Call) (result : Result T E) (new : MemoryLink) : Type 0 where
-  pub spent : is_ordered new call ≡ false
-  pub others : (other : Call) → other ≢ call → is_ordered new other ≡ is_ordered old other
+  pub spent : order_of new call ≡ after_one (order_of old call)
+  pub others : (other : Call) → other ≢ call → order_of new other ≡ order_of old other
   pub faults : (state_of new).faults ≡ counted (state_of old).faults result
 
 -- A call is refused on order, and else only where it found no memory.

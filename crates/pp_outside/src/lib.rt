@@ -9,6 +9,7 @@ mod bytes;
 mod call;
 mod disk;
 mod events;
+mod fuse_disk;
 mod link;
 mod log;
 mod lying_disk;
@@ -24,6 +25,7 @@ mod zero_source;
 
 pub use call::Call;
 pub use disk::{Disk, DiskFault};
+pub use fuse_disk::FuseDisk;
 pub use link::{Address, Event, Link, LinkFault};
 pub use lying_disk::LyingDisk;
 pub use memory_disk::MemoryDisk;

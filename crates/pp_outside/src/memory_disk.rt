@@ -1,5 +1,5 @@
 // A disk in memory, which fails and crashes on order.
-ghost use Rattle.std.specs.Prelude.{◌≡◌, ◌⊎◌, ◌≢◌, ◌+◌, ◌^◌, ◌<◌, ◌≤◌, ◌↔◌, true, false, length, IsTrue, IsErr, IfOk, OnOk, OnErr};
+ghost use Rattle.std.specs.Prelude.{◌≡◌, ◌⊎◌, ◌≢◌, ◌+◌, ◌^◌, ◌<◌, ◌≤◌, true, false, if◌then◌else◌, None, Some, length, IsTrue, IsErr, IfOk, OnOk, OnErr};
 ghost use Rattle.pp_terms.specs.disk.Disk.{DoesAttach, DoesLen, DoesRead, DoesWrite, DoesSync, IsRead, MayLeave, fresh, settled, moment_of};
 ghost use Rattle.pp_terms.specs.disk.Calls.{attached, crash_image};
 
@@ -23,7 +23,7 @@ pub struct MemoryDisk {
 
 impl MemoryDisk {
     ghost use Rattle.pp_outside.specs.Orders.{is_disk_call};
-    ghost use Rattle.pp_outside.specs.MemoryDisk.{state_of, is_ordered, is_short};
+    ghost use Rattle.pp_outside.specs.MemoryDisk.{state_of, order_of, is_short, NotesAttachment};
     ghost use Rattle.pp_outside.specs.Faults.{one_more};
     ghost use Rattle.pp_outside.specs.CallCount.{calls_in};
 
@@ -31,7 +31,7 @@ impl MemoryDisk {
     pub fn new(alloc: Global, image: &[u8]) -> Result<MemoryDisk, AllocError>
         ensures state { IfOk result (λ disk. state_of disk
             ≡ record { tells = true; honest = true; history = fresh image.now; faults = 0; hard = 0 }) }
-        ensures nothing_ordered { IfOk result (λ disk. (call : _) → is_ordered disk call ≡ false) }
+        ensures nothing_ordered { IfOk result (λ disk. (call : _) → order_of disk call ≡ None) }
         ensures not_short { IfOk result (λ disk. is_short disk ≡ false) }
     {
         Ok(MemoryDisk {
@@ -47,11 +47,22 @@ impl MemoryDisk {
     pub fn fail_next(&mut self, call: Call)
         ensures state { state_of self.new ≡ state_of self.old }
         ensures short { is_short self.new ≡ is_short self.old }
-        ensures ordered { is_ordered self.new call ≡ is_disk_call call }
-        ensures others { (other : _) → other ≢ call → is_ordered self.new other ≡ is_ordered self.old other }
+        ensures ordered { order_of self.new call ≡ (if is_disk_call call then Some 0 else None) }
+        ensures others { (other : _) → other ≢ call → order_of self.new other ≡ order_of self.old other }
+    {
+        self.fail_after(call, 0);
+    }
+
+    /// Orders that the next `passed` calls of this kind pass and the one after them fails, in place of what was
+    /// ordered of this kind before. A call of another device is not ordered.
+    pub fn fail_after(&mut self, call: Call, passed: u32)
+        ensures state { state_of self.new ≡ state_of self.old }
+        ensures short { is_short self.new ≡ is_short self.old }
+        ensures ordered { order_of self.new call ≡ (if is_disk_call call then Some passed else None) }
+        ensures others { (other : _) → other ≢ call → order_of self.new other ≡ order_of self.old other }
     {
         if call.is_of_disk() {
-            self.orders.set(call, true);
+            self.orders.set(call, Some(passed));
         }
     }
 
@@ -70,7 +81,7 @@ impl MemoryDisk {
             })
             × IsTrue (is_short self.new)) }
         ensures possible { MayLeave (state_of self.old).history (state_of self.new).history.reads }
-        ensures orders { (call : _) → is_ordered self.new call ≡ is_ordered self.old call }
+        ensures orders { (call : _) → order_of self.new call ≡ order_of self.old call }
     {
         if self.log.crash(pick).is_err() {
             self.short = true;
@@ -104,6 +115,20 @@ impl MemoryDisk {
         ensures { result ≡ is_short self.now }
     {
         self.short
+    }
+
+    // Notes an attachment that was refused above, which counts as no fault of this disk.
+    pub(crate) fn note_attachment(&mut self)
+        ensures { NotesAttachment self.old self.new }
+    {
+        self.log.attach();
+    }
+
+    // How many of its calls were refused: all, and those but readings.
+    pub(crate) fn refusals(&self) -> (u64, u64)
+        ensures { result ≡ ((state_of self.now).faults, (state_of self.now).hard) }
+    {
+        (self.faults, self.hard)
     }
 
     fn count_fault(&mut self)

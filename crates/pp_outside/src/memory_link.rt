@@ -1,5 +1,5 @@
 // A link in memory.
-ghost use Rattle.std.specs.Prelude.{◌≡◌, ◌≢◌, ◌+◌, ◌-◌, ◌^◌, ◌<◌, ◌≤◌, ◌++◌, ◌↔◌, min, true, false, [], ◌∷◌, None, Some, length, drop, map, slice_get, IsTrue, IsOk, IsErr, IfOk, OnOk, OnErr};
+ghost use Rattle.std.specs.Prelude.{◌≡◌, ◌≢◌, ◌+◌, ◌-◌, ◌^◌, ◌<◌, ◌≤◌, ◌++◌, ◌↔◌, min, true, false, if◌then◌else◌, [], ◌∷◌, None, Some, length, drop, map, slice_get, IsTrue, IsOk, IsErr, IfOk, OnOk, OnErr};
 ghost use Rattle.pp_terms.specs.disk.Disk.{moment_of};
 
 use crate::events::Events;
@@ -25,7 +25,7 @@ impl MemoryLink {
     ghost use Rattle.pp_outside.specs.Orders.{is_link_call};
     ghost use Rattle.pp_outside.specs.Arrivals.{IsEvent};
     ghost use Rattle.pp_outside.specs.Records.{marked, bytes_of, sent_of};
-    ghost use Rattle.pp_outside.specs.MemoryLink.{state_of, in_order, arrivals_of, is_ordered, is_short};
+    ghost use Rattle.pp_outside.specs.MemoryLink.{state_of, in_order, arrivals_of, order_of, is_short};
     ghost use Rattle.pp_outside.specs.Faults.{one_more, counted};
 
     /// A link with no events and no records. It takes no memory yet.
@@ -33,7 +33,7 @@ impl MemoryLink {
         ensures ok { IsOk result }
         ensures state { IfOk result (λ link. state_of link ≡ record { traffic = Some []; faults = 0; nexts = 0; bound = None }) }
         ensures no_events { IfOk result (λ link. arrivals_of link ≡ record { coming = []; last = 0 }) }
-        ensures nothing_ordered { IfOk result (λ link. (call : _) → is_ordered link call ≡ false) }
+        ensures nothing_ordered { IfOk result (λ link. (call : _) → order_of link call ≡ None) }
         ensures not_short { IfOk result (λ link. is_short link ≡ false) }
     {
         Ok(MemoryLink {
@@ -56,7 +56,7 @@ impl MemoryLink {
         ensures ok { OnOk result (is_short self.new ≡ is_short self.old) }
         ensures refused { OnErr result ((arrivals_of self.new ≡ arrivals_of self.old) × IsTrue (is_short self.new)) }
         ensures state { state_of self.new ≡ record (state_of self.old) { faults = counted (state_of self.old).faults result } }
-        ensures orders { (call : _) → is_ordered self.new call ≡ is_ordered self.old call }
+        ensures orders { (call : _) → order_of self.new call ≡ order_of self.old call }
     {
         if let Err(none) = self.events.add(event, bytes) {
             self.run_short();
@@ -70,11 +70,23 @@ impl MemoryLink {
         ensures state { state_of self.new ≡ state_of self.old }
         ensures events { arrivals_of self.new ≡ arrivals_of self.old }
         ensures short { is_short self.new ≡ is_short self.old }
-        ensures ordered { is_ordered self.new call ≡ is_link_call call }
-        ensures others { (other : _) → other ≢ call → is_ordered self.new other ≡ is_ordered self.old other }
+        ensures ordered { order_of self.new call ≡ (if is_link_call call then Some 0 else None) }
+        ensures others { (other : _) → other ≢ call → order_of self.new other ≡ order_of self.old other }
+    {
+        self.fail_after(call, 0);
+    }
+
+    /// Orders that the next `passed` calls of this kind pass and the one after them fails, in place of what was
+    /// ordered of this kind before. A call of another device is not ordered.
+    pub fn fail_after(&mut self, call: Call, passed: u32)
+        ensures state { state_of self.new ≡ state_of self.old }
+        ensures events { arrivals_of self.new ≡ arrivals_of self.old }
+        ensures short { is_short self.new ≡ is_short self.old }
+        ensures ordered { order_of self.new call ≡ (if is_link_call call then Some passed else None) }
+        ensures others { (other : _) → other ≢ call → order_of self.new other ≡ order_of self.old other }
     {
         if !call.is_of_disk() {
-            self.orders.set(call, true);
+            self.orders.set(call, Some(passed));
         }
     }
 

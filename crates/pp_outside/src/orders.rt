@@ -1,40 +1,42 @@
-// Which calls of a device are to be refused next.
-ghost use Rattle.std.specs.Prelude.{◌≡◌, true, false};
+// Which calls of a device are to be refused, and how many of their kind pass before.
+ghost use Rattle.std.specs.Prelude.{◌≡◌, None};
+ghost use Rattle.pp_outside.specs.Orders.{after_one};
 
 use crate::Call;
 
+// Of each kind of call the order that stands, if one does: how many calls pass before the one that is refused.
 #[derive(Clone, Copy)]
 pub(crate) struct Orders {
-    attach: bool,
-    len: bool,
-    read: bool,
-    write: bool,
-    sync: bool,
-    bind: bool,
-    next: bool,
-    send: bool,
+    attach: Option<u32>,
+    len: Option<u32>,
+    read: Option<u32>,
+    write: Option<u32>,
+    sync: Option<u32>,
+    bind: Option<u32>,
+    next: Option<u32>,
+    send: Option<u32>,
 }
 
 impl Orders {
-    ghost use Rattle.pp_outside.specs.Orders.{has_order, with_order};
+    ghost use Rattle.pp_outside.specs.Orders.{order_of, with_order, is_due};
 
     pub(crate) fn none() -> Orders
-        ensures { (call : _) → has_order result call ≡ false }
+        ensures { (call : _) → order_of result call ≡ None }
     {
         Orders {
-            attach: false,
-            len: false,
-            read: false,
-            write: false,
-            sync: false,
-            bind: false,
-            next: false,
-            send: false,
+            attach: None,
+            len: None,
+            read: None,
+            write: None,
+            sync: None,
+            bind: None,
+            next: None,
+            send: None,
         }
     }
 
-    fn has(&self, call: Call) -> bool
-        ensures { result ≡ has_order self.now call }
+    fn get(&self, call: Call) -> Option<u32>
+        ensures { result ≡ order_of self.now call }
     {
         match call {
             Call::Attach => self.attach,
@@ -48,7 +50,7 @@ impl Orders {
         }
     }
 
-    pub(crate) fn set(&mut self, call: Call, to: bool)
+    pub(crate) fn set(&mut self, call: Call, to: Option<u32>)
         ensures { self.new ≡ with_order self.old call to }
     {
         match call {
@@ -63,13 +65,23 @@ impl Orders {
         }
     }
 
-    // Whether the call was ordered to fail, which uses the order up.
+    // Whether the call is to be refused, which uses its order up; else one call fewer passes.
     pub(crate) fn take(&mut self, call: Call) -> bool
-        ensures was { result ≡ has_order self.old call }
-        ensures after { self.new ≡ with_order self.old call false }
+        ensures was { result ≡ is_due (order_of self.old call) }
+        ensures after { self.new ≡ with_order self.old call (after_one (order_of self.old call)) }
     {
-        let ordered = self.has(call);
-        self.set(call, false);
-        ordered
+        let order = self.get(call);
+        self.set(call, without_one(order));
+        order == Some(0)
+    }
+}
+
+// An order after one call of its kind.
+fn without_one(order: Option<u32>) -> Option<u32>
+    ensures { result ≡ after_one order }
+{
+    match order {
+        Some(passed) => passed.checked_sub(1),
+        None => None,
     }
 }

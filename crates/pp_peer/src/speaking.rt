@@ -21,7 +21,7 @@ use crate::parts::Parts;
 use crate::supporting::Supports;
 use arrayvec::ArrayVec;
 use pp_agenda::{Agenda, Due, awaited_ranges};
-use pp_avail::{Rank, Ranker};
+use pp_avail::{Rank, Ranker, by_blocks};
 use pp_counts::Note;
 use pp_desk::Delivered;
 use pp_draft::Note as Said;
@@ -66,6 +66,7 @@ fn pick_by(order: Rank, fetching: &mut Fetching, seat: u8, room: u32) -> RangeLi
     match order {
         Rank::Sequential => fetching.pick(seat, room, &Ranker::new(Rank::Sequential, zero)),
         Rank::Rarest => fetching.pick(seat, room, &Ranker::new(Rank::Rarest, copies_of)),
+        Rank::Blocks => fetching.pick(seat, room, &Ranker::new(Rank::Blocks, by_blocks)),
     }
 }
 

@@ -1,5 +1,5 @@
 -- The peers of a schedule before its first move.
-use Rattle.std.proofs.Common.{◌≡◌, ℕ, zero, suc, ◌+◌, false, true, List, [], ◌∷◌, ◌++◌, map, length, refl, sym, ◌∙◌, ap, subst, arith}
+use Rattle.std.proofs.Common.{◌≡◌, ℕ, zero, suc, ◌+◌, false, true, None, List, [], ◌∷◌, ◌++◌, map, length, refl, sym, ◌∙◌, ap, subst, arith}
 use Rattle.std.proofs.lemmas.List.{length-replicate, map-append}
 use Rattle.std.specs.Prelude.{replicate, Result, Ok, Err, IfOk}
 use Rattle.std.specs.declared.alloc.AllocError.{AllocError}
@@ -24,8 +24,12 @@ use Rattle.pp_world.specs.Worlds.{AreNew, HasDisk, IsFilled, IsNew, empty_disk, 
 use Rattle.pp_mail.proofs.Peers.{mail_at}
 use Rattle.pp_replay.specs.Views.{as_role}
 use Rattle.pp_replay.specs.declared.types.Role.{Role}
-use Rattle.pp_actor.specs.Actor.{ActorState, ShowsActor}
+use Rattle.pp_replay.specs.declared.types.Role.TheVariants as roles
+use Rattle.pp_actor.specs.Actor.{ActorState, ShowsActor, part_of}
+use Rattle.pp_actor.specs.Keeping.{Part}
+use Rattle.pp_actor.specs.Starting.{IsSetFor, rank_of}
 use Rattle.pp_actor.specs.Lasting.{IsSoundNow}
+use Rattle.pp_play.specs.Keeping.{HasRole, HaveRoles}
 use Rattle.pp_play.specs.First.{BeginAs, BeginsAs, IsReadied}
 use Rattle.pp_play.specs.Stage.{ShowActors}
 
@@ -36,7 +40,7 @@ both_ok (Err e) p q makes = tt
 -- ---- one peer
 
 pub empty_shown : (disk : MemoryDisk) → disks.state_of disk ≡ record { tells = true; honest = true; history = fresh []; faults = 0; hard = 0 }
-    → ((call : Call) → disks.is_ordered disk call ≡ false) → ShowsDisk 0 disk (idle empty_disk)
+    → ((call : Call) → disks.order_of disk call ≡ None) → ShowsDisk 0 disk (idle empty_disk)
 empty_shown disk state none = record {
   unattached = refl;
   history = ap (λ (s : DiskState). attached (fresh []) s.history) state;
@@ -90,16 +94,30 @@ shown_more d most [] (y ∷ ys) a x show one = absurd show
 shown_more d most (b ∷ actors) [] a x show one = absurd show
 shown_more d most (b ∷ actors) (y ∷ ys) a x show one = (show.0, shown_more d most actors ys a x show.1 one)
 
+roles_more : (roles : List terms.Role) (parts : List Part) (role : terms.Role) (part : Part) → HaveRoles roles parts → HasRole role part
+    → HaveRoles (roles ++ role ∷ []) (parts ++ part ∷ [])
+roles_more [] [] role part have is = (is, tt)
+roles_more [] (p ∷ parts) role part have is = absurd have
+roles_more (r ∷ roles) [] role part have is = absurd have
+roles_more (r ∷ roles) (p ∷ parts) role part have is = (have.0, roles_more roles parts role part have.1 is)
+
+role_of : (role : Role) (a : ActorState) → IsSetFor role a.start → HasRole (as_role role) (part_of a)
+role_of roles.Seeds a set = set.asks
+role_of (roles.Fetches order dialled) a set = (rank_of order, set.asks, set.dialled)
+
 pub begin_more : (chunk : ℕ) (content : List ℕ) (roles : List Role) (actors : List ActorState) (role : Role) (disk : MemoryDisk) (a : ActorState)
     → IsContent chunk content → BeginAs (imported content chunk) content roles actors → BeginsAs (imported content chunk) content role disk
     → ((d : Descriptor) (most : ℕ) (calls : Calls) → ShowsDisk most disk (idle calls) → IsSoundNow d (history_of calls) → ShowsActor d most a (idle calls))
-    → BeginAs (imported content chunk) content (roles ++ role ∷ []) (actors ++ a ∷ [])
-begin_more chunk content roles actors role disk a fits begin begins shows = let d = imported content chunk in record {
+    → IsSetFor role a.start → BeginAs (imported content chunk) content (roles ++ role ∷ []) (actors ++ a ∷ [])
+begin_more chunk content roles actors role disk a fits begin begins shows set = let d = imported content chunk in record {
   peers = begin.peers ++ idle begins.calls ∷ [];
   new = subst (λ (rs : List terms.Role). AreNew d content rs (begin.peers ++ idle begins.calls ∷ [])) (sym (map-append as_role roles (role ∷ [])))
       (new_more d content (map as_role roles) begin.peers (as_role role) (idle begins.calls) begin.new (record { disk = begins.has; is = refl }));
   show = shown_more d 0 actors begin.peers a (idle begins.calls) begin.show
       (shows d 0 begins.calls begins.shows (sound_first chunk content (as_role role) begins.calls fits begins.has));
+  told = subst (λ (rs : List terms.Role). HaveRoles rs (map part_of (actors ++ a ∷ []))) (sym (map-append as_role roles (role ∷ [])))
+      (subst (HaveRoles (map as_role roles ++ as_role role ∷ [])) (sym (map-append part_of actors (a ∷ [])))
+      (roles_more (map as_role roles) (map part_of actors) (as_role role) (part_of a) begin.told (role_of role a set)));
 }
 
 -- ---- all of them
@@ -140,6 +158,7 @@ module _ (s : terms.Schedule) (d : Descriptor) (content : List ℕ) (roles : Lis
 
   pub readied : IsReadied s (record { descriptor = d; clock = 0; actors = actors; mail = mail })
   readied = record {
+    told = subst (λ (rs : List terms.Role). HaveRoles rs (map part_of actors)) are begin.told;
     descriptor = is ∙ ap (λ (bytes : List ℕ). imported bytes s.chunk) is_content;
     first = record { clock = 0; peers = begin.peers };
     is_first = record { clock = refl; peers = new };

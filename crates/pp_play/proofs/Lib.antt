@@ -1,4 +1,5 @@
 pub mod Deliveries
+pub mod Books
 pub mod Endings
 pub mod Few
 pub mod Firsts

@@ -1,6 +1,6 @@
 -- What happens to the peers of a replay, as to those of a world.
 use Rattle.std.proofs.Common.{◌≡◌, ℕ, zero, suc, ◌+◌, ◌<◌, Bool, true, false, Option, Some, None, List, [], ◌∷◌, length, refl, sym, ◌∙◌, ap, subst, arith}
-use Rattle.std.specs.Prelude.{is_some, if◌then◌else◌, slice_get, slice_set, reverse, Result, Ok, Err, OnOk}
+use Rattle.std.specs.Prelude.{is_some, if◌then◌else◌, slice_get, slice_set, reverse, Result, Ok, Err, OnOk, map}
 use Rattle.std.specs.declared.alloc.AllocError.{AllocError}
 use Rattle.pp_terms.specs.format.Descriptor.{Descriptor}
 use Rattle.pp_terms.specs.format.Traffic.{Address, Record}
@@ -12,7 +12,8 @@ use Rattle.pp_world.specs.World.{Queued, PeerState, World, address_of}
 use Rattle.pp_mail.specs.Mail.{with_queue}
 use Rattle.pp_mail.proofs.Peers.{mail_at, mail_at-with_peer}
 use Rattle.pp_stage.specs.declared.turning.Running.{Running}
-use Rattle.pp_actor.specs.Actor.{ActorState, ShowsActor, ShowsNow}
+use Rattle.pp_actor.specs.Actor.{ActorState, ShowsActor, ShowsNow, part_of}
+use Rattle.pp_actor.specs.Keeping.{Part}
 use Rattle.pp_actor.proofs.Actors.{more_shown, same_disk}
 use Rattle.pp_play.specs.Stage.{StageState, ShowActors, MovesAs, does_run, runs_at}
 
@@ -21,6 +22,10 @@ use Rattle.pp_play.specs.Stage.{StageState, ShowActors, MovesAs, does_run, runs_
 pub ok_then : {P Q : Type 0} (r : Result (Unit {0}) AllocError) → (P → Q) → OnOk r P → OnOk r Q
 ok_then (Ok u) makes is = makes is
 ok_then (Err e) makes is = tt
+
+pub ok_both : {P Q R : Type 0} (r : Result (Unit {0}) AllocError) → (P → Q → R) → OnOk r P → OnOk r Q → OnOk r R
+ok_both (Ok u) makes p q = makes p q
+ok_both (Err e) makes p q = tt
 
 -- ---- a peer and its number
 
@@ -132,12 +137,21 @@ mail_at-with_peer_same peer change [] same = refl
 mail_at-with_peer_same zero change (y ∷ ys) same = ap (λ (q : List Queued). q ∷ mail_at ys) (same y)
 mail_at-with_peer_same (suc peer) change (y ∷ ys) same = ap (λ (qs : List (List Queued)). y.queue ∷ qs) (mail_at-with_peer_same peer change ys same)
 
+-- ---- what each is told
+
+pub parts_set : (peer : ℕ) (a b : ActorState) (actors : List ActorState) → slice_get actors peer ≡ Some a → part_of b ≡ part_of a
+    → map part_of (slice_set actors peer b) ≡ map part_of actors
+parts_set peer a b [] here same = refl
+parts_set zero a b (c ∷ actors) here same = let is : c ≡ a = cc in ap (λ (p : Part). p ∷ map part_of actors) (same ∙ sym (ap part_of is))
+parts_set (suc peer) a b (c ∷ actors) here same = ap (λ (ps : List Part). part_of c ∷ ps) (parts_set peer a b actors here same)
+
 -- ---- moves
 
 pub waits : (gain : ℕ) (old : StageState) → MovesAs (Wait gain) old (record old { clock = old.clock + gain })
 waits gain old = record {
   descriptor = refl;
   count = refl;
+  parts = refl;
   moves = λ most w low shows. record {
     after = record w { clock = w.clock + gain };
     moves = refl;
@@ -164,6 +178,7 @@ module _ (peer : ℕ) (act : Move) (change : PeerState → PeerState) (changed :
   queue_changes runs = record {
     descriptor = refl;
     count = refl;
+    parts = refl;
     moves = λ most w low shows.
         let it = stands_at old.descriptor most peer a old.actors w.peers shows.actors here in
         let on : it.x.is_running ≡ true = runs_as old.descriptor most a it.x it.shows ∙ sym (ap does_run here) ∙ runs in record {
@@ -183,6 +198,7 @@ module _ (peer : ℕ) (act : Move) (change : PeerState → PeerState) (changed :
   queue_stays runs = record {
     descriptor = refl;
     count = refl;
+    parts = refl;
     moves = λ most w low shows.
         let it = stands_at old.descriptor most peer a old.actors w.peers shows.actors here in
         let off : it.x.is_running ≡ false = runs_as old.descriptor most a it.x it.shows ∙ sym (ap does_run here) ∙ runs in
@@ -201,12 +217,13 @@ module _ (peer : ℕ) (act : Move) (change : PeerState → PeerState) (changed :
 -- A change of a peer, but for its queue, and of its actor.
 pub actor_changes : (peer : ℕ) (act : Move) (change : PeerState → PeerState) (a b : ActorState) (old : StageState)
     → ((d : Descriptor) (w : World) → Moves d act w (with_change peer change w)) → ((x : PeerState) → (change x).queue ≡ x.queue)
-    → slice_get old.actors peer ≡ Some a → length (slice_set old.actors peer b) ≡ length old.actors
+    → slice_get old.actors peer ≡ Some a → length (slice_set old.actors peer b) ≡ length old.actors → part_of b ≡ part_of a
     → ((d : Descriptor) (most : ℕ) (x : PeerState) → ShowsActor d most a x → ShowsActor d most b (change x))
     → MovesAs act old (record old { actors = slice_set old.actors peer b })
-actor_changes peer act change a b old acts same here count makes = record {
+actor_changes peer act change a b old acts same here count part makes = record {
   descriptor = refl;
   count = count;
+  parts = parts_set peer a b old.actors here part;
   moves = λ most w low shows. record {
     after = with_change peer change w;
     moves = acts old.descriptor w;

@@ -1,10 +1,9 @@
 -- A turn of one peer, as one of a peer of a world.
-use Rattle.std.proofs.Common.{◌≡◌, ◌⊎◌, ⊎_elim, ℕ, zero, suc, ◌+◌, ◌-◌, ◌^◌, ◌<◌, ◌≤◌, Bool, true, false, Option, Some, None, List, [], ◌∷◌, ◌++◌, length, refl, sym, ◌∙◌, ap, subst, arith}
+use Rattle.std.proofs.Common.{◌≡◌, ◌⊎◌, ⊎_elim, ℕ, zero, suc, ◌+◌, ◌-◌, ◌^◌, ◌<◌, Bool, true, false, Option, Some, None, List, [], ◌∷◌, ◌++◌, length, refl, sym, ◌∙◌, ap, subst, arith}
 use Rattle.std.proofs.Math.ListN.{get_or}
 use Rattle.std.proofs.lemmas.List.{length-reverse, length-set}
 use Rattle.std.proofs.lemmas.Option.{slice_get_read}
-use Rattle.pp_play.specs.Starting.{lives_of, next_life}
-use Rattle.std.specs.Prelude.{is_some, min, option_map, drop, if◌then◌else◌, slice_get, slice_set, reverse, MatchBool}
+use Rattle.std.specs.Prelude.{is_some, option_map, drop, if◌then◌else◌, slice_get, slice_set, reverse, MatchBool, map}
 use Rattle.pp_terms.specs.format.Descriptor.{Descriptor}
 use Rattle.pp_terms.specs.format.Traffic.{Record, Received}
 use Rattle.pp_outside.specs.MemoryLink as links
@@ -25,11 +24,11 @@ use Rattle.pp_world.specs.World as worlds
 use Rattle.pp_mail.specs.Mail.{queue_of, with_queue}
 use Rattle.pp_mail.proofs.Peers.{mail_at, peers_after_from-none}
 use Rattle.pp_stage.specs.declared.turning.Running.{Running}
-use Rattle.pp_actor.specs.Actor.{ActorState, ActorOpens, ActorTurns, HasGained, IsPlaying, ShowsActor, ShowsNow, is_deaf, link_in}
+use Rattle.pp_actor.specs.Actor.{ActorState, ActorOpens, ActorTurns, HasGained, IsPlaying, ShowsActor, ShowsNow, is_deaf, link_in, part_of}
 use Rattle.pp_actor.proofs.Actors.{stays_idle}
 use Rattle.pp_play.specs.Stage.{StageState, ShowActors, ShowsStage, MovesAs, HasHeard, mail_after}
 use Rattle.pp_play.proofs.Deliveries.{mail_at-sent, newest}
-use Rattle.pp_play.proofs.Stages.{more_actors, requeued_all, runs_as, stands_at}
+use Rattle.pp_play.proofs.Stages.{parts_set, more_actors, requeued_all, runs_as, stands_at}
 
 -- ---- lists
 
@@ -65,11 +64,12 @@ no_records = []
 
 -- One peer may have opened its store.
 pub starts : (peer : ℕ) (a b : ActorState) (old : StageState) → slice_get old.actors peer ≡ Some a → length (slice_set old.actors peer b) ≡ length old.actors
-    → ((most : ℕ) (x : PeerState) → most + 4 < 2 ^ 64 → ShowsActor old.descriptor most a x → ActorOpens old.descriptor most x b)
+    → part_of b ≡ part_of a → ((most : ℕ) (x : PeerState) → most + 4 < 2 ^ 64 → ShowsActor old.descriptor most a x → ActorOpens old.descriptor most x b)
     → MovesAs (Make (Start peer)) old (record old { actors = slice_set old.actors peer b })
-starts peer a b old here count opens = record {
+starts peer a b old here count part opens = record {
   descriptor = refl;
   count = count;
+  parts = parts_set peer a b old.actors here part;
   moves = λ most w low shows.
       let it = stands_at old.descriptor most peer a old.actors w.peers shows.actors here in
       let at = opens most it.x low it.shows in record {
@@ -126,6 +126,7 @@ module _ (peer : ℕ) (r : Running) (old mid : StageState) (heard : HasHeard pee
   turns sent same = record {
     descriptor = ap (λ (s : StageState). s.descriptor) heard.is;
     count = ap (λ (s : StageState). length s.actors) heard.is ∙ count;
+    parts = ap (λ (s : StageState). map part_of s.actors) heard.is ∙ parts_set peer heard.before heard.after old.actors heard.was heard.part;
     moves = λ most w low shows.
         let it = stands_at old.descriptor most peer heard.before old.actors w.peers shows.actors heard.was in
         let now : IsPlaying most it.x r (reverse heard.before.lives) =
@@ -251,6 +252,7 @@ pub turns_none : (peer : ℕ) (a : ActorState) (old : StageState) → slice_get 
 turns_none peer a old here none = record {
   descriptor = refl;
   count = refl;
+  parts = refl;
   moves = λ most w low shows.
       let it = stands_at old.descriptor most peer a old.actors w.peers shows.actors here in
       let off : it.x.is_running ≡ false = runs_as old.descriptor most a it.x it.shows ∙ ap is_some (runs_not a.running none) in record {
@@ -308,14 +310,3 @@ module _ (peer : ℕ) (old mid : StageState) (heard : HasHeard peer old mid) (wi
   turn_off deaf none same =
       subst (λ (b : Bool). MovesAs (Make (Turn peer)) old (behind mid peer b)) (sym (deaf_is deaf same))
       (turns_off peer over.r old mid heard runs count (ap (λ (a : ActorState). a.running) is_after ∙ runs_not after.running none))
-
--- ---- the number of a life
-
-pub next_is : (peer : ℕ) (actors : List ActorState) (a : ActorState) (lives most : ℕ) → slice_get actors peer ≡ Some a → lives ≡ length a.lives → 2 ^ 32 - 1 ≤ most
-    → min (min (lives + 1) most) (2 ^ 32 - 1) ≡ next_life peer actors
-next_is peer actors a lives most here is large =
-    let same : lives_of (slice_get actors peer) ≡ lives = ap lives_of here ∙ sym is in
-    less (lives + 1) most large ∙ ap (λ (n : ℕ). min (n + 1) (2 ^ 32 - 1)) (sym same)
-  where
-    less : (n m : ℕ) → 2 ^ 32 - 1 ≤ m → min (min n m) (2 ^ 32 - 1) ≡ min n (2 ^ 32 - 1)
-    less n m le = omega (arith, le)

@@ -9,7 +9,8 @@ use Rattle.pp_world.specs.World.{PeerState, World}
 use Rattle.pp_world.specs.Worlds.{AreNew, HasDisk, IsFirst, idle, swarm_of}
 use Rattle.pp_replay.specs.Views.{as_role}
 use Rattle.pp_replay.specs.declared.types.Role.{Role}
-use Rattle.pp_actor.specs.Actor.{ActorState}
+use Rattle.pp_actor.specs.Actor.{ActorState, part_of}
+use Rattle.pp_play.specs.Keeping.{HaveRoles}
 use Rattle.pp_play.specs.Stage.{ShowActors, ShowsStage, StageState}
 
 -- Such a peer begins with this disk.
@@ -23,10 +24,12 @@ pub record BeginAs (d : Descriptor) (content : List ℕ) (roles : List Role) (ac
   pub peers : List PeerState
   pub new : AreNew d content (map as_role roles) peers
   pub show : ShowActors d 0 actors peers
+  pub told : HaveRoles (map as_role roles) (map part_of actors)
 
 -- The peers are those of the schedule's first world.
 pub record IsReadied (s : Schedule) (stage : StageState) : Type 0 where
   pub descriptor : stage.descriptor ≡ swarm_of s
+  pub told : HaveRoles s.roles (map part_of stage.actors)
   pub first : World
   pub is_first : IsFirst s first
   pub shows : ShowsStage 0 stage first

@@ -1,5 +1,5 @@
+pub mod Keeping
 pub mod First
 pub mod Playing
 pub mod Replaying
 pub mod Stage
-pub mod Starting

@@ -1,5 +1,5 @@
 -- The peers of a replay, what is on its way to them and the clock, as a world.
-use Rattle.std.specs.Prelude.{◌≡◌, ℕ, ◌+◌, ◌^◌, ◌<◌, Bool, false, Option, Some, None, is_some, List, [], ◌∷◌, length, slice_get, slice_set}
+use Rattle.std.specs.Prelude.{◌≡◌, ℕ, ◌+◌, ◌^◌, ◌<◌, Bool, false, Option, Some, None, is_some, List, [], ◌∷◌, length, map, slice_get, slice_set}
 use Rattle.pp_terms.specs.format.Descriptor.{Descriptor}
 use Rattle.pp_terms.specs.format.Traffic.{Record, Received, Quiet, Sent}
 use Rattle.pp_world.specs.Change.{Moves}
@@ -7,7 +7,7 @@ use Rattle.pp_world.specs.Move.{Move}
 use Rattle.pp_world.specs.World.{Queued, PeerState, World}
 use Rattle.pp_mail.specs.Mail.{delivered, queue_of}
 use Rattle.pp_mail.proofs.Peers.{mail_at}
-use Rattle.pp_actor.specs.Actor.{ActorState, ActorTurns, ShowsActor}
+use Rattle.pp_actor.specs.Actor.{ActorState, ActorTurns, BeginsBy, ShowsActor, part_of}
 
 pub record StageState : Type 0 where
   pub descriptor : Descriptor
@@ -45,6 +45,8 @@ pub record StageMoves (d : Descriptor) (most : ℕ) (w : World) (move : Move) (n
 pub record MovesAs (move : Move) (old new : StageState) : Type 0 where
   pub descriptor : new.descriptor ≡ old.descriptor
   pub count : length new.actors ≡ length old.actors
+  -- what each peer is told stays
+  pub parts : map part_of new.actors ≡ map part_of old.actors
   pub moves : (most : ℕ) (w : World) → most + 4 < 2 ^ 64 → ShowsStage most old w → StageMoves old.descriptor most w move new
 
 -- ---- one peer
@@ -57,10 +59,19 @@ does_run (Some a) = is_some a.running
 abbrev pub runs_at : ℕ → List ActorState → Bool
 runs_at peer actors = does_run (slice_get actors peer)
 
+-- A peer that didn't run and now does has begun its next life.
+pub record HasStarted (peer : ℕ) (old new : StageState) : Type 0 where
+  pub before : ActorState
+  pub after : ActorState
+  pub was : slice_get old.actors peer ≡ Some before
+  pub is : slice_get new.actors peer ≡ Some after
+  pub begins : BeginsBy old.descriptor before after
+
 -- One peer took a turn, and heard what waited first for it.
 pub record HasHeard (peer : ℕ) (old new : StageState) : Type 0 where
   pub before : ActorState
   pub after : ActorState
+  pub part : part_of after ≡ part_of before
   pub was : slice_get old.actors peer ≡ Some before
   pub is : new ≡ record old { actors = slice_set old.actors peer after }
   pub turns : (most : ℕ) (x : PeerState) → most + 4 < 2 ^ 64 → ShowsActor old.descriptor most before x → queue_of peer old.mail ≡ x.queue

@@ -3,12 +3,10 @@ ghost use Rattle.std.specs.Prelude.{◌≡◌, ◌<◌, length, OnOk};
 ghost use Rattle.pp_world.specs.Move.{Wait, Make};
 ghost use Rattle.pp_world.specs.Schedule as acts;
 ghost use Rattle.pp_replay.specs.Views.{as_device};
-ghost use Rattle.pp_play.specs.Stage.{MovesAs};
-ghost use Rattle.pp_play.specs.Starting.{HasStarted};
+ghost use Rattle.pp_play.specs.Stage.{HasStarted, MovesAs};
 
 use crate::Stage;
 use pp_replay::Device;
-use pp_stage::Start;
 use std::alloc::AllocError;
 
 impl Stage {
@@ -89,12 +87,12 @@ impl Stage {
         self.actors[usize::from(peer)].stop()
     }
 
-    /// A peer that doesn't run opens its store.
-    pub(crate) fn start(&mut self, peer: u8, start: &Start) -> Result<(), AllocError>
+    /// A peer that doesn't run opens its store, by its role, for its next life.
+    pub(crate) fn start(&mut self, peer: u8) -> Result<(), AllocError>
         requires { peer < length self.old.actors }
         ensures moves { OnOk result (MovesAs (Make (acts.Start peer)) self.old self.new) }
-        ensures started { OnOk result (HasStarted peer start.now self.old self.new) }
+        ensures started { OnOk result (HasStarted peer self.old self.new) }
     {
-        self.actors[usize::from(peer)].start(&self.descriptor, start)
+        self.actors[usize::from(peer)].start(&self.descriptor)
     }
 }

@@ -1,5 +1,5 @@
 // The peers of a schedule before its first move.
-ghost use Rattle.std.specs.Prelude.{◌≡◌, IfOk};
+ghost use Rattle.std.specs.Prelude.{◌≡◌, ◌≤◌, length, IfOk};
 ghost use Rattle.pp_terms.specs.tree.Content.{IsChunkSize};
 ghost use Rattle.pp_world.specs.Schedule.{IsSchedule, content_of};
 ghost use Rattle.pp_store.specs.Growing.{IsContent};
@@ -55,12 +55,14 @@ fn actors_of(
     content: &[u8],
     roles: &[Role],
 ) -> Result<Vec<Actor>, AllocError>
-    requires { IsContent chunk content.now }
+    requires content { IsContent chunk content.now }
+    requires few { length roles.now ≤ 16 }
     ensures { IfOk result (λ actors. BeginAs (imported content.now chunk) content.now roles.now actors.items) }
 {
     let mut actors = Vec::with_capacity(alloc, roles.len())?;
     for role in roles {
-        actors.push(Actor::new(alloc, disk_of(alloc, chunk, content, role)?))?;
+        let disk = disk_of(alloc, chunk, content, role)?;
+        actors.push(Actor::new(alloc, actors.len() as u8, role, disk))?;
     }
     Ok(actors)
 }

@@ -7,7 +7,6 @@ mod first;
 mod playing;
 mod replaying;
 mod stage;
-mod starting;
 mod turns;
 
 pub use replaying::{Outcome, ReplayFault, replay};

@@ -7,11 +7,9 @@ ghost use Rattle.pp_world.specs.Schedule.{IsAct, IsStep, IsSchedule, Turn, Start
 ghost use Rattle.pp_replay.specs.Views.{as_act, as_step};
 ghost use Rattle.pp_play.specs.Stage.{MovesAs};
 ghost use Rattle.pp_play.specs.Playing.{PlaysAs};
-ghost use Rattle.pp_play.specs.Starting.{StartsByRole};
 
 use crate::Stage;
-use crate::starting::start_of;
-use pp_replay::{Act, Hex, Role, Schedule, Step};
+use pp_replay::{Act, Hex, Schedule, Step};
 use std::alloc::{AllocError, Global};
 
 // The bytes that digits write.
@@ -24,21 +22,9 @@ fn bytes_of(alloc: Global, digits: &Hex<'_>) -> Result<Vec<u8>, AllocError>
 }
 
 impl Stage {
-    // Opens the store of a peer that doesn't run, by its role.
-    fn start_by(&mut self, peer: u8, roles: &[Role]) -> Result<(), AllocError>
-        requires peer { peer < length self.old.actors }
-        requires roles { length roles.now ≡ length self.old.actors }
-        ensures moves { OnOk result (MovesAs (Make (Start peer)) self.old self.new) }
-        ensures role { OnOk result (StartsByRole peer roles.now self.old self.new) }
-    {
-        let start = start_of(peer, self.next_life(peer), &roles[usize::from(peer)]);
-        self.start(peer, &start)
-    }
-
     // Lets something happen to one peer.
-    fn act(&mut self, alloc: Global, act: Act<'_>, roles: &[Role]) -> Result<(), AllocError>
-        requires is_act { IsAct (length self.old.actors) (as_act act) }
-        requires roles { length roles.now ≡ length self.old.actors }
+    fn act(&mut self, alloc: Global, act: Act<'_>) -> Result<(), AllocError>
+        requires { IsAct (length self.old.actors) (as_act act) }
         ensures { OnOk result (MovesAs (Make (as_act act.entry)) self.old self.new) }
     {
         match act {
@@ -63,7 +49,7 @@ impl Stage {
             }
             Act::Crash { peer, pick } => self.crash(peer, pick),
             Act::Stop(peer) => self.stop(peer),
-            Act::Start(peer) => self.start_by(peer, roles),
+            Act::Start(peer) => self.start(peer),
         }
     }
 
@@ -90,26 +76,24 @@ impl Stage {
         Ok(())
     }
 
-    fn step(&mut self, alloc: Global, step: Step<'_>, roles: &[Role]) -> Result<(), AllocError>
+    fn step(&mut self, alloc: Global, step: Step<'_>) -> Result<(), AllocError>
         requires few { length self.old.actors ≤ 16 }
         requires is_step { IsStep (length self.old.actors) (as_step step) }
-        requires roles { length roles.now ≡ length self.old.actors }
         ensures { OnOk result (PlaysAs (moves_of_step (length self.old.actors) (as_step step.entry)) self.old self.new) }
     {
         match step {
-            Step::Once(act) => self.act(alloc, act, roles),
+            Step::Once(act) => self.act(alloc, act),
             Step::Run { rounds, gain } => self.run(rounds, gain),
         }
     }
 
     // Opens the store of each peer, by rising number.
-    fn start_each(&mut self, roles: &[Role]) -> Result<(), AllocError>
-        requires few { length self.old.actors ≤ 16 }
-        requires roles { length roles.now ≡ length self.old.actors }
+    fn start_each(&mut self) -> Result<(), AllocError>
+        requires { length self.old.actors ≤ 16 }
         ensures { OnOk result (PlaysAs (for_each Start 0 (length self.old.actors)) self.old self.new) }
     {
         for peer in 0..self.peers() as u8 {
-            self.start_by(peer, roles)?;
+            self.start(peer)?;
         }
         Ok(())
     }
@@ -120,10 +104,10 @@ impl Stage {
         requires peers { length self.old.actors ≡ length schedule.now.roles }
         ensures { OnOk result (PlaysAs (moves_of schedule.now) self.old self.new) }
     {
-        self.start_each(schedule.roles())?;
+        self.start_each()?;
         let mut steps = schedule.steps();
         while let Some(step) = steps.next_step() {
-            self.step(alloc, step, schedule.roles())?;
+            self.step(alloc, step)?;
         }
         Ok(())
     }

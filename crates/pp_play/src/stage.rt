@@ -1,7 +1,6 @@
 //! The peers of a replay.
 ghost use Rattle.std.specs.Prelude.{◌≡◌, ◌<◌, length};
 ghost use Rattle.pp_play.specs.Stage.{runs_at};
-ghost use Rattle.pp_play.specs.Starting.{next_life};
 
 use pp_actor::Actor;
 use pp_mail::Mail;
@@ -46,14 +45,5 @@ impl Stage {
         ensures { result ≡ runs_at peer self.now.actors }
     {
         self.actors[usize::from(peer)].is_running()
-    }
-
-    /// The number of the life that a peer which doesn't run would begin, counted from 1.
-    pub(crate) fn next_life(&self, peer: u8) -> u32
-        requires { peer < length self.now.actors }
-        ensures { result ≡ next_life peer self.now.actors }
-    {
-        let lives = self.actors[usize::from(peer)].lives().len();
-        lives.saturating_add(1).min(u32::MAX as usize) as u32
     }
 }

@@ -47,7 +47,8 @@ is_acknowledged i (Said now m ∷ before) = acknowledges i m || is_acknowledged 
 is_acknowledged i (Taken now ∷ before) = is_acknowledged i before
 
 -- A chunk that came for the first time, is proved by what its peer claims, and isn't contradicted by the book.
-pub record IsFirst (d : Descriptor) (book : LookUp) (life : Life) (before : List Record) (r : Record) (i : ℕ) (bytes : List ℕ) : Type 0 where
+pub record IsFirst (d : Descriptor) (book : LookUp) (life : Life) (before : List Record) (r : Record) (i : ℕ)
+    (bytes : List ℕ) : Type 0 where
   pub brings : BringsChunk d life before r i bytes
   pub proved : Proves d (claimed_before d life r before brings.front) i bytes
   pub agrees : Contradicts book (met_before d life r before brings.front i bytes) → ⊥
@@ -61,7 +62,7 @@ AcknowledgesFirst d book past = is_quiet (last_event past) ≡ true
     → EachRecord (λ before r. (life : Life) (i : ℕ) (bytes : List ℕ) → IsFirst d book life before r i bytes → IsPlainNow d life past
     → is_acknowledged i (story d life past) ≡ true) (earlier past)
 
--- It is so at the end of every turn.
+-- The same at the end of every turn.
 abbrev pub AcknowledgesAll : Descriptor → LookUp → List Record → Type 0
 AcknowledgesAll d book past = AtEndsBut 0 d (AcknowledgesFirst d book) past
 
@@ -95,7 +96,7 @@ new_count d life past = count_by (is_new d life past) (range_with_len 0 (chunks_
 abbrev pub fewest_new : ℕ
 fewest_new = 64
 
--- It was announced in an earlier turn, or stood in every image at the attachment.
+-- The chunk was announced in an earlier turn, or stood in every image at the attachment.
 abbrev pub IsKnownOf : Descriptor → History → List Record → ℕ → Type 0
 IsKnownOf d h past i = (is_announced d i (earlier past) ≡ true) ⊎ StoodThroughout d h i
 
@@ -105,6 +106,6 @@ abbrev pub TellsOfHeld : Descriptor → History → List Record → Type 0
 TellsOfHeld d h past = (life : Life) → IsPlainNow d life past → is_heard d life past ≡ true
     → (i : ℕ) → IsKnownOf d h past i → (is_told_of i (story d life past) ≡ true) ⊎ (fewest_new ≤ new_count d life past)
 
--- It is so at the end of every turn.
+-- The same at the end of every turn.
 abbrev pub TellsAll : Descriptor → History → List Record → Type 0
 TellsAll d h past = AtEndsBut 0 d (TellsOfHeld d h) past

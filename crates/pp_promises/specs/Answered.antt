@@ -70,7 +70,7 @@ ChokesNone r d past = openings d past + r ≤ slots → list_any (chokes d) past
 
 -- ---- silence
 
--- it is a handshake of that source channel
+-- the message is a handshake of that source channel
 abbrev pub is_of : ℕ → Message → Bool
 is_of number (Handshake source options) = source == number
 is_of number _ = false

@@ -56,6 +56,6 @@ abbrev pub AsksOffered : Descriptor → ℕ → List ℕ → List Record → Typ
 AsksOffered d below reads past = (life : Life) → MayBeAsked d life past → (i : ℕ) → i < below → is_offered i (story d life past) ≡ true
     → (list_any (asks_for d i) past ≡ true) ⊎ (holds d reads i ≡ true)
 
--- It is so of all chunks of the content, at the end of every turn but so many.
+-- The same of all chunks of the content, at the end of every turn but so many.
 abbrev pub AsksBut : ℕ → Descriptor → List ℕ → List Record → Type 0
 AsksBut r d reads past = AtEndsBut r d (AsksOffered d (chunks_of d) reads) past

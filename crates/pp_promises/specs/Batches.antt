@@ -54,7 +54,7 @@ after_put chunk now b =
     let more : Batch = record { committed = b.committed; pending = record { chunk = chunk; put_at = now } ∷ b.pending } in
     if is_full more then after_commit more else more
 
--- those of a datagram, in their order
+-- the puts of a datagram, in their order
 abbrev pub after_puts : List ℕ → ℕ → Batch → Batch
 after_puts [] now b = b
 after_puts (i ∷ more) now b = after_puts more now (after_put i now b)

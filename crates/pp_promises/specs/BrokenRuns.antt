@@ -39,7 +39,8 @@ pub record BrokenPromises : Type 0 where
   pub serves : (h : History) → ServesBut 0 seven (lets_send 1024) h (past run.served_one) → ⊥
   pub serves_but_one : (h : History) → LeavesFew 1 seven (lets_send 1024) h (past run.served_one) → ⊥
   -- what stood from the start isn't served
-  pub serves_stood : (h : History) → ((i : ℕ) → StoodThroughout seven h i) → ServesBut 0 seven (lets_send 1024) h (past (run.opened_untold ++ run.asks_all)) → ⊥
+  pub serves_stood : (h : History) → ((i : ℕ) → StoodThroughout seven h i)
+      → ServesBut 0 seven (lets_send 1024) h (past (run.opened_untold ++ run.asks_all)) → ⊥
   -- a chunk is announced to one channel and not to the other; the same chunks are told of again
   pub tells : (h : History) → TellsAll two_hundred h (past run.told_never) → ⊥
   pub tells_again : (h : History) → ((i : ℕ) → StoodThroughout two_hundred h i) → TellsAll two_hundred h (past run.told_twice) → ⊥
@@ -65,7 +66,8 @@ pub record BrokenPromises : Type 0 where
   pub closes_last : ClosesLast seven (past run.closed_early) → ⊥
   pub plans : PlansAll seven (lets_send 1024) (past run.first_sent) → ⊥
   -- a chunk comes with a hash too many, or with one too few
-  pub plans_more : PlansAll seven (lets_send 1024) (past (run.served_none ++ run.sends (run.hash 0 0 ∷ run.path_of_first ++ run.chunk 0 ∷ []))) → ⊥
+  pub plans_more : PlansAll seven (lets_send 1024)
+      (past (run.served_none ++ run.sends (run.hash 0 0 ∷ run.path_of_first ++ run.chunk 0 ∷ []))) → ⊥
   pub plans_less : PlansAll seven (lets_send 1024) (past (run.served_none ++ run.sends (drop 1 run.path_of_first ++ run.chunk 0 ∷ []))) → ⊥
   -- an announced chunk is in no set; a turn is lost though nothing was refused; a datagram isn't counted
   pub committed : (disk : DiskState) → AreCommitted seven disk (past run.opened) (replicate 7 false) → ⊥

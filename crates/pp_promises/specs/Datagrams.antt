@@ -46,8 +46,9 @@ pub record PlansOn (d : Descriptor) (window : Window) (past : List Record) (life
   pub answers : AnswersOn d window past life i front
   pub exact : hash_spans front ≡ map leaves_of (plan (chunks_of d) (is_read_told d life past) i)
 
--- It does so on some life of the datagram's receiver and number.
-pub record PlansPeer (d : Descriptor) (window : Window) (past : List Record) (receiver : Address) (channel : Option ℕ) (i : ℕ) (front : List Message) : Type 0 where
+-- The chunk does so on some life of the datagram's receiver and number.
+pub record PlansPeer (d : Descriptor) (window : Window) (past : List Record) (receiver : Address) (channel : Option ℕ) (i : ℕ)
+    (front : List Message) : Type 0 where
   pub life : Life
   pub at : life.address ≡ receiver
   pub by : channel ≡ Some life.remote

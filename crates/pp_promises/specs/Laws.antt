@@ -41,7 +41,8 @@ ReadAsks = (d : Descriptor) (life : Life) (i : ℕ) (past : List Record)
 
 -- What is owed is asked for.
 abbrev pub OwedIsAsked : Type 0
-OwedIsAsked = (d : Descriptor) (life : Life) (i : ℕ) (past : List Record) → is_owed d life i past ≡ true → asked i (story d life past) ≡ true
+OwedIsAsked = (d : Descriptor) (life : Life) (i : ℕ) (past : List Record) → is_owed d life i past ≡ true
+    → asked i (story d life past) ≡ true
 
 -- A peer that commits so commits in time, where fewer than 64 chunks were pending.
 abbrev pub BatchesAreInTime : Type 0
@@ -69,18 +70,21 @@ MetersAgree = (d : Descriptor) (life : Life) (chunk : ℕ) (past : List Record) 
 
 -- What one record more does to what was read of a life that has begun.
 pub record ReadsGrow : Type 0 where
-  pub read : (d : Descriptor) (life : Life) (r : Record) (past : List Record) → life.opening < length past → is_read d life (r ∷ past) ≡ true
+  pub read : (d : Descriptor) (life : Life) (r : Record) (past : List Record) → life.opening < length past
+      → is_read d life (r ∷ past) ≡ true
       → read_story d life (r ∷ past) ≡ told d life false (now (r ∷ past)) r (read_story d life past)
-  pub unread : (d : Descriptor) (life : Life) (r : Record) (past : List Record) → life.opening < length past → is_read d life (r ∷ past) ≡ false
+  pub unread : (d : Descriptor) (life : Life) (r : Record) (past : List Record) → life.opening < length past
+      → is_read d life (r ∷ past) ≡ false
       → read_story d life (r ∷ past) ≡ with_unread d life false (now (r ∷ past)) r (read_story d life past)
   -- what was read once is read from then on
-  pub stays : (d : Descriptor) (life : Life) (r : Record) (past : List Record) → is_read d life past ≡ true → is_read d life (r ∷ past) ≡ true
+  pub stays : (d : Descriptor) (life : Life) (r : Record) (past : List Record) → is_read d life past ≡ true
+      → is_read d life (r ∷ past) ≡ true
 
 -- A larger book contradicts no less.
 abbrev pub ContradictionsStay : Type 0
 ContradictionsStay = (book larger meets : LookUp) → Extends book larger → Contradicts book meets → Contradicts larger meets
 
--- So what is acknowledged by one book is by a larger one.
+-- What is acknowledged by one book is so by a larger one.
 abbrev pub AcknowledgedStays : Type 0
 AcknowledgedStays = (d : Descriptor) (book larger : LookUp) (past : List Record) → Extends book larger
     → AcknowledgesAll d book past → AcknowledgesAll d larger past

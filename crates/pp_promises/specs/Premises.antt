@@ -23,7 +23,7 @@ pub record IsWilling (old new : DiskState) : Type 0 where
   pub known : IsKnown old
   pub hard : IsCalm old.hard new.hard
 
--- And every image was sound when the store was attached, so that its open gates can be believed.
+-- Besides, every image was sound when the store was attached, so that its open gates can be believed.
 pub record IsSteady (d : Descriptor) (old new : DiskState) : Type 0 where
   pub willing : IsWilling old new
   pub began : BeganSound d new.history

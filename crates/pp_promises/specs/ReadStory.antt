@@ -17,7 +17,7 @@ with_unread d life is_opening now (Sent moment receiver bytes) story = told d li
 abbrev pub is_replied : Descriptor → Life → List Record → Bool
 is_replied d life past = some_since (greets d life) life.opening past
 
--- it is read: the channel is one that the other peer opened, or the reply was there
+-- what stands there is read: the channel is one that the other peer opened, or the reply was there
 abbrev pub is_read : Descriptor → Life → List Record → Bool
 is_read d life past = not life.is_dialled || is_replied d life past
 

@@ -103,7 +103,8 @@ news records = new_count two_hundred (answered 0) (past records)
 
 pub record TellingExamples : Type 0 where
   -- a chunk that was announced in one turn is told of on every channel in the next
-  pub to_one : (is_announced two_hundred 1 (past run.announced_to_one) ≡ true) × (is_announced two_hundred 1 (earlier (past run.announced_to_one)) ≡ false)
+  pub to_one : (is_announced two_hundred 1 (past run.announced_to_one) ≡ true)
+      × (is_announced two_hundred 1 (earlier (past run.announced_to_one)) ≡ false)
   pub late : is_told_of 1 (story two_hundred (second 2) (past run.told_late)) ≡ true
   pub never : (is_told_of 1 (story two_hundred (second 2) (past run.told_never)) ≡ false)
       × (is_announced two_hundred 1 (earlier (past run.told_never)) ≡ true) × (new_count two_hundred (second 2) (past run.told_never) ≡ 0)
@@ -147,8 +148,10 @@ pub record StoringExamples : Type 0 where
   -- the last 128 claims count
   pub crowded : (crowd 127 1 0 ≡ Some run.root_of_two) × (crowd 128 1 0 ≡ None)
   -- another digest of the chunk contradicts its climb, and one of its sibling doesn't
-  pub contradicts : Contradicts other_book (met_before two (answered 0) proof_of_second (past run.opened_two) run.hashes_of_two 1 (codes "abc"))
-  pub sibling : Contradicts sibling_book (met_before two (answered 0) proof_of_second (past run.opened_two) run.hashes_of_two 1 (codes "abc")) → ⊥
+  pub contradicts : Contradicts other_book
+      (met_before two (answered 0) proof_of_second (past run.opened_two) run.hashes_of_two 1 (codes "abc"))
+  pub sibling : Contradicts sibling_book
+      (met_before two (answered 0) proof_of_second (past run.opened_two) run.hashes_of_two 1 (codes "abc")) → ⊥
   -- another chunk isn't proved by these claims
   pub wrong : Proves two (claimed_before two (answered 0) proof_of_second (past run.opened_two) run.hashes_of_two) 1 (codes "abd") → ⊥
   -- an acknowledgement by the next turn in which nothing comes
@@ -214,16 +217,20 @@ pub record OwnExamples : Type 0 where
   pub passed_by_lesser : (alices run.own_passed_by_lesser).requests ≡ record { chunk = 9; asked_at = 1100000; overtaken = 0 } ∷ []
   -- where asking stopped one chunk may be asked for, and no second; its answer ends the stop
   pub probed : (may_ask (alices run.own_expired) ≡ true) × (may_ask (alices run.own_probed) ≡ false)
-      × ((alices run.own_probed).is_stopped ≡ true) × (alices run.own_answered ≡ record { requests = []; is_choked = false; is_stopped = false })
+      × ((alices run.own_probed).is_stopped ≡ true)
+      × (alices run.own_answered ≡ record { requests = []; is_choked = false; is_stopped = false })
   pub offered : is_offered 99 (story hundred (dialled 1) (past run.own_asking)) ≡ true
-  pub asked_next : (may_ask (alices run.own_asking) ≡ true) × (may_ask (alices run.own_again) ≡ true) × (may_ask (alices run.own_choked) ≡ false)
+  pub asked_next : (may_ask (alices run.own_asking) ≡ true) × (may_ask (alices run.own_again) ≡ true)
+      × (may_ask (alices run.own_choked) ≡ false)
   -- 31 may be outstanding and one more asked, but not 32
   pub full : (may_ask (asking hundred to_bob (past run.asks_too_few)) ≡ true)
       × (may_ask (asking hundred to_bob (past (run.dials_both ++ run.bob_replies ++ run.asks_bob 0 31))) ≡ false)
   -- the whole story has what came before the reply; what was read hasn't
-  pub whole : (is_offered 5 (story seven (dialled 1) (past run.before_reply)) ≡ true) × (is_choked_by_peer (story seven (dialled 1) (past run.before_reply)) ≡ true)
+  pub whole : (is_offered 5 (story seven (dialled 1) (past run.before_reply)) ≡ true)
+      × (is_choked_by_peer (story seven (dialled 1) (past run.before_reply)) ≡ true)
       × (length (claims_in 7 (story seven (dialled 1) (past run.before_reply))) ≡ 2)
-  pub read : (is_offered 5 (read_story seven (dialled 1) (past run.before_reply)) ≡ false) × (is_choked_by_peer (read_story seven (dialled 1) (past run.before_reply)) ≡ false)
+  pub read : (is_offered 5 (read_story seven (dialled 1) (past run.before_reply)) ≡ false)
+      × (is_choked_by_peer (read_story seven (dialled 1) (past run.before_reply)) ≡ false)
       × (is_offered 0 (read_story seven (dialled 1) (past run.before_reply)) ≡ true)
   pub proven : length (claims_in 7 (proven_story seven (dialled 1) (past run.before_reply))) ≡ 1
 
@@ -286,7 +293,8 @@ pub record BatchExamples : Type 0 where
   pub after_63 : (committed_count (stored 63) ≡ 0) × (length (stored 63).pending ≡ 63)
   pub after_64 : (committed_count (stored 64) ≡ 64) × (length (stored 64).pending ≡ 0)
   pub after_65 : (committed_count (stored 65) ≡ 64) × (length (stored 65).pending ≡ 1)
-  pub quiet : (committed_count (after_event true [] 1000000 (stored 65)) ≡ 65) × (length (after_event true [] 1000000 (stored 65)).pending ≡ 0)
+  pub quiet : (committed_count (after_event true [] 1000000 (stored 65)) ≡ 65)
+      × (length (after_event true [] 1000000 (stored 65)).pending ≡ 0)
   -- a tenth of a second later, with whatever comes
   pub soon : length (after_event false [] 1099999 (stored 65)).pending ≡ 1
   pub late : length (after_event false [] 1100000 (stored 65)).pending ≡ 0

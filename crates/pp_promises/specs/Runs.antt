@@ -271,7 +271,8 @@ unhashed = brought (second_chunk ∷ [])
 
 -- the hashes came in the peer's opening, when its address wasn't proven; a closing handshake stands before the chunk
 abbrev pub hashed_early : List Record
-hashed_early = Received 1000000 alice (shake_two 0 9 hashes_of_two) ∷ Sent 1 alice (shake_two 9 7 []) ∷ Received 1100000 alice (for 7 (second_chunk ∷ [])) ∷ []
+hashed_early = Received 1000000 alice (shake_two 0 9 hashes_of_two) ∷ Sent 1 alice (shake_two 9 7 []) ∷ Received 1100000 alice
+    (for 7 (second_chunk ∷ [])) ∷ []
 
 abbrev pub closed_before : List Record
 closed_before = opened_two ++ Received 1100000 alice (for 7 hashes_of_two)
@@ -283,9 +284,10 @@ crowded more = brought (Integrity (span 0 1) root_of_two ∷ replicate more (has
 
 -- this peer dialled: the hashes and the chunk are in the reply
 abbrev pub dialled_two : List Record
-dialled_two = Quiet 1000000 ∷ Sent 1 alice (shake_two 0 7 []) ∷ Received 1100000 alice (shake_two 7 9 (hashes_of_two ++ second_chunk ∷ [])) ∷ []
+dialled_two = Quiet 1000000 ∷ Sent 1 alice (shake_two 0 7 []) ∷ Received 1100000 alice
+    (shake_two 7 9 (hashes_of_two ++ second_chunk ∷ [])) ∷ []
 
--- it is acknowledged in its turn; by the next quiet turn; never
+-- a chunk is acknowledged in its turn; by the next quiet turn; never
 abbrev pub acknowledged : List Record
 acknowledged = proved ++ Sent 2 alice (for 9 (ack 1 1 ∷ have 1 1 ∷ [])) ∷ Quiet 1200000 ∷ []
 
@@ -378,10 +380,11 @@ own_asked_again = own_overtaken ++ Sent 1 alice (for 9 (request 4 4 ∷ [])) ∷
 
 -- the chunks that come are greater ones that were asked for earlier
 abbrev pub own_passed_by_earlier : List Record
-own_passed_by_earlier = dials_alice ++ Sent 1 alice (for 9 (request 10 12 ∷ [])) ∷ Quiet 1150000 ∷ Sent 1 alice (for 9 (request 3 3 ∷ [])) ∷ []
+own_passed_by_earlier = dials_alice
+    ++ Sent 1 alice (for 9 (request 10 12 ∷ [])) ∷ Quiet 1150000 ∷ Sent 1 alice (for 9 (request 3 3 ∷ [])) ∷ []
     ++ answers 1200000 (10 ∷ 11 ∷ 12 ∷ [])
 
--- and lesser ones that were asked for later
+-- the same by lesser ones that were asked for later
 abbrev pub own_passed_by_lesser : List Record
 own_passed_by_lesser = dials_alice ++ Sent 1 alice (for 9 (request 9 9 ∷ [])) ∷ Quiet 1150000 ∷ Sent 1 alice (for 9 (request 4 6 ∷ [])) ∷ []
     ++ answers 1200000 (4 ∷ 5 ∷ 6 ∷ [])

@@ -64,6 +64,6 @@ IsOwed d h life past i = (is_owed d life i past ≡ true) ⊎ ((asked i (story d
 abbrev pub LeavesFew : ℕ → Descriptor → Window → History → List Record → Type 0
 LeavesFew r d window h past = (life : Life) → MayBeServed d window life past → AtMost r (IsOwed d h life past)
 
--- It is so at the end of every turn but so many.
+-- The same at the end of every turn but so many.
 abbrev pub ServesBut : ℕ → Descriptor → Window → History → List Record → Type 0
 ServesBut r d window h past = AtEndsBut r d (LeavesFew r d window h) past

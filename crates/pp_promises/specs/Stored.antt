@@ -1,5 +1,5 @@
--- What a peer stores (RFC 7574, sections 3.4, 3.5 and 5.6): a chunk that came on a plain channel whose peer has claimed hashes
--- that prove it.
+-- What a peer stores (RFC 7574, sections 3.4, 3.5 and 5.6): a chunk that came on a plain channel whose peer has claimed
+-- hashes that prove it.
 use Rattle.std.specs.Prelude.{◌≡◌, ◌⊎◌, ℕ, true, false, List, ◌∷◌, ◌++◌}
 use Rattle.pp_terms.specs.disk.Image.{holds}
 use Rattle.pp_terms.specs.format.Descriptor.{Descriptor, chunks_of}

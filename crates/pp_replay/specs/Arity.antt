@@ -1,4 +1,4 @@
--- So many words and no more.
+-- Lines of so many words and no more.
 use Rattle.std.specs.Prelude.{ℕ, Bool, true, false, List, [], ◌∷◌, Result, Ok, Err}
 use Rattle.pp_world.specs.ScheduleFault as wrong
 use Rattle.pp_world.specs.ScheduleFault.{ScheduleKind}

@@ -1,10 +1,10 @@
 -- What was read, as the definitions of schedules have it.
 use Rattle.std.specs.Prelude.{Result, Ok, Err}
-use Rattle.pp_terms.specs.command.Commands as command
+use Rattle.pp_terms.specs.command.Order as orders
 use Rattle.pp_world.specs.ScheduleFault as wrong
 use Rattle.pp_world.specs.Schedule as terms
-use Rattle.pp_avail.specs.declared.ranker.Rank.{Rank}
-use Rattle.pp_avail.specs.declared.ranker.Rank.TheVariants.{Sequential, Rarest}
+use Rattle.pp_replay.specs.declared.types.Order.{Order}
+use Rattle.pp_replay.specs.declared.types.Order.TheVariants.{Sequential, Rarest}
 use Rattle.pp_replay.specs.declared.fault.ScheduleKind.{ScheduleKind}
 use Rattle.pp_replay.specs.declared.fault.ScheduleKind.TheVariants.{Long, Header, Content, Line, Number, Peer, Hex}
 use Rattle.pp_replay.specs.declared.fault.ScheduleFault.{ScheduleFault}
@@ -38,9 +38,9 @@ as_kind Hex = wrong.Hex
 abbrev pub as_fault : ScheduleFault → wrong.ScheduleFault
 as_fault f = wrong.fault f.line (as_kind f.kind)
 
-abbrev pub as_order : Rank → command.Order
-as_order Sequential = command.Sequential
-as_order Rarest = command.Rarest
+abbrev pub as_order : Order → orders.Order
+as_order Sequential = orders.Sequential
+as_order Rarest = orders.Rarest
 
 abbrev pub as_role : Role → terms.Role
 as_role Seeds = terms.Seeds

@@ -22,4 +22,4 @@ pub use fault::{ScheduleFault, ScheduleKind};
 pub use reading::read_schedule;
 pub use rehearsing::rehearsal;
 pub use schedule::{Schedule, Steps};
-pub use types::{Act, Device, Role, Step};
+pub use types::{Act, Device, Order, Role, Step};

@@ -6,8 +6,7 @@ ghost use Rattle.pp_replay.specs.Views.{viewed, as_order, as_device, as_kind};
 ghost use Rattle.pp_replay.specs.StepNames.{step_named};
 
 use crate::fault::ScheduleKind;
-use crate::types::Device;
-use pp_avail::Rank;
+use crate::types::{Device, Order};
 
 /// The first words of steps.
 #[derive(Clone, Copy)]
@@ -24,12 +23,12 @@ pub(crate) enum StepName {
     Start,
 }
 
-pub(crate) fn order_of(word: &[u8]) -> Result<Rank, ScheduleKind>
+pub(crate) fn order_of(word: &[u8]) -> Result<Order, ScheduleKind>
     ensures { viewed as_order as_kind result ≡ found wrong.Line (order_of word.now) }
 {
     match word {
-        b"sequential" => Ok(Rank::Sequential),
-        b"rarest" => Ok(Rank::Rarest),
+        b"sequential" => Ok(Order::Sequential),
+        b"rarest" => Ok(Order::Rarest),
         _ => Err(ScheduleKind::Line),
     }
 }

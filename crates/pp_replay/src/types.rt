@@ -1,14 +1,20 @@
 // What a schedule has.
 use crate::datagram::Hex;
 use arrayvec::ArrayVec;
-use pp_avail::Rank;
 
-/// What a peer does: it seeds the content, or fetches it, in the order of a rule, and dials 1 to 15 other peers.
+/// The order in which a peer asks for the chunks that it lacks: by rising number, or those first that the fewest peers have.
+#[derive(Clone, Copy, Debug, PartialEq, Eq)]
+pub enum Order {
+    Sequential,
+    Rarest,
+}
+
+/// What a peer does: it seeds the content, or fetches it, in an order, and dials 1 to 15 other peers.
 #[derive(Debug, Drop)]
 pub enum Role {
     Seeds,
     Fetches {
-        order: Rank,
+        order: Order,
         dialled: ArrayVec<u8, 15>,
     },
 }

@@ -42,8 +42,8 @@ pub record Knows (chunks : ℕ) (told : ToldNodes) (are_told : Node → Bool) : 
   pub content : told.chunks ≡ chunks
   pub known : (n : Node) → knows told n ≡ are_told n
 
--- Each chunk that this peer waits for is one of the content, and is named by a REQUEST of that moment. Where asking has stopped, some REQUEST is old;
--- where the other peer's CHOKE is noted, it stands.
+-- Each chunk that this peer waits for is one of the content, and is named by a REQUEST of that moment. Where asking has stopped, some
+-- REQUEST is old; where the other peer's CHOKE is noted, it stands.
 pub record Asks (own : List Asking) (stopped chokes : Bool) (were : (i moment : ℕ) → Bool) (is_old is_choked : Bool) : Type 0 where
   pub named : (i moment : ℕ) → asked_at own i ≡ Some moment → were i moment ≡ true
   pub expired : stopped ≡ true → is_old ≡ true

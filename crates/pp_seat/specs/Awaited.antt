@@ -33,7 +33,7 @@ abbrev pub AreAwaited : List Asking → List Line → Type 0
 AreAwaited own story = (i : ℕ) → outstanding (clock story) (option_map request_of (entry_of own i))
     ≡ outstanding (clock story) (request_for i (own_requests story))
 
--- It stays so with a line more, with several messages more that were sent, and without one.
+-- Both go on with a line more, with several messages more that were sent, and without one.
 pub record KeepsAwaited (line : Line) (old new : List Asking) : Type 0 where
   pub stays : (story : List Line) → clock story ≤ moment_of line → AreAwaited old story → AreAwaited new (line ∷ story)
 
@@ -69,21 +69,23 @@ pub record LinesKeepAwaited : Type 0 where
   pub answer : (i now sent_at : ℕ) (bytes : List ℕ) (old new : List Asking) → Answers now i old new
       → KeepsAwaited (Heard now (Data i sent_at bytes)) old new
   pub choke : (now : ℕ) (story : List Line) → AreAwaited [] (Heard now Choke ∷ story)
-  pub cancel : (now : ℕ) (span : Span) (old new : List Asking) → ((i : ℕ) → entry_of new i ≡ (if within span i then None else entry_of old i))
+  pub cancel : (now : ℕ) (span : Span) (old new : List Asking)
+      → ((i : ℕ) → entry_of new i ≡ (if within span i then None else entry_of old i))
       → KeepsAwaited (Said now (Cancel span)) old new
   pub cancels : (now : ℕ) (range : Span) (spans : List Span) (old new : List Asking) → IsSplit range spans
       → ((i : ℕ) → entry_of new i ≡ (if within range i then None else entry_of old i)) → AllKeepAwaited now (map Cancel spans) old new
   pub requests : (now : ℕ) (range : Span) (spans : List Span) (old new : List Asking) → IsSplit range spans → AsksAll range now old new
       → AllKeepAwaited now (map Request spans) old new
   pub passed : (now : ℕ) (ms : List Message) (own : List Asking) → AllPassSaid ms → AllKeepAwaited now ms own own
-  pub twice : (now : ℕ) (ms more : List Message) (old mid new : List Asking) → AllKeepAwaited now ms old mid → AllKeepAwaited now more mid new
+  pub twice : (now : ℕ) (ms more : List Message) (old mid new : List Asking) → AllKeepAwaited now ms old mid
+      → AllKeepAwaited now more mid new
       → AllKeepAwaited now (ms ++ more) old new
   pub expired : (now i : ℕ) (story : List Line) (old new : List Asking) → IsLeastExpired old now i → ChangesEntry i None old new
       → now ≤ clock story → AreAwaited old story → AreAwaited new story
   pub lost : (i : ℕ) (story : List Line) (old new : List Asking) → IsLeastLost old i → ChangesEntry i None old new
       → AreAwaited old story → AreAwaited new story
 
--- So it is where a seat begins.
+-- A seat begins with none awaited.
 abbrev pub NoneAwaited : Type 0
 NoneAwaited = (f : Frame) (lost : Lost) (s : SeatState) (t : Tale) → Begins f t → Follows f lost s t → AreAwaited s.own t.story
 
@@ -92,12 +94,14 @@ NoneAwaited = (f : Frame) (lost : Lost) (s : SeatState) (t : Tale) → Begins f 
 -- Where none of the own requests has expired or is lost, they are exactly those that are outstanding.
 abbrev pub OwnIsAsking : Type 0
 OwnIsAsking = (d : Descriptor) (life : Life) (own : List Asking) (past : List Record) → AreAwaited own (read_story d life past)
-    → NoneExpired own (now past) → NoneLost own → (i : ℕ) → option_map request_of (entry_of own i) ≡ request_for i (asking d life past).requests
+    → NoneExpired own (now past) → NoneLost own → (i : ℕ)
+    → option_map request_of (entry_of own i) ≡ request_for i (asking d life past).requests
 
 -- Asking stays stopped through what was sent, what came elsewhere and what isn't read; and it stops with a wait in which one of the own
 -- requests expired.
 pub record StopsAreTold : Type 0 where
   pub stays : (d : Descriptor) (life : Life) (r : Record) (past : List Record) → life.opening ≤ length past
       → (comes_on d life r && is_read d life (r ∷ past)) ≡ false → is_stopped d life past ≡ true → is_stopped d life (r ∷ past) ≡ true
-  pub stops : (own : List Asking) (story : List Line) (now i moment : ℕ) → AreAwaited own story → NoneExpired own (clock story) → NoneLost own
+  pub stops : (own : List Asking) (story : List Line) (now i moment : ℕ) → AreAwaited own story → NoneExpired own (clock story)
+      → NoneLost own
       → asked_at own i ≡ Some moment → moment + waiting_time ≤ now → has_expired (Taken now ∷ story) ≡ true

@@ -41,7 +41,8 @@ pub record Follows (f : Frame) (lost : Lost) (s : SeatState) (t : Tale) : Type 0
   pub told : Knows f.chunks s.told (is_told f.chunks t.story)
   pub claims : s.claims ≡ take 128 (claims_in f.chunks t.proven)
   pub proven : s.proven ≡ f.proven
-  pub own : Asks s.own s.stopped s.chokes (λ i moment. is_asked_at f.chunks i moment t.story) (has_old_request (clock t.story) t.story) (is_choked_by_peer t.story)
+  pub own : Asks s.own s.stopped s.chokes (λ i moment. is_asked_at f.chunks i moment t.story) (has_old_request (clock t.story) t.story)
+      (is_choked_by_peer t.story)
   pub haves : Haves s.cursor f.known_of (λ i. is_told_of i t.story)
   pub fresh : Fresh s.cursor f.proven t.told lost.haves
   pub exchange : Exchanges s.answer s.question (last_answer t.story) (last_question t.story)
@@ -50,7 +51,7 @@ pub record Follows (f : Frame) (lost : Lost) (s : SeatState) (t : Tale) : Type 0
 pub record Goes (P : Frame → Tale → Type 0) (line : Line) (old new : SeatState) : Type 0 where
   pub follows : (f : Frame) (lost : Lost) (t : Tale) → P f t → Follows f lost old t → Follows f lost new (with_line line f.proven t)
 
--- And one that no line tells of; and one that gives a chunk up.
+-- A call that no line tells of; and one that gives a chunk up.
 pub record Stays (P : Frame → Tale → Type 0) (old new : SeatState) : Type 0 where
   pub follows : (f : Frame) (lost : Lost) (t : Tale) → P f t → Follows f lost old t → Follows f lost new t
 
@@ -58,7 +59,7 @@ pub record GivesUp (old new : SeatState) : Type 0 where
   pub follows : (f : Frame) (lost : Lost) (t : Tale) → Follows f lost old t
       → Follows f (record { chunks = lost.chunks + 1; haves = lost.haves }) new t
 
--- and one that sets the cursor back
+-- a call that sets the cursor back
 pub record SetsBack (old new : SeatState) : Type 0 where
   pub follows : (f : Frame) (lost : Lost) (t : Tale) → Follows f lost old t
       → Follows f (record { chunks = lost.chunks; haves = lost.haves + 1 }) new t
@@ -67,7 +68,7 @@ pub record SetsBack (old new : SeatState) : Type 0 where
 pub record Says (P : Frame → Tale → Type 0) (now : ℕ) (ms : List Message) (old new : SeatState) : Type 0 where
   pub follows : (f : Frame) (lost : Lost) (t : Tale) → P f t → Follows f lost old t → Follows f lost new (with_said now ms f.proven t)
 
--- and one by which the channel is proven
+-- the same once the channel is proven
 abbrev pub proved : Frame → Frame
 proved f = record { chunks = f.chunks; size = f.size; since = f.since; known_of = f.known_of; proven = true }
 

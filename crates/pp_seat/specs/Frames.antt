@@ -68,10 +68,12 @@ pub record TalesGrow : Type 0 where
       → life.is_dialled ≡ false → let r = Received at sender bytes in comes_on d life r ≡ false
       → IsSameTale (with_line (Taken (now (r ∷ past))) false (with_heard (now (r ∷ past)) (heard_in d life true r) false no_tale))
       (tale_of d life (r ∷ past))
-  pub dialled : (d : Descriptor) (life : Life) (moment : ℕ) (receiver : Address) (bytes : List ℕ) (past : List Record) → life.opening ≡ length past
+  pub dialled : (d : Descriptor) (life : Life) (moment : ℕ) (receiver : Address) (bytes : List ℕ) (past : List Record)
+      → life.opening ≡ length past
       → let r = Sent moment receiver bytes in
       IsSameTale (with_said (now past) (said_in d life r) false no_tale) (tale_of d life (r ∷ past))
-  pub sent : (d : Descriptor) (life : Life) (moment : ℕ) (receiver : Address) (bytes : List ℕ) (past : List Record) → life.opening < length past
+  pub sent : (d : Descriptor) (life : Life) (moment : ℕ) (receiver : Address) (bytes : List ℕ) (past : List Record)
+      → life.opening < length past
       → let r = Sent moment receiver bytes in
       IsSameTale (with_said (now past) (said_in d life r) (is_heard d life past) (tale_of d life past)) (tale_of d life (r ∷ past))
   pub quiet : (d : Descriptor) (life : Life) (at : ℕ) (is_proven : Bool) (past : List Record) → life.opening < length past
@@ -79,10 +81,12 @@ pub record TalesGrow : Type 0 where
   -- a datagram on the channel that is read
   pub heard : (d : Descriptor) (life : Life) (at : ℕ) (sender : Address) (bytes : List ℕ) (past : List Record) → life.opening < length past
       → let r = Received at sender bytes in comes_on d life r ≡ true → is_read d life (r ∷ past) ≡ true
-      → IsSameTale (with_line (Taken (now (r ∷ past))) true (with_heard (now (r ∷ past)) (heard_in d life false r) true (tale_of d life past)))
+      → IsSameTale (with_line (Taken (now (r ∷ past))) true
+      (with_heard (now (r ∷ past)) (heard_in d life false r) true (tale_of d life past)))
       (tale_of d life (r ∷ past))
   -- one that isn't, or that is none of the channel's
-  pub unread : (d : Descriptor) (life : Life) (at : ℕ) (sender : Address) (bytes : List ℕ) (is_proven : Bool) (past : List Record) → life.opening < length past
+  pub unread : (d : Descriptor) (life : Life) (at : ℕ) (sender : Address) (bytes : List ℕ) (is_proven : Bool) (past : List Record)
+      → life.opening < length past
       → let r = Received at sender bytes in (comes_on d life r ≡ false) ⊎ (is_read d life (r ∷ past) ≡ false)
       → IsSameTale (with_line (Taken (now (r ∷ past))) is_proven (tale_of d life past)) (tale_of d life (r ∷ past))
 
@@ -96,7 +100,8 @@ NoneBegins = (f : Frame) → f.proven ≡ false → Begins f no_tale
 pub record OwedIsKept : Type 0 where
   pub announced : (d : Descriptor) (life : Life) (is_found : ℕ → Bool) (i : ℕ) (past : List Record) → is_owed d life i past ≡ true
       → (place : ℕ) × (since_of d life is_found i past ≡ Some place) × (asked_since place i (story d life past) ≡ true)
-  pub found : (d : Descriptor) (life : Life) (is_found : ℕ → Bool) (i : ℕ) (past : List Record) → is_found i ≡ true → asked i (story d life past) ≡ true
+  pub found : (d : Descriptor) (life : Life) (is_found : ℕ → Bool) (i : ℕ) (past : List Record) → is_found i ≡ true
+      → asked i (story d life past) ≡ true
       → (place : ℕ) × (since_of d life is_found i past ≡ Some place) × (asked_since place i (story d life past) ≡ true)
 
 -- One record more: what it announces, and nothing else, was announced when the tale is as long as it is then.
@@ -130,7 +135,8 @@ pub record NewsAreCounted : Type 0 where
   pub begun : (d : Descriptor) (life : Life) (i : ℕ) (past : List Record) → sent_since past ≡ []
       → was_told_of d life i past ≡ was_told_of d life i (earlier past)
   pub counted : (d : Descriptor) (life : Life) (past : List Record) (f : Frame) (lost : Lost) (s : SeatState) (t : Tale) (spans : List Span)
-      → Follows f lost s t → lost.haves ≡ 0 → ((i : ℕ) → t.told i ≡ was_told_of d life i (earlier past)) → TellsFrom d life past s.cursor spans
+      → Follows f lost s t → lost.haves ≡ 0 → ((i : ℕ) → t.told i ≡ was_told_of d life i (earlier past))
+      → TellsFrom d life past s.cursor spans
       → number_count spans ≤ new_count d life past
   pub enough : (d : Descriptor) (h : History) (life : Life) (is_found known_of : ℕ → Bool) (past : List Record) (lost : Lost)
       (s : SeatState) → IsPlainNow d life past → Follows (frame_of d life is_found known_of past) lost s (tale_of d life past)

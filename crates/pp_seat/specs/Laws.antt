@@ -37,7 +37,7 @@ IsIdle (Taken now) f t = ⊥
 abbrev pub IdleStays : Type 0
 IdleStays = (line : Line) (s : SeatState) → Goes (IsIdle line) line s s
 
--- So it is with several that were sent.
+-- The same of several messages that were sent.
 abbrev pub AreIdleSaid : List Message → Type 0
 AreIdleSaid [] = Unit {0}
 AreIdleSaid (m ∷ ms) = IsIdleSaid m × AreIdleSaid ms
@@ -92,4 +92,5 @@ NoneLeft = (f : Frame) (lost : Lost) (s : SeatState) (t : Tale) → Follows f lo
 
 -- On a channel without a slot a CHOKE was sent, or is to be sent.
 abbrev pub ChokesAreDue : Type 0
-ChokesAreDue = (f : Frame) (lost : Lost) (s : SeatState) (t : Tale) → Follows f lost s t → s.slot ≡ false → choked t.story ≡ false → s.owes ≡ true
+ChokesAreDue = (f : Frame) (lost : Lost) (s : SeatState) (t : Tale) → Follows f lost s t → s.slot ≡ false → choked t.story ≡ false
+    → s.owes ≡ true

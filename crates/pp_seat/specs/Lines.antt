@@ -29,7 +29,7 @@ is_named_at i moment (Heard now m ∷ before) = is_named_at i moment before
 is_named_at i moment (Said now m ∷ before) = names_at i moment now m || is_named_at i moment before
 is_named_at i moment (Taken now ∷ before) = is_named_at i moment before
 
--- and it is a chunk of the content
+-- the same of a chunk of the content
 abbrev pub is_asked_at : (chunks i moment : ℕ) → List Line → Bool
 is_asked_at chunks i moment story = nat_lt i chunks && is_named_at i moment story
 

@@ -28,7 +28,7 @@ pub record Greets (seat moment : ℕ) (old new : SeatsState) (link later : LinkS
   pub stands : (x : Setting) (most : ℕ) (past : List Record) → StandsFor x most old past
       → StandsFor x most new (Sent moment (address_of greeting.address) bytes ∷ past)
 
--- It wasn't: the seat is free, or the link refused it.
+-- No greeting went: the seat is free, or the link refused it.
 pub record GreetsNot (seat : ℕ) (old new : SeatsState) (link later : LinkState) : Type 0 where
   pub same : new ≡ old
   pub why : ((greeting_of (channel_at old.table seat) ≡ None) × (later ≡ link)) ⊎ Refuses link later
@@ -56,7 +56,7 @@ pub record Dials (to : Address) (moment : ℕ) (sent : Bool) (old new : SeatsSta
   pub stands : (x : Setting) (most : ℕ) (past : List Record) → StandsFor x most old past
       → StandsFor x most new (cond sent (Sent moment (address_of to) bytes ∷ []) [] ++ past)
 
--- It wasn't dialled: a channel has the address, or all seats are in use.
+-- None was dialled: a channel has the address, or all seats are in use.
 pub record DialsNone (to : Address) (old new : SeatsState) (link later : LinkState) : Type 0 where
   pub same : new ≡ old
   pub link_same : later ≡ link

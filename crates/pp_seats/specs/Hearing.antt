@@ -25,7 +25,7 @@ use Rattle.pp_seats.specs.Standing.{SeatsState, Setting, SeatSetting, at_seat, f
 
 -- ---- one seat
 
--- It follows these messages more, which came at a moment.
+-- The seat follows these messages more, which came at a moment.
 pub record HearsAll (now : ℕ) (ms : List Message) (old new : SeatState) : Type 0 where
   pub follows : (f : Frame) (lost : Lost) (t : Tale) → Follows f lost old t → Follows f lost new (with_heard now ms f.proven t)
   pub awaited : (story : List Line) → clock story ≤ now → AreAwaited old.own story → AreAwaited new.own (hear now ms story)
@@ -54,7 +54,7 @@ pub record Begins (d : Descriptor) (slot : Bool) (before after : SeatState) : Ty
   pub room : after.told.chunks ≡ before.told.chunks
   pub follows : (f : Frame) (t : Tale) → f.chunks ≡ before.told.chunks → f.size ≡ d.chunk → seats.Begins f t → Follows f none_lost after t
 
--- It is shown that the other peer's address is no forged one.
+-- What came shows that the other peer's address is no forged one.
 pub record IsShown (before after : SeatState) : Type 0 where
   pub exact : after ≡ record before { proven = true; stopped = false }
   pub follows : (f : Frame) (lost : Lost) (t : Tale) → Follows f lost before t → Follows (proved f) lost after t
@@ -95,7 +95,7 @@ pub record IsReady (x : SeatSetting) (most moment : ℕ) (s : SeatState) (life :
   pub follows : Follows (with_proven is_proven (frame_in x life past)) lost s tale
   pub awaited : AreAwaited s.own tale.story
 
--- So does each seat; all that is missing is that the peer looks up.
+-- Each seat is ready; all that is missing is that the peer looks up.
 pub record Ready (x : Setting) (most : ℕ) (p : SeatsState) (r : Record) (past : List Record) : Type 0 where
   pub event : is_event r ≡ true
   pub swarm : p.descriptor ≡ x.d
@@ -105,7 +105,7 @@ pub record Ready (x : Setting) (most : ℕ) (p : SeatsState) (r : Record) (past 
   pub begun : AllBegun p.table
   pub follow : EachKnown p.table lives p.seats (λ n s life. IsReady (at_seat x n) most p.moment s life r past)
 
--- It is so once the messages of the datagram were heard, where there are some to be heard.
+-- The same once the messages of the datagram were heard, where there are some to be heard.
 abbrev pub OnceRead : Descriptor → List ℕ → Arrival → (SeatsState → Type 0) → SeatsState → Type 0
 OnceRead d bytes (Opened seat next) P p = (q : SeatsState) → IsRead seat (drop 1 (contents d bytes).read) p q → P q
 OnceRead d bytes (Replied seat) P p = (q : SeatsState) → IsRead seat (contents d bytes).read p q → P q

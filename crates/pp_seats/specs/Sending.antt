@@ -121,7 +121,11 @@ pub record SpeaksBy (opening : Option ℕ) (seat : ℕ) (notes : List Note) (mom
   pub before : SeatState
   pub after : SeatState
   pub there : slice_get old.seats seat ≡ Some before
-  pub is : new ≡ record old { table = with_sent old.table seat (is_some opening) delivered.sent old.moment; seats = slice_set old.seats seat after }
+  pub is : new ≡ record old {
+    table = with_sent old.table seat (is_some opening) delivered.sent old.moment;
+    seats =
+        slice_set old.seats seat after;
+  }
   pub goes : Goes opening (way_of old far moment) notes (record { seat = before; link = link; so_far = none_delivered })
       (record { seat = after; link = later; so_far = delivered })
   pub added : List Record

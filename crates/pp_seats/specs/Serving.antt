@@ -56,7 +56,7 @@ pub record MayGo (p : SeatsState) (seat : ℕ) (far : Far) (s : SeatState) (i : 
   pub proven : s.proven ≡ true
   pub next : IsNext s i
 
--- So does this one, to that receiver.
+-- The next chunk does so, to that receiver.
 pub record IsReadied (p : SeatsState) (seat : ℕ) (next : Next) : Type 0 where
   pub far : Far
   pub before : SeatState
@@ -104,7 +104,8 @@ pub record Refuses (link later : LinkState) : Type 0 where
   pub bound : later.bound ≡ link.bound
 
 -- A chunk was sent behind the hashes of its plan: those that the peer lacks. It answers the peer, and the seats stand for it.
-pub record SendsChunk (seat : ℕ) (store : StoreState) (book : LookUp) (old new : SeatsState) (link later : LinkState) (disk left : DiskState) : Type 0 where
+pub record SendsChunk (seat : ℕ) (store : StoreState) (book : LookUp) (old new : SeatsState) (link later : LinkState)
+    (disk left : DiskState) : Type 0 where
   pub far : Far
   pub before : SeatState
   pub after : SeatState

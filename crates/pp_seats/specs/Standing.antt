@@ -59,9 +59,10 @@ AllHold chunks seats = (n : ℕ) (s : SeatState) → slice_get seats n ≡ Some 
 abbrev pub AllFresh : List SeatState → Type 0
 AllFresh seats = (n : ℕ) (s : SeatState) → slice_get seats n ≡ Some s → IsFresh false s
 
--- So it is with each seat on whose channel the other peer's number is known, and with the channel's life.
+-- The same with each seat on whose channel the other peer's number is known, and with the channel's life.
 abbrev pub EachKnown : Seats → (ℕ → Option Life) → List SeatState → (ℕ → SeatState → Life → Type 0) → Type 0
-EachKnown t lives seats P = (n : ℕ) (c : Channel) (life : Life) (s : SeatState) → channel_at t n ≡ Some c → is_waiting c ≡ false → lives n ≡ Some life
+EachKnown t lives seats P = (n : ℕ) (c : Channel) (life : Life) (s : SeatState) → channel_at t n ≡ Some c → is_waiting c ≡ false
+    → lives n ≡ Some life
     → slice_get seats n ≡ Some s → P n s life
 
 -- The seats stand for what the link carried: each channel has its life there, and its seat follows that.

@@ -13,7 +13,8 @@ pub record Rewinds (seat to : ℕ) (old new : SeatsState) : Type 0 where
   pub exact : after ≡ record before { cursor = min before.cursor to }
   pub is : new ≡ record old { seats = slice_set old.seats seat after }
   pub stands : (x : Setting) (most : ℕ) (past : List Record) → StandsFor x most old past → StandsFor x (most + 1) new past
-  pub unproven : before.proven ≡ false → (x : Setting) (most : ℕ) (past : List Record) → StandsFor x most old past → StandsFor x most new past
+  pub unproven : before.proven ≡ false → (x : Setting) (most : ℕ) (past : List Record) → StandsFor x most old past
+      → StandsFor x most new past
 
 -- The least chunk that this peer asked for on the seat's channel ten seconds ago or longer was taken out, and the channel is only
 -- probed from then on.

@@ -1,7 +1,6 @@
 -- A disk that an import filled.
-use Rattle.std.proofs.Common.{◌≡◌, inl, ℕ, ◌+◌, Bool, true, false, Some, List, [], Result, Ok, Err, refl, sym, ◌∙◌, ap, subst, arith}
+use Rattle.std.proofs.Common.{◌≡◌, inl, ℕ, ◌+◌, Bool, true, false, None, Some, List, [], Result, Ok, Err, refl, sym, ◌∙◌, ap, subst, arith}
 use Rattle.std.specs.Prelude.{is_ok}
-use Rattle.std.proofs.lemmas.Bool.{false_from_ne_true}
 use Rattle.pp_terms.specs.disk.Calls.{Calls, attached, history_of}
 use Rattle.pp_terms.specs.command.Stream.{SourceState}
 use Rattle.pp_terms.specs.disk.Disk.{DiskState, DoesSync, History, IsImage, IsKnown, Throughout, fresh, moment_of, settled}
@@ -17,7 +16,8 @@ use Rattle.pp_store.specs.Imported.{imported}
 use Rattle.pp_store.specs.declared.importing.ImportFault.{ImportFault}
 use Rattle.pp_watch.specs.Done as doings
 use Rattle.pp_watch.specs.Shown.{ShowsDisk}
-use Rattle.pp_watch.specs.Used.{used, gained}
+use Rattle.pp_watch.specs.Used.{stands, gained}
+use Rattle.pp_watch.proofs.Orders.{none_later}
 use Rattle.pp_watch.proofs.Showing.{shows_calls, used_none}
 use Rattle.pp_world.specs.Worlds.{IsFilled, empty_disk, idle}
 use Rattle.pp_stage.specs.Filling.{HasStore, ShowsFilled}
@@ -47,16 +47,16 @@ stored chunk content source source' old mid new (Ok d) (Ok u) answer left was kn
 
 module _ (d : Descriptor) (content : List ℕ) (old new : MemoryDisk)
     (state : disks.state_of old ≡ record { tells = true; honest = true; history = fresh []; faults = 0; hard = 0 })
-    (none : (call : Call) → disks.is_ordered old call ≡ false) (enough : disks.is_short new ≡ false)
+    (none : (call : Call) → disks.order_of old call ≡ None) (enough : disks.is_short new ≡ false)
     (since : doings.IsSince (doings.as_before old) new) (store : HasStore d content (disks.state_of new).history) where
   done : doings.HasDone (doings.as_before old) new
   done = done_of (doings.as_before old) new enough since
 
   unused : (call : Call) → doings.used_of call (doings.as_before old) new ≡ 0
-  unused call = used_none _ _ (none call)
+  unused call = used_none _ _ (ap stands (none call))
 
-  unordered : (call : Call) → disks.is_ordered new call ≡ false
-  unordered call = false_from_ne_true _ (λ is. let was = done.ordered call is in let no = none call in let x : true ≡ false = sym was ∙ no in cc)
+  unordered : (call : Call) → disks.order_of new call ≡ None
+  unordered call = none_later _ _ (none call) (done.ordered call)
 
   hardly : doings.hard_of (doings.as_before old) new ≡ 0
   hardly =

@@ -1,5 +1,5 @@
 -- A peer's opening, as one of a peer of a world.
-use Rattle.std.proofs.Common.{◌≡◌, ◌⊎◌, ⊎_elim, inl, inr, ℕ, ◌+◌, ◌^◌, ◌<◌, Bool, true, false, List, [], length, Result, Ok, Err, refl, sym, ◌∙◌, ap, subst, arith}
+use Rattle.std.proofs.Common.{◌≡◌, ◌⊎◌, ⊎_elim, inl, inr, ℕ, ◌+◌, ◌^◌, ◌<◌, Bool, true, false, None, List, [], length, Result, Ok, Err, refl, sym, ◌∙◌, ap, subst, arith}
 use Rattle.std.specs.Prelude.{IfOk, IfErr}
 use Rattle.pp_terms.specs.Count.{HasRisen}
 use Rattle.pp_terms.specs.disk.Disk.{DiskState, IsKnown, Throughout, moment_of}
@@ -34,6 +34,7 @@ use Rattle.pp_turns.specs.Turning.{IsBegun, post}
 use Rattle.pp_watch.specs.Done as doings
 use Rattle.pp_watch.specs.Opened.{after_opening, after_refusal}
 use Rattle.pp_watch.specs.Shown.{ShowsDisk}
+use Rattle.pp_watch.specs.Used.{order_if}
 use Rattle.pp_watch.proofs.Openings as openings
 use Rattle.pp_world.specs.Opening.{IsAnothers, new_session}
 use Rattle.pp_world.specs.Session.{new_link}
@@ -104,7 +105,7 @@ module _ (d : Descriptor) (old new : MemoryDisk) (enough : disks.is_short new �
 
   module _ (r : Running) (scanned : IsScanned d (disks.state_of old) (entry r.peer.parts.holding.book) r.peer.parts.holding.store.committed)
       (state : links.state_of r.link ≡ new_link) (events : links.arrivals_of r.link ≡ record { coming = []; last = 0 })
-      (none : (call : Call) → links.is_ordered r.link call ≡ false) (hears : r.is_deaf ≡ false) where
+      (none : (call : Call) → links.order_of r.link call ≡ None) (hears : r.is_deaf ≡ false) where
     abbrev book : LookUp
     book = entry r.peer.parts.holding.book
 
@@ -129,7 +130,7 @@ module _ (d : Descriptor) (old new : MemoryDisk) (enough : disks.is_short new �
     pub ready : r.peer.parts.holding.store.live ≡ true → IsReady r
     ready live = record {
       idle = ap (λ (a : Arrivals). a.coming) events;
-      deaf = none calls.Next ∙ sym hears;
+      deaf = none calls.Next ∙ sym (ap order_if hears);
       live = live;
     }
 

@@ -1,7 +1,6 @@
 -- A turn of a peer that runs, as one of a peer of a world.
 use Rattle.std.proofs.Common.{◌≡◌, ◌⊎◌, inl, inr, ℕ, ◌+◌, Bool, true, false, List, [], ◌∷◌, refl, sym, ◌∙◌, ap, subst}
 use Rattle.std.specs.Prelude.{Option, Result, IsTrue}
-use Rattle.std.proofs.lemmas.Bool.{false_from_ne_true}
 use Rattle.pp_terms.specs.tree.Book.{LookUp}
 use Rattle.pp_tree.specs.Book.{entry}
 use Rattle.pp_outside.specs.Arrivals.{Arrivals}
@@ -15,7 +14,9 @@ use Rattle.pp_outside.specs.declared.memory_link.MemoryLink.{MemoryLink}
 use Rattle.pp_watch.specs.Done as doings
 use Rattle.pp_watch.specs.Sent as sendings
 use Rattle.pp_watch.specs.Turned.{Devices, HasActed}
+use Rattle.pp_watch.specs.Used.{order_if}
 use Rattle.pp_watch.specs.Waiting.{HasWaited}
+use Rattle.pp_watch.proofs.Orders.{none_later, spent_if}
 use Rattle.pp_watch.proofs.Turns as turns
 use Rattle.pp_world.specs.Turn.{with_turn}
 use Rattle.pp_stage.specs.declared.turning.Cue.{Cue}
@@ -69,9 +70,9 @@ module _ (cue : Cue) (disk : MemoryDisk) (running : Running) (t : Turned) (mid :
         };
       }
 
-  pub ready : t.running.peer.parts.holding.store.live ≡ true → IsReady t.running
-  ready live = record {
+  pub ready : links.order_of running.link calls.Next ≡ order_if running.is_deaf → t.running.peer.parts.holding.store.live ≡ true → IsReady t.running
+  ready was live = record {
     idle = ap (λ (a : Arrivals). a.coming) (sent.idle waited.idle) ∙ waited.idle;
-    deaf = false_from_ne_true _ (λ is. let stood = sent.ordered calls.Next is in let gone = waited.spent in cc) ∙ sym hears;
+    deaf = none_later _ _ (spent_if _ _ _ was waited.spent) (sent.ordered calls.Next) ∙ sym (ap order_if hears);
     live = live;
   }

@@ -47,7 +47,7 @@ TurnsAs cue disk running t =
 abbrev pub post_of : Running → MemoryDisk → Post
 post_of running disk = post running.peer (disks.state_of disk) (links.state_of running.link)
 
--- So many turns ended; or the last one didn't, since the disk refused something.
+-- As many turns ended; or the last one didn't, since the disk refused something.
 abbrev pub EndsOrStops : (goes_on : Bool) → Beginning → ℕ → Post → Post → Type 0
 EndsOrStops true b taken first new = HasTurned Ended b taken first new
 EndsOrStops false b taken first new = Stops b taken first new

@@ -44,7 +44,7 @@ admitted d book claims i bytes =
     (by_verdict (judged d (peaked d book claims) claims i bytes)))
     (Length (length bytes) want)
 
--- and for any chunk
+-- the same for any chunk
 abbrev pub put_answer : Bool → Descriptor → LookUp → LookUp → ℕ → List ℕ → Put
 put_answer true d book claims i bytes = Held
 put_answer false d book claims i bytes = admitted d book claims i bytes

@@ -10,7 +10,8 @@ pub record IsBehind (old new : History) : Type 0 where
   pub past : new.past ≡ old.past
   pub attachment : SameAttachment old new
   pub header : (k : ℕ) → k < 64 → slice_index new.reads k ≡ slice_index old.reads k
-  pub front : (moment at : ℕ) (bytes : List ℕ) → at + length bytes ≤ 64 → Throughout old moment (Has at bytes) → Throughout new moment (Has at bytes)
+  pub front : (moment at : ℕ) (bytes : List ℕ) → at + length bytes ≤ 64 → Throughout old moment (Has at bytes)
+      → Throughout new moment (Has at bytes)
 
 pub record KeepsBehind (old new : DiskState) : Type 0 where
   pub tells : new.tells ≡ old.tells

@@ -10,7 +10,7 @@ use Rattle.pp_store.specs.Writes.{after_writes}
 abbrev pub gate_write : Descriptor → ℕ → Write
 gate_write d i = record { place = gate_place d.chunk i; bytes = open_gate }
 
--- those of the chunks of a set whose first is chunk i, by rising chunk
+-- the writes of the gates of the chunks of a set whose first is chunk i, by rising chunk
 abbrev pub gate_writes_from : Descriptor → ℕ → List Bool → List Write
 gate_writes_from d i [] = []
 gate_writes_from d i (b ∷ bs) = cond b (gate_write d i ∷ gate_writes_from d (suc i) bs) (gate_writes_from d (suc i) bs)
@@ -32,10 +32,10 @@ pub record IsRefusedGate (d : Descriptor) (set : List Bool) (old new : History) 
   pub among : slice_index_or set chunk false ≡ true
   pub refused : IsRefusedWrite (gates_opened d (take chunk set) old) (gate_place d.chunk chunk) open_gate new
 
--- that, or the sync of the gates
+-- a gate was refused, or the sync of the gates
 abbrev pub IsRefusedOpening : Descriptor → List Bool → History → History → Type 0
 IsRefusedOpening d set old new = IsRefusedGate d set old new ⊎ (new ≡ gates_opened d set old)
 
--- that, or the sync before them
+-- the gates were refused, or the sync before them
 abbrev pub IsRefusedCommit : Descriptor → List Bool → History → History → Type 0
 IsRefusedCommit d set old new = (new ≡ old) ⊎ IsRefusedOpening d set (synced old) new

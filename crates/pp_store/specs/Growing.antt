@@ -43,7 +43,7 @@ pub record IsStoredTo (chunk : ℕ) (content : List ℕ) (count : ℕ) (reads : 
   pub chunks : (i : ℕ) → i < count → HasChunk chunk content reads i
   pub pairs : (k j : ℕ) → j < above (suc k) count → HasPair chunk content reads k j
 
--- They are stored, over a disk that tells, and the peaks' digests are at hand: layer k has a peak where `above k count`
+-- The first chunks are stored, over a disk that tells, and the peaks' digests are at hand: layer k has a peak where `above k count`
 -- is odd.
 pub record IsPartial (chunk : ℕ) (content : List ℕ) (count : ℕ) (peaks : List (List ℕ)) (disk : DiskState) : Type 0 where
   pub fits : IsContent chunk content
@@ -66,8 +66,9 @@ pub record IsStoredCarry (chunk : ℕ) (content : List ℕ) (count k : ℕ) (rea
   pub low : (l j : ℕ) → l < k → j < above (suc l) (count + 1) → HasPair chunk content reads l j
   pub high : (l j : ℕ) → k ≤ l → j < above (suc l) count → HasPair chunk content reads l j
 
--- and this is the digest of node (k, offset)
-pub record IsCarrying (chunk : ℕ) (content : List ℕ) (count k offset : ℕ) (peaks : List (List ℕ)) (digest : List ℕ) (disk : DiskState) : Type 0 where
+-- the same, and this is the digest of node (k, offset)
+pub record IsCarrying (chunk : ℕ) (content : List ℕ) (count k offset : ℕ) (peaks : List (List ℕ)) (digest : List ℕ)
+    (disk : DiskState) : Type 0 where
   pub fits : IsContent chunk content
   pub within : count < chunks_in chunk content
   pub peak : (l : ℕ) → k ≤ l → above l count % 2 ≡ 1 → slice_index_or peaks l [] ≡ digest_of chunk content l (above l count - 1)
@@ -89,8 +90,9 @@ pub record IsStoredTail (chunk : ℕ) (content : List ℕ) (count k : ℕ) (read
   pub low : (l j : ℕ) → l < k → j * 2 ^ suc l < count → HasPair chunk content reads l j
   pub high : (l j : ℕ) → k ≤ l → j < above (suc l) count → HasPair chunk content reads l j
 
--- and this is the digest of the layer's node behind its full ones
-pub record IsTailing (chunk : ℕ) (content : List ℕ) (count k offset : ℕ) (peaks : List (List ℕ)) (digest : List ℕ) (disk : DiskState) : Type 0 where
+-- the same, and this is the digest of the layer's node behind its full ones
+pub record IsTailing (chunk : ℕ) (content : List ℕ) (count k offset : ℕ) (peaks : List (List ℕ)) (digest : List ℕ)
+    (disk : DiskState) : Type 0 where
   pub fits : IsContent chunk content
   pub all : count ≡ chunks_in chunk content
   pub peak : (l : ℕ) → k ≤ l → above l count % 2 ≡ 1 → slice_index_or peaks l [] ≡ digest_of chunk content l (above l count - 1)
@@ -104,7 +106,7 @@ pub record IsBuilt (chunk : ℕ) (content reads : List ℕ) : Type 0 where
   pub chunks : (i : ℕ) → i < chunks_in chunk content → HasChunk chunk content reads i
   pub pairs : (k j : ℕ) → k < height (chunks_in chunk content) → j * 2 ^ suc k < chunks_in chunk content → HasPair chunk content reads k j
 
--- And the file is as long as the store.
+-- Besides, the file is as long as the store.
 pub record IsWhole (chunk : ℕ) (content reads : List ℕ) : Type 0 where
   pub built : IsBuilt chunk content reads
   pub long : length reads ≡ file_size (imported content chunk)

@@ -80,7 +80,8 @@ LeavesWholeStores chunk content old new =
     → Throughout new moment (λ image. Has 0 (header (imported content chunk)) image → IsStoreOf (imported content chunk) content image)
 
 -- An import to an empty disk, all in one.
-pub record DoesImport (chunk : ℕ) (source source' : SourceState) (disk disk' : DiskState) (result : Result Descriptor ImportFault) : Type 0 where
+pub record DoesImport (chunk : ℕ) (source source' : SourceState) (disk disk' : DiskState)
+    (result : Result Descriptor ImportFault) : Type 0 where
   pub answer : HasAnswer chunk source source' disk disk' result
   pub whole : IsKnown disk → (content : List ℕ) → source.left ≡ Some content → LeavesWholeStores chunk content disk.history disk'.history
   pub sound : IsKnown disk → (content : List ℕ) → source.left ≡ Some content → IsContent chunk content

@@ -7,7 +7,8 @@ use Rattle.pp_terms.specs.disk.Disk.{DiskState, History, IsKnown, IsRefusedWrite
 abbrev pub kept : History → ℕ → List ℕ → History
 kept h place bytes = settled (after_write h place bytes) (written h.reads place bytes)
 
-pub record DoesKeep {E : Type 0} (old : DiskState) (place : ℕ) (bytes : List ℕ) (result : Result (Unit {0}) E) (new : DiskState) : Type 0 where
+pub record DoesKeep {E : Type 0} (old : DiskState) (place : ℕ) (bytes : List ℕ) (result : Result (Unit {0}) E)
+    (new : DiskState) : Type 0 where
   pub tells : new.tells ≡ old.tells
   pub honest : new.honest ≡ old.honest
   pub later : moment_of old.history ≤ moment_of new.history

@@ -12,7 +12,7 @@ abbrev pub StoresHoldAll : Type 0
 StoresHoldAll = (chunk : ℕ) (content image : List ℕ) → IsContent chunk content → IsStoreOf (imported content chunk) content image
     → (i : ℕ) → i < chunks_of (imported content chunk) → StandsIn (imported content chunk) image i
 
--- And such a store is a sound image.
+-- Such a store is a sound image.
 abbrev pub StoresAreSound : Type 0
 StoresAreSound = (chunk : ℕ) (content image : List ℕ) → IsContent chunk content → IsStoreOf (imported content chunk) content image
     → IsSound (imported content chunk) image

@@ -32,7 +32,7 @@ pub record PairStands (d : Descriptor) (book : LookUp) (reads : List ℕ) (k j :
   pub joined : IsJoined book k j left right
   pub there : Has (pair_place d.chunk k j) (left ++ right) reads
 
--- and each that is stored does
+-- each pair that is stored does
 abbrev pub PairsStand : Descriptor → LookUp → List Bool → List ℕ → Type 0
 PairsStand d book pairs reads = (k j : ℕ) → k < height_of d → has_pair pairs k j ≡ true → PairStands d book reads k j
 
@@ -69,10 +69,12 @@ pub record PutsPairs (d : Descriptor) (book : LookUp) (pairs pairs' : List Bool)
 -- The same of a chunk and its pairs, for the other chunks.
 pub record WritesChunk (d : Descriptor) (book : LookUp) (at : ℕ) (pairs pairs' : List Bool) (old new : History) : Type 0 where
   pub past : new.past ≡ old.past
-  pub chunks_kept : (i : ℕ) → (i ≡ at → ⊥) → 0 < chunk_length d.size d.chunk i → is_there d old.reads book i ≡ true → is_there d new.reads book i ≡ true
+  pub chunks_kept : (i : ℕ) → (i ≡ at → ⊥) → 0 < chunk_length d.size d.chunk i → is_there d old.reads book i ≡ true
+      → is_there d new.reads book i ≡ true
   pub pairs_stand : PairsStand d book pairs old.reads → PairsStand d book pairs' new.reads
   pub goes_on : (i : ℕ) → (i ≡ at → ⊥) → HasItsPairs d pairs i → GoesOnSince d i old new
-  pub gated : (member : ℕ → Bool) → member at ≡ false → ((i : ℕ) → member i ≡ true → HasItsPairs d pairs i) → StaysGated d member member old new
+  pub gated : (member : ℕ → Bool) → member at ≡ false → ((i : ℕ) → member i ≡ true → HasItsPairs d pairs i)
+      → StaysGated d member member old new
 
 pub record PutsChunk (d : Descriptor) (book : LookUp) (at : ℕ) (pairs pairs' : List Bool) (old new : DiskState) : Type 0 where
   pub keeps : KeepsBehind old new

@@ -33,7 +33,7 @@ pub record HasRun (d : Descriptor) (first : ℕ) (book : LookUp) (disk disk' : D
 abbrev pub chunk_in : Descriptor → ℕ → List ℕ → ℕ → List ℕ
 chunk_in d first out k = take (chunk_length d.size d.chunk (first + k)) (drop (k * d.chunk) out)
 
--- so many of them are what reads gave at their places
+-- the first so many of them are what reads gave at their places
 abbrev pub AreRead : Descriptor → ℕ → List ℕ → List ℕ → ℕ → Type 0
 AreRead d first reads out count = (k : ℕ) → k < count → IsRead reads (chunk_place d.chunk (first + k)) (chunk_in d first out k)
 
@@ -42,7 +42,7 @@ abbrev pub AreTogether : ℕ → ℕ → List ℕ → List ℕ → Type 0
 AreTogether chunk count old new = (length new ≡ length old)
     × ((k j : ℕ) → k < count → j < chunk → slice_index new (k * chunk + j) ≡ slice_index old (k * (chunk + 65) + j))
 
--- so many of them have the digests of their leaves
+-- the first so many of them have the digests of their leaves
 abbrev pub AreLeaves : Descriptor → ℕ → LookUp → List ℕ → ℕ → Type 0
 AreLeaves d first book out count = (k : ℕ) → k < count → book 0 (first + k) ≡ Some (sha256 (chunk_in d first out k))
 

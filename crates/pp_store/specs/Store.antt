@@ -58,7 +58,8 @@ AllStand d set h = (i : ℕ) → slice_index_or set i false ≡ true → Through
 
 -- What stands in every image that a crash may leave goes on standing.
 abbrev pub GoesOn : Descriptor → History → History → Type 0
-GoesOn d old new = (i : ℕ) → Throughout old (moment_of old) (λ image. StandsIn d image i) → Throughout new (moment_of old) (λ image. StandsIn d image i)
+GoesOn d old new = (i : ℕ) → Throughout old (moment_of old) (λ image. StandsIn d image i)
+    → Throughout new (moment_of old) (λ image. StandsIn d image i)
 
 -- whether chunk i is committed
 abbrev pub is_committed : StoreState → ℕ → Bool
@@ -81,7 +82,7 @@ pub record HoldsIn (d : Descriptor) (reads : List ℕ) (i : ℕ) : Type 0 where
   pub within : i < chunks_of d
   pub held : IsTrue (holds d reads i)
 
--- so is each chunk that is committed or pending
+-- the same of each chunk that is committed or pending
 abbrev pub HoldsAll : StoreState → List ℕ → Type 0
 HoldsAll s reads = (i : ℕ) → is_held s i ≡ true → HoldsIn s.descriptor reads i
 

@@ -25,11 +25,11 @@ abbrev pub way_pairs : ℕ → ℕ → List Pair
 way_pairs i zero = []
 way_pairs i (suc k) = way_pairs i k ++ pair_at k (above (suc k) i) ∷ []
 
--- that of the node of layer k + 1 that covers one of n chunks and isn't full, where there is one
+-- the pair of the node of layer k + 1 that covers one of n chunks and isn't full, where there is one
 abbrev pub unfilled_pair : ℕ → ℕ → List Pair
 unfilled_pair n k = cond (nat_lt (above (suc k) n * 2 ^ suc k) n) (pair_at k (above (suc k) n) ∷ []) []
 
--- those of the first k layers, from below
+-- the same of the first k layers, from below
 abbrev pub unfilled_pairs : ℕ → ℕ → List Pair
 unfilled_pairs n zero = []
 unfilled_pairs n (suc k) = unfilled_pairs n k ++ unfilled_pair n k
@@ -46,7 +46,7 @@ abbrev pub with_pairs : List Bool → List Pair → List Bool
 with_pairs pairs [] = pairs
 with_pairs pairs (p ∷ ps) = with_pairs (with_pair pairs p) ps
 
--- those of them that aren't stored, each once
+-- the pairs of them that aren't stored, each once
 abbrev pub unstored : List Bool → List Pair → List Pair
 unstored pairs [] = []
 unstored pairs (p ∷ ps) = cond (has_pair pairs p.layer p.offset) (unstored pairs ps) (p ∷ unstored (with_pair pairs p) ps)

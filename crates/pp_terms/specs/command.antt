@@ -1,8 +1,6 @@
--- Command lines, the lines that the program prints, and the streams that it reads and writes.
+-- The lines that the program prints, the streams that it reads and writes, and the order in which it asks.
 pub mod Stream
-pub mod Commands
-pub mod Usage
-pub mod CommandLine
+pub mod Order
 pub mod Tally
 pub mod Report
 pub mod ReportExample

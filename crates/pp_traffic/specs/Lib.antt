@@ -13,7 +13,6 @@ pub mod Tallied
 pub mod Committed
 pub mod Places
 pub mod Laws
-pub mod Flight
 pub mod Prompt
 pub mod Gain
 pub mod Delays

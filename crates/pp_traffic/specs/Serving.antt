@@ -10,16 +10,16 @@ use Rattle.pp_traffic.specs.Past.{read, EachRecord}
 use Rattle.pp_traffic.specs.Life.{Life, IsLife}
 use Rattle.pp_traffic.specs.Story.{Line, story}
 use Rattle.pp_traffic.specs.Asking.{choked, asked, is_heard}
-use Rattle.pp_traffic.specs.Flight.{fewer_than_two}
 use Rattle.pp_traffic.specs.Hashes.{is_told, completes, brings, Carries}
+use Rattle.pp_traffic.specs.Meter.{lets_send}
 
 -- Which stories let one more chunk be sent: a congestion window, as a test.
 abbrev pub Window : Type 0
 Window = List Line → Bool
 
--- the window of a swarm's channels
+-- the window of a swarm's channels, LEDBAT (RFC 6817)
 abbrev pub window_of : Descriptor → Window
-window_of d = fewer_than_two
+window_of d = lets_send d.chunk
 
 -- A chunk, behind some messages, answers the peer on this life.
 pub record AnswersOn (d : Descriptor) (window : Window) (past : List Record) (life : Life) (i : ℕ) (front : List Message) : Type 0 where

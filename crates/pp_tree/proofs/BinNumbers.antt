@@ -1,5 +1,5 @@
 -- The cells of a book: bin numbers tell nodes apart, and the cells of a node's children lie on both sides of its own.
-use Rattle.std.proofs.Common.{◌≡◌, ℕ, zero, suc, ◌+◌, ◌-◌, ◌*◌, ◌%◌, ◌^◌, ◌≤◌, ◌<◌, Option, Some, None, List, length, get_or, refl, ◌∙◌, ap, inl, inr, arith}
+use Rattle.std.proofs.Common.{◌≡◌, ℕ, zero, suc, ◌+◌, ◌-◌, ◌*◌, ◌%◌, ◌^◌, ◌≤◌, ◌<◌, Option, Some, None, List, length, get_or, refl, ◌∙◌, ap, subst, inl, inr, arith}
 use Rattle.std.proofs.lemmas.Nat.{pow_pos}
 use Rattle.std.proofs.Math.Pow.{pow_mono, pow-lt}
 use Rattle.std.proofs.Math.Nat.{mod-eq_of_lt}
@@ -69,6 +69,48 @@ child_cell_in k i h n size lt =
     let more : 2 ^ suc k * (2 * i + 2) ≡ 2 ^ suc k * (2 * i + 1) + 2 ^ suc k = grind arith in
     let one : 0 < 2 ^ k = pow_pos k in
     omega arith
+
+-- a node of a tree has a cell there
+odd_within : (k h j : ℕ) → k ≤ h → j < 2 ^ (h - k) → 2 ^ k * (2 * j + 1) < 2 ^ suc h
+odd_within zero h j low lt =
+    let all : 2 ^ (h - 0) ≡ 2 ^ h = ap (λ (n : ℕ). 2 ^ n) (omega arith) in
+    let up = doubled h in
+    omega arith
+odd_within (suc k) zero j low lt = absurd (omega arith)
+odd_within (suc k) (suc h) j low lt =
+    let below : k ≤ h = omega arith in
+    let down : suc h - suc k ≡ h - k = omega arith in
+    let rest = odd_within k h j below (subst (λ (n : ℕ). j < 2 ^ n) down lt) in
+    let left = twice k (2 * j + 1) in
+    let right = doubled (suc h) in
+    omega arith
+
+pub node_below : (k h j : ℕ) → k ≤ h → j < 2 ^ (h - k) → cell_of k j < 2 ^ suc h - 1
+node_below k h j low lt =
+    let within = odd_within k h j low lt in
+    let some = bin_some k j in
+    omega arith
+
+-- a cell of a tree is that of one of its nodes
+node_of_odd : (k h j : ℕ) → 2 ^ k * (2 * j + 1) < 2 ^ suc h → (k ≤ h) × (j < 2 ^ (h - k))
+node_of_odd zero h j lt =
+    let all : 2 ^ (h - 0) ≡ 2 ^ h = ap (λ (n : ℕ). 2 ^ n) (omega arith) in
+    let up = doubled h in
+    (omega arith, omega arith)
+node_of_odd (suc k) zero j lt =
+    let left = twice k (2 * j + 1) in
+    let some = bin_some k j in
+    absurd (omega arith)
+node_of_odd (suc k) (suc h) j lt =
+    let down : 2 ^ k * (2 * j + 1) < 2 ^ suc h = (let left = twice k (2 * j + 1) in let right = doubled (suc h) in omega arith) in
+    let rest = node_of_odd k h j down in
+    let layers : h - k ≡ suc h - suc k = omega arith in
+    (omega (arith, rest.0), subst (λ (n : ℕ). j < 2 ^ n) layers rest.1)
+
+pub node_of_cell : (k h j : ℕ) → cell_of k j < 2 ^ suc h - 1 → (k ≤ h) × (j < 2 ^ (h - k))
+node_of_cell k h j lt =
+    let some = bin_some k j in
+    node_of_odd k h j (omega arith)
 
 -- layers above all of a tree have no cells
 pub high_cell : (k j h n : ℕ) → n ≡ 2 ^ h - 1 → h ≤ 21 → 20 < k → n ≤ cell_of k j

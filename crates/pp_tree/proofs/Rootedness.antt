@@ -1,4 +1,5 @@
 -- Rooted books: the root alone is one, and adopting a pair keeps it one.
+use Rattle.std.specs.Prelude.{MatchOption, IsSome}
 use Rattle.std.proofs.Common.{◌≡◌, ◌⊎◌, ℕ, zero, suc, ◌+◌, ◌-◌, ◌*◌, ◌/◌, ◌%◌, ◌^◌, ◌≤◌, ◌<◌, Option, Some, None, List, ◌++◌, length, replicate, refl, sym, ◌∙◌, ap, subst, inl, inr, arith, get_or-set_other, get_or-set_same}
 use Rattle.std.proofs.Math.ListN.{set, length-set}
 use Rattle.std.proofs.lemmas.Bool.{cases_eq, cases_lt}
@@ -8,10 +9,10 @@ use Rattle.sha2.specs.Sha256.{sha256}
 use Rattle.pp_terms.specs.tree.Book.{LookUp, IsRooted}
 use Rattle.pp_terms.specs.format.Descriptor.{Descriptor, height_of}
 use Rattle.pp_terms.proofs.Facts.{which_half}
-use Rattle.pp_tree.specs.Book.{BookState, cell_of, in_cells, entry, IsBookOf, HasRootAlone, IsAdopted}
+use Rattle.pp_tree.specs.Book.{BookState, cell_of, in_cells, entry, IsBookOf, IsPreparedFor, IsInTree, HasRootAlone, IsAdopted, IsEntered}
 use Rattle.pp_tree.specs.Cells.{AreOfTree}
 use Rattle.pp_terms.proofs.Peaks.{doubled}
-use Rattle.pp_tree.proofs.BinNumbers.{same_cell, shifted, child_cells}
+use Rattle.pp_tree.proofs.BinNumbers.{same_cell, shifted, child_cells, cell_in, node_below, node_of_cell}
 
 -- whether two nodes are one
 pub same_node : (k j l i : ℕ) → ((k ≡ l) × (j ≡ i)) ⊎ ((k ≡ l) × (j ≡ i) → ⊥)
@@ -157,6 +158,40 @@ prepared_cells h m cells x few e is =
     let some : 0 < 2 ^ h = pow_pos h in
     let count : length (set cells m x) ≡ 2 * m + 1 = rw (length-set, is, length-replicate) refl in
     record { layers = suc h; few = omega arith; size = omega (arith, doubled h) }
+
+-- the same cells, all of them absent
+pub blank_cells : (h m : ℕ) (cells : List (Option (List ℕ))) → h ≤ 20
+    → m ≡ 1 * 2 ^ h % 18446744073709551616 - 1 → cells ≡ replicate (2 * m + 1) None → AreOfTree cells
+blank_cells h m cells few e is =
+    let middle = middle_is h m few e in
+    let some : 0 < 2 ^ h = pow_pos h in
+    let count : length cells ≡ 2 * m + 1 = rw (is, length-replicate) refl in
+    record { layers = suc h; few = omega arith; size = omega (arith, doubled h) }
+
+-- the cell of a node of the tree
+pub cell_inside : (d : Descriptor) (book : BookState) (k j : ℕ) → IsPreparedFor d book → IsInTree d k j → cell_of k j < length book.cells
+cell_inside d book k j prepared within = let low = node_below k (height_of d) j within.layer within.offset in omega (arith, low, prepared.cells)
+
+pub is_there : (P : ℕ → Type 0) (n m : ℕ) (found : Option ℕ) → m < n → MatchOption found (n ≤ m) P → IsSome found
+is_there P n m None lt told = absurd (omega (arith, lt, told))
+is_there P n m (Some at) lt told = refl
+
+-- what is entered is entered at a node of the tree
+pub entry_inside : (d : Descriptor) (book : BookState) (k j : ℕ) (x : List ℕ) → IsPreparedFor d book → entry book k j ≡ Some x → IsInTree d k j
+entry_inside d book k j x prepared is =
+    let low : cell_of k j < 2 ^ suc (height_of d) - 1 = omega (arith, cell_in book.cells (cell_of k j) x is, prepared.cells) in
+    let both = node_of_cell k (height_of d) j low in
+    record { layer = both.0; offset = both.1 }
+
+-- one cell was filled
+pub entered_in : (old new : List (Option (List ℕ))) (k j at : ℕ) (x : List ℕ) → at ≡ cell_of k j → at < length old
+    → new ≡ set old at (Some x) → IsEntered k j x (in_cells old) (in_cells new)
+entered_in old new k j at x at_is within cells = record {
+  entry_is = rw (cells, ← at_is) (get_or-set_same old at (Some x) None within);
+  others = λ l i other.
+      let apart : cell_of l i ≡ at → ⊥ = λ e. other (same_cell l k i j (e ∙ at_is)) in
+      rw cells (get_or-set_other old at (cell_of l i) (Some x) None apart);
+}
 
 pub alone_made : (d : Descriptor) (book : List (Option (List ℕ))) (h m : ℕ) (cells : List (Option (List ℕ))) (root : List ℕ)
     → h ≡ height_of d → h ≤ 20 → m ≡ 1 * 2 ^ h % 18446744073709551616 - 1 → cells ≡ replicate (2 * m + 1) None

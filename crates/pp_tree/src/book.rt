@@ -4,7 +4,7 @@ ghost use Rattle.sha2.specs.Sha256.{sha256};
 ghost use Rattle.pp_terms.specs.tree.Book.{IsRooted};
 ghost use Rattle.pp_terms.specs.format.Descriptor.{Descriptor};
 ghost use Rattle.pp_terms.specs.tree.Book as books;
-ghost use Rattle.pp_tree.specs.Book.{empty_book, chunks_in_book, cell_of, entry, IsBookOf, HasRootAlone, IsAdopted};
+ghost use Rattle.pp_tree.specs.Book.{empty_book, chunks_in_book, cell_of, entry, IsBookOf, IsPreparedFor, IsInTree, HasRootAlone, IsAdopted, IsEntered};
 
 use crate::descriptor::Descriptor;
 use crate::digest::Digest;
@@ -50,6 +50,7 @@ impl Book {
         requires { self.old ≡ empty_book }
         ensures alone { OnOk result (HasRootAlone descriptor.now (entry self.new)) }
         ensures book { OnOk result (IsBookOf descriptor.now self.new) }
+        ensures prepared { OnOk result (IsPreparedFor descriptor.now self.new) }
         ensures err { OnErr result (self.new ≡ self.old) }
     {
         let root = descriptor.root();
@@ -60,6 +61,33 @@ impl Book {
         self.descriptor = Some(*descriptor);
         self.cells = cells;
         Ok(())
+    }
+
+    /// Makes room for all nodes of the tree, in an empty book, and enters none. Where memory is refused the book stays
+    /// empty.
+    pub fn blank(&mut self, alloc: Global, descriptor: &Descriptor) -> Result<(), AllocError>
+        requires { self.old ≡ empty_book }
+        ensures prepared { OnOk result (IsPreparedFor descriptor.now self.new) }
+        ensures absent { OnOk result ((k j : ℕ) → entry self.new k j ≡ None) }
+        ensures err { OnErr result (self.new ≡ self.old) }
+    {
+        let height = descriptor.height();
+        let middle = (1 << height) - 1;
+        let cells = absent_cells(alloc, 2 * middle + 1)?;
+        self.descriptor = Some(*descriptor);
+        self.cells = cells;
+        Ok(())
+    }
+
+    /// Enters a node's digest, whatever was known of the node.
+    pub fn set(&mut self, node: Node, digest: &Digest)
+        requires { (d : Descriptor) × IsPreparedFor d self.old × IsInTree d node.layer node.offset }
+        ensures entered { IsEntered node.layer node.offset digest.now (entry self.old) (entry self.new) }
+        ensures descriptor { self.new.descriptor ≡ self.old.descriptor }
+        ensures prepared { (d : Descriptor) → IsPreparedFor d self.old → IsPreparedFor d self.new }
+    {
+        let cell = self.cell(node).unwrap();
+        self.cells[cell] = Some(*digest.bytes());
     }
 
     /// The descriptor that the book was prepared for; none before that.
@@ -124,6 +152,7 @@ impl Book {
         ensures adopted { IsAdopted (node.layer - 1) node.offset left right (entry self.old) (entry self.new) }
         ensures descriptor { self.new.descriptor ≡ self.old.descriptor }
         ensures rooted { (d : Descriptor) → IsRooted d (entry self.old) → IsRooted d (entry self.new) }
+        ensures prepared { (d : Descriptor) → IsPreparedFor d self.old → IsPreparedFor d self.new }
     {
         let at = self.cell(node).unwrap();
         let step = 1 << (node.layer - 1);

@@ -148,7 +148,19 @@ impl Descriptor {
         Descriptor::read_bytes(text.as_bytes())
     }
 
-    fn read_bytes(text: &[u8]) -> Result<Descriptor, DescriptorFault>
+    /// Reads the same text, given as bytes.
+    pub fn read_bytes(text: &[u8]) -> Result<Descriptor, DescriptorFault>
+        ensures ok { IfOk result (λ d. text.now ≡ descriptor_text d) }
+        ensures valid { IfOk result IsDescriptor }
+        ensures bytes { IfOk result (λ d. IsBytes d.root) }
+        ensures each { (d : Descriptor) → IsDescriptor d → IsBytes d.root → text.now ≡ descriptor_text d → result ≡ Ok d }
+        ensures fault { IfErr result (IsFaultOf text.now) }
+    {
+        Descriptor::from_words(text)
+    }
+
+    // reads its words from left to right
+    fn from_words(text: &[u8]) -> Result<Descriptor, DescriptorFault>
         ensures ok { IfOk result (λ d. text.now ≡ descriptor_text d) }
         ensures valid { IfOk result IsDescriptor }
         ensures bytes { IfOk result (λ d. IsBytes d.root) }

@@ -2,12 +2,13 @@
 use Rattle.std.proofs.Common.{◌≡◌, ◌⊎◌, inl, inr, ⊎_elim, ℕ, zero, suc, ◌+◌, ◌-◌, ◌^◌, ◌<◌, ◌≤◌, Bool, true, false, Option, Some, List, [], ◌∷◌, ◌++◌, refl, sym, ◌∙◌, ap, subst, arith}
 use Rattle.std.specs.List.{AllByRecursion, list_any}
 use Rattle.std.proofs.lemmas.Bool.{cases_lt, cond-true, cond-false, or_parts}
-use Rattle.pp_terms.specs.disk.Disk.{History}
+use Rattle.pp_terms.specs.disk.Disk.{DiskState, History}
 use Rattle.pp_terms.specs.disk.Image.{holds}
 use Rattle.pp_terms.specs.format.Descriptor.{Descriptor}
-use Rattle.pp_terms.specs.format.Traffic.{Record, Received, Quiet, Sent, GainsRecords}
+use Rattle.pp_terms.specs.format.Traffic.{Address, Record, Received, Quiet, Sent, GainsRecords}
 use Rattle.pp_terms.specs.tree.Book.{LookUp}
 use Rattle.pp_traffic.specs.Meter.{lets_send}
+use Rattle.pp_traffic.specs.Keeping.{EachAnnounced}
 use Rattle.pp_traffic.specs.Past.{EachRecord}
 use Rattle.pp_traffic.specs.Turns.{is_closing, in_turns, AtTurnEndsBut, AtEndsOfTurnsBut}
 use Rattle.pp_traffic.proofs.Awaited.{plain_began}
@@ -21,10 +22,15 @@ use Rattle.pp_outside.specs.Outside.{record_of}
 use Rattle.pp_outside.specs.declared.link.Event.{Event}
 use Rattle.pp_outside.specs.declared.link.Event.TheVariants as came
 use Rattle.pp_paths.specs.Judge.{KeepsEntries}
-use Rattle.pp_store.specs.Store.{StoreState, is_held}
+use Rattle.pp_store.specs.Store.{StoreState, is_committed, is_held}
+use Rattle.pp_complete.specs.Shipped.{StoresShipped}
+use Rattle.pp_complete.proofs.Knowing.{announced_has}
 use Rattle.pp_peer.specs.Flushing.{IsOurs}
 use Rattle.pp_core.specs.Offering.{AsksOrHolds}
-use Rattle.pp_core.specs.Storing.{StoresIn}
+use Rattle.pp_core.specs.Keeping.{IsThere, IsKeeping}
+use Rattle.pp_core.specs.Peers.{PeerState}
+use Rattle.pp_core.specs.Storing.{StoresIn, CommitsTold}
+use Rattle.pp_core.proofs.Shipping.{faults_stay}
 use Rattle.pp_turns.specs.Promising.{Ended, Came, Refused, faults_of, FailsFew}
 use Rattle.pp_turns.specs.Turning.{Post}
 
@@ -41,6 +47,41 @@ each_grows d book more store fuller entries held (r ∷ past) each = (
       (each.0 life i bytes brings proof),
   each_grows d book more store fuller entries held past each.1,
 )
+
+-- what comes with the hashes that the peer lacks is held still
+pub each_ships : (d : Descriptor) (had : ℕ → Bool) (book more : LookUp) (store fuller : StoreState) → KeepsEntries book more
+    → ((i : ℕ) → is_held store i ≡ true → is_held fuller i ≡ true) → (past : List Record)
+    → EachRecord (StoresShipped d had book (is_held store)) past → EachRecord (StoresShipped d had more (is_held fuller)) past
+each_ships d had book more store fuller entries held [] each = tt
+each_ships d had book more store fuller entries held (r ∷ past) each = (
+  λ life i bytes brings told theirs shipped. ⊎_elim
+      (λ is. inl (held i is))
+      (λ fault. inr (faults_stay d book more theirs entries fault))
+      (each.0 life i bytes brings told theirs shipped),
+  each_ships d had book more store fuller entries held past each.1,
+)
+
+-- what holds of each record but of those that were sent, holds of all once more are sent
+pub each_sent : (Q : List Record → Record → Type 0) (d : Descriptor) (moment : ℕ)
+    → ((before : List Record) (at : ℕ) (receiver : Address) (bytes : List ℕ) → Q before (Sent at receiver bytes))
+    → (sent past : List Record) → AllByRecursion (IsOurs d moment) sent → EachRecord Q past → EachRecord Q (sent ++ past)
+each_sent Q d moment none [] past ours each = each
+each_sent Q d moment none (r ∷ rs) past ours each = (
+  subst (Q (rs ++ past)) (sym ours.0.is) (none (rs ++ past) _ _ _),
+  each_sent Q d moment none rs past ours.1 each,
+)
+
+-- what a peer that kept its disk had at first, and what it announced, is committed
+pub commits_told : (d : Descriptor) (since : ℕ) (first p : PeerState) (disk : DiskState) (past : List Record) → p.parts.holding.store.descriptor ≡ d
+    → ((i : ℕ) → is_committed first.parts.holding.store i ≡ true → is_committed p.parts.holding.store i ≡ true) → IsKeeping since p disk past
+    → CommitsTold d (is_committed first.parts.holding.store) past p.parts.holding.store
+commits_told d since first p disk past swarm stay keeping = record {
+  committed = λ i each. ⊎_elim
+      (λ had. stay i had)
+      (λ told. (announced_has d (IsThere p disk) i past (subst (λ (e : Descriptor). EachAnnounced e (IsThere p disk) past) swarm keeping.announced)
+      told).1.committed)
+      each;
+}
 
 -- ---- the ends of turns
 

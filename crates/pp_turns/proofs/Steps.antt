@@ -1,5 +1,5 @@
 -- Turns, one after the other.
-use Rattle.std.proofs.Common.{◌≡◌, ◌⊎◌, inl, inr, ⊎_elim, ℕ, zero, suc, ◌+◌, ◌<◌, ◌≤◌, Bool, true, ◌||◌, List, [], ◌∷◌, ◌++◌, length, take, Result, Ok, Err, OnOk, refl, sym, ◌∙◌, ap, subst, arith}
+use Rattle.std.proofs.Common.{◌≡◌, ◌⊎◌, inl, inr, ⊎_elim, ℕ, zero, suc, ◌+◌, ◌<◌, ◌≤◌, Bool, true, false, ◌||◌, Some, List, [], ◌∷◌, ◌++◌, length, take, Result, Ok, Err, OnOk, refl, sym, ◌∙◌, ap, subst, arith}
 use Rattle.std.specs.Prelude.{is_some}
 use Rattle.std.specs.List.{AllByRecursion, list_any}
 use Rattle.std.proofs.lemmas.List.{length-take-le, take-take}
@@ -14,7 +14,7 @@ use Rattle.pp_terms.proofs.Risings.{risen_more, risen_less, gains_nothing, gains
 use Rattle.pp_traffic.specs.Committed.{requests, RequestsNone}
 use Rattle.pp_traffic.specs.Keeping.{EachAnnounced}
 use Rattle.pp_traffic.specs.Tallied.{TookTurns}
-use Rattle.pp_traffic.specs.Turns.{events}
+use Rattle.pp_traffic.specs.Turns.{events, is_closing}
 use Rattle.pp_promises.specs.Datagrams as promised
 use Rattle.pp_counts.specs.declared.counts.Counts.{Counts}
 use Rattle.pp_outside.specs.Outside.{address_of, record_of, size_of, FitsIn}
@@ -22,7 +22,8 @@ use Rattle.pp_outside.specs.Arrivals.{IsEvent}
 use Rattle.pp_outside.specs.declared.disk.DiskFault.{DiskFault}
 use Rattle.pp_outside.specs.declared.link.Event.{Event}
 use Rattle.pp_outside.specs.declared.link.Event.TheVariants as came
-use Rattle.pp_store.specs.Store.{StoreState}
+use Rattle.pp_complete.specs.Shipped.{StoresShipped}
+use Rattle.pp_store.specs.Store.{StoreState, is_held}
 use Rattle.pp_terms.specs.tree.Book.{LookUp}
 use Rattle.pp_tree.specs.Book.{BookState, entry}
 use Rattle.pp_paths.specs.Judge.{KeepsEntries}
@@ -38,10 +39,11 @@ use Rattle.pp_core.specs.Offering.{KeepsOffers}
 use Rattle.pp_core.specs.Peers.{PeerState}
 use Rattle.pp_core.specs.Keeping.{IsThere, IsKeeping}
 use Rattle.pp_core.specs.Remembering.{KeepsWrote, StaysUnchoked, KeepsTold, HasNoTicket, KeepsAcks, HasNoRepeat}
-use Rattle.pp_core.specs.Storing.{StoresIn}
+use Rattle.pp_core.specs.Storing.{StoresIn, CommitsTold}
 use Rattle.pp_core.specs.Turning.{scene, Goes, Sends, Closes, after_refusal}
 use Rattle.pp_turns.specs.Turning.{Post, post, stock_in, IsBegun, Went, TakesTurns, Stops}
 use Rattle.pp_turns.proofs.Idle.{absorbs_idle}
+use Rattle.pp_turns.proofs.Promising.{event_open}
 
 -- ---- the event in the buffer
 
@@ -209,6 +211,9 @@ pub record Absorbed (event : Event) (bytes : List ℕ) (old new : Post) : Type 0
       → StandsFor b most new.peer.parts (record_of event bytes ∷ past)
   pub proves : (b : Beginning) (most : ℕ) (past : List Record) → StandsFor b most old.peer.parts past
       → StoresIn b.d (entry new.peer.parts.holding.book) new.peer.parts.holding.store past (record_of event bytes)
+  pub ships : (b : Beginning) (most : ℕ) (past : List Record) → StandsFor b most old.peer.parts past → old.peer.parts.holding.store.live ≡ true
+      → (had : ℕ → Bool) → CommitsTold b.d had past old.peer.parts.holding.store
+      → StoresShipped b.d had (entry new.peer.parts.holding.book) (is_held new.peer.parts.holding.store) past (record_of event bytes)
   pub wrote : (b : Beginning) (most : ℕ) (past : List Record) → StandsFor b most old.peer.parts past
       → KeepsWrote b.d old.peer.parts past → KeepsWrote b.d new.peer.parts (record_of event bytes ∷ past)
   pub unchoked : (b : Beginning) (most : ℕ) (past : List Record) → StandsFor b most old.peer.parts past
@@ -244,11 +249,14 @@ event_turned event bytes n b first old new k a q = (refl, refl)
 
 pub stops_event : (event : Event) (bytes : List ℕ) (n : ℕ) (b : Beginning) (first old new : Post)
     → Kept (record_of event bytes) (with_event event bytes old.peer.parts.counts) old new → HasRisen old.disk.hard new.disk.hard
-    → TakesTurns b n first old → Stops b (n + 1) first new
-stops_event event bytes n b first old new k hard q = record {
+    → (q : TakesTurns b n first old)
+    → ((before : List Record) → first.link.traffic ≡ Some before → list_any (is_closing b.d) q.went.added ≡ false) → Stops b (n + 1) first new
+unfolding went_event
+stops_event event bytes n b first old new k hard q closes_none = record {
   went = went_event event bytes n b first old new k q;
   some = omega arith;
   hard = risen_less first.disk.hard old.disk.hard new.disk.hard q.went.advances.disk.hard hard;
+  closes_none = λ before is. ap (λ (x : Bool). x || list_any (is_closing b.d) q.went.added) (event_open b.d event bytes) ∙ closes_none before is;
 }
 
 -- a wait that gave an event, which lies at the front of the buffer

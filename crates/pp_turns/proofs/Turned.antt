@@ -5,7 +5,8 @@ use Rattle.std.proofs.lemmas.List.Folds.{list_any-append}
 use Rattle.pp_terms.specs.Count.{HasRisen, HasCause, capped}
 use Rattle.pp_terms.specs.disk.Disk.{DiskState, History, moment_of}
 use Rattle.pp_terms.specs.format.Descriptor.{Descriptor, chunks_of}
-use Rattle.pp_terms.specs.format.Traffic.{LinkState, Record}
+use Rattle.pp_terms.specs.format.Traffic as records
+use Rattle.pp_terms.specs.format.Traffic.{LinkState, Record, Sent}
 use Rattle.pp_terms.proofs.Risings.{risen_more, risen_less}
 use Rattle.pp_terms.specs.tree.Book.{LookUp}
 use Rattle.pp_tree.specs.Book.{entry}
@@ -29,12 +30,14 @@ use Rattle.pp_peer.specs.Dialling.{undialled}
 use Rattle.pp_peer.specs.Events.{Absorbs}
 use Rattle.pp_peer.specs.Flushing.{IsOurs}
 use Rattle.pp_peer.specs.Standing.{Beginning, StandsFor}
-use Rattle.pp_store.specs.Store.{is_held}
+use Rattle.pp_complete.specs.Shipped.{StoresShipped}
+use Rattle.pp_store.specs.Store.{StoreState, is_committed, is_held}
 use Rattle.pp_core.specs.Offering.{FetchesAll, KeepsOffers, AsksOrHolds}
 use Rattle.pp_core.specs.Peers.{PeerState}
 use Rattle.pp_core.specs.Promising.{IsFoundIn, Promises}
 use Rattle.pp_core.specs.Remembering.{KeepsWrote, StaysUnchoked, KeepsTold, HasNoTicket, AwaitsAck, KeepsAcks, HasNoRepeat}
-use Rattle.pp_core.specs.Storing.{StoresIn}
+use Rattle.pp_core.specs.Keeping.{IsKeeping}
+use Rattle.pp_core.specs.Storing.{StoresIn, CommitsTold}
 use Rattle.pp_core.specs.Turning.{scene, Sends, after_refusal}
 use Rattle.pp_core.proofs.Dialled.{misses_more}
 use Rattle.pp_core.proofs.FirstTurn.{events_few}
@@ -46,7 +49,7 @@ use Rattle.pp_core.proofs.Unchoked.{refusal_unchokes}
 use Rattle.pp_turns.specs.Promising.{Stage, Ended, Came, Refused, faults_of, Tells, FailsFew, IsTelling, IsCalmLink, EndsAll, HasCome, Keeps, open_of, HasDialled, DialsIn, HasTurned}
 use Rattle.pp_turns.specs.Taking.{TurnsTo, TakesTurn, WaitsTo, Waits}
 use Rattle.pp_turns.specs.Turning.{Post, IsBegun, TakesTurns}
-use Rattle.pp_turns.proofs.Promising.{each_grows, fails_event, fails_refused, fails_sent, fails_sent_late, fails_none, owes_none, keeps_none, tells_none, acknowledges_none, asks_none, ends_before, ends_sent, event_last, gained_some, event_open}
+use Rattle.pp_turns.proofs.Promising.{each_grows, each_ships, each_sent, commits_told, fails_event, fails_refused, fails_sent, fails_sent_late, fails_none, owes_none, keeps_none, tells_none, acknowledges_none, asks_none, ends_before, ends_sent, event_last, gained_some, event_open}
 use Rattle.pp_turns.proofs.Steps.{Kept, Absorbed, turns_none, none_turned, turns_event, event_turned, sent_none, stops_event, turns_refused, refused_turned, turns_flushed, flushed_turned}
 
 -- ---- what was refused
@@ -111,6 +114,7 @@ pub turned_none : (b : Beginning) (p : Post) → IsBegun b p → HasTurned Ended
 turned_none b p begun = turned_as Ended 0 b p p (turns_none b p begun) [] 0 (none_turned b p begun)
     (record {
       stores = tt;
+      ships = λ keeping. tt;
       closes_none = λ before is. refl;
       serves = λ telling h found most enough. fails_none p (LeavesFew most b.d (lets_send b.d.chunk) h) (owes_none most b.d h);
       wrote = λ before is. begun.wrote;
@@ -145,6 +149,14 @@ turned_event event bytes n b first old new k a q =
         a.proves b q.turns.refused q.turns.went.added q.turns.stands,
         each_grows b.d (entry old.peer.parts.holding.book) (entry new.peer.parts.holding.book) old.peer.parts.holding.store
             new.peer.parts.holding.store k.advanced.advances.entries k.advanced.advances.held q.turns.went.added q.keeps.stores,
+      );
+      ships = λ keeping. (
+        a.ships b q.turns.refused q.turns.went.added q.turns.stands q.turns.live (is_committed first.peer.parts.holding.store)
+            (commits_told b.d b.since first.peer old.peer old.disk q.turns.went.added q.turns.stands.ledger.swarm
+            q.turns.went.advances.committed (q.turns.went.keeps keeping)),
+        each_ships b.d (is_committed first.peer.parts.holding.store) (entry old.peer.parts.holding.book) (entry new.peer.parts.holding.book)
+            old.peer.parts.holding.store new.peer.parts.holding.store k.advanced.advances.entries k.advanced.advances.held q.turns.went.added
+            (q.keeps.ships keeping),
       );
       closes_none = λ traffic is.
           ap (λ (x : Bool). x || list_any (is_closing b.d) q.turns.went.added) (event_open b.d event bytes) ∙ q.keeps.closes_none traffic is;
@@ -211,6 +223,9 @@ pub waits_event : (event : Event) (bytes : List ℕ) (old new : Post) (result : 
     → OnOk result ((b : Beginning) (most : ℕ) (past : List Record) → StandsFor b most old.peer.parts past
     → StoresIn b.d (entry new.peer.parts.holding.book) new.peer.parts.holding.store past (record_of event bytes))
     → OnOk result ((b : Beginning) (most : ℕ) (past : List Record) → StandsFor b most old.peer.parts past
+    → old.peer.parts.holding.store.live ≡ true → (had : ℕ → Bool) → CommitsTold b.d had past old.peer.parts.holding.store
+    → StoresShipped b.d had (entry new.peer.parts.holding.book) (is_held new.peer.parts.holding.store) past (record_of event bytes))
+    → OnOk result ((b : Beginning) (most : ℕ) (past : List Record) → StandsFor b most old.peer.parts past
     → KeepsWrote b.d old.peer.parts past → KeepsWrote b.d new.peer.parts (record_of event bytes ∷ past))
     → OnOk result ((b : Beginning) (most : ℕ) (past : List Record) → StandsFor b most old.peer.parts past
     → StaysUnchoked b.d old.peer.parts past → StaysUnchoked b.d new.peer.parts (record_of event bytes ∷ past))
@@ -223,10 +238,10 @@ pub waits_event : (event : Event) (bytes : List ℕ) (old new : Post) (result : 
     → KeepsOffers b.d old.peer.parts past → KeepsOffers b.d new.peer.parts (record_of event bytes ∷ past))
     → (old.peer.parts.holding.store.live ≡ true → OnOk result (new.peer.parts.holding.store.live ≡ true))
     → (old.peer.parts.holding.store.live ≡ true → HasCause old.disk.hard new.disk.hard result) → Waits old new result
-waits_event event bytes old new (Ok u) fits dials k exact stands proves wrote unchoked told acks offers live cause b taken first q = inl
-    (turned_event event bytes taken b first old new k (record { fits = fits; dials = dials; exact = exact; stands = stands; proves = proves; wrote = wrote; unchoked = unchoked; told = told; acks = acks; offers = offers; live = live q.turns.live }) q)
-waits_event event bytes old new (Err fault) fits dials k exact stands proves wrote unchoked told acks offers live cause b taken first q =
-    stops_event event bytes taken b first old new k ((cause q.turns.live).risen refl) q.turns
+waits_event event bytes old new (Ok u) fits dials k exact stands proves ships wrote unchoked told acks offers live cause b taken first q = inl
+    (turned_event event bytes taken b first old new k (record { fits = fits; dials = dials; exact = exact; stands = stands; proves = proves; ships = ships; wrote = wrote; unchoked = unchoked; told = told; acks = acks; offers = offers; live = live q.turns.live }) q)
+waits_event event bytes old new (Err fault) fits dials k exact stands proves ships wrote unchoked told acks offers live cause b taken first q =
+    stops_event event bytes taken b first old new k ((cause q.turns.live).risen refl) q.turns q.keeps.closes_none
 
 -- ---- the wait was refused
 
@@ -241,6 +256,8 @@ waits_refused old new u peer disk traffic nexts bound later risen stands b taken
     (record {
       stores = subst (λ (p : PeerState). EachRecord (StoresIn b.d (entry p.parts.holding.book) p.parts.holding.store) q.turns.went.added) (sym peer)
           q.keeps.stores;
+      ships = λ keeping. subst (λ (p : PeerState). EachRecord (StoresShipped b.d (is_committed first.peer.parts.holding.store)
+          (entry p.parts.holding.book) (is_held p.parts.holding.store)) q.turns.went.added) (sym peer) (q.keeps.ships keeping);
       closes_none = q.keeps.closes_none;
       serves = λ telling h found most enough.
           let lt = rises telling.tells in
@@ -325,22 +342,26 @@ module _ (stage : Stage) (n : ℕ) (b : Beginning) (first old new : Post) (refus
   ours : AllByRecursion (IsOurs old.peer.parts.seats.descriptor (moment_of old.disk.history)) course.flushes.added
   ours = course.flushes.ours
 
-  stores : EachRecord (StoresIn b.d (entry new.peer.parts.holding.book) new.peer.parts.holding.store) all
-  stores = each_sent course.flushes.added ours
-    where
-      same : EachRecord (StoresIn b.d (entry new.peer.parts.holding.book) new.peer.parts.holding.store) q.turns.went.added
-      same = subst (λ (p : Parts). EachRecord (StoresIn b.d (entry p.holding.book) p.holding.store) q.turns.went.added) (sym course.rest)
-          (subst (λ (h : HoldingState). EachRecord (StoresIn b.d (entry h.book) h.store) q.turns.went.added) (sym course.flushes.holding)
-          q.keeps.stores)
+  -- what holds by the book and the store, of each record but of those that were sent, goes on
+  each_then : (Q : LookUp → StoreState → List Record → Record → Type 0)
+      → ((before : List Record) (at : ℕ) (receiver : records.Address) (bytes : List ℕ)
+      → Q (entry new.peer.parts.holding.book) new.peer.parts.holding.store before (Sent at receiver bytes))
+      → EachRecord (Q (entry old.peer.parts.holding.book) old.peer.parts.holding.store) q.turns.went.added
+      → EachRecord (Q (entry new.peer.parts.holding.book) new.peer.parts.holding.store) all
+  each_then Q none each = each_sent (Q (entry new.peer.parts.holding.book) new.peer.parts.holding.store) old.peer.parts.seats.descriptor
+      (moment_of old.disk.history) none course.flushes.added q.turns.went.added ours
+      (subst (λ (p : Parts). EachRecord (Q (entry p.holding.book) p.holding.store) q.turns.went.added) (sym course.rest)
+      (subst (λ (h : HoldingState). EachRecord (Q (entry h.book) h.store) q.turns.went.added) (sym course.flushes.holding) each))
 
-      each_sent : (sent : List Record) → AllByRecursion (IsOurs old.peer.parts.seats.descriptor (moment_of old.disk.history)) sent
-          → EachRecord (StoresIn b.d (entry new.peer.parts.holding.book) new.peer.parts.holding.store) (sent ++ q.turns.went.added)
-      each_sent [] all = same
-      each_sent (r ∷ rs) all = (
-        subst (λ (x : Record). StoresIn b.d (entry new.peer.parts.holding.book) new.peer.parts.holding.store (rs ++ q.turns.went.added) x)
-            (sym all.0.is) (λ life i bytes brings proof. absurd (let never = brings.comes in cc)),
-        each_sent rs all.1,
-      )
+  stores : EachRecord (StoresIn b.d (entry new.peer.parts.holding.book) new.peer.parts.holding.store) all
+  stores = each_then (StoresIn b.d)
+      (λ before at receiver bytes life i text brings proof. absurd (let never = brings.comes in cc)) q.keeps.stores
+
+  ships : IsKeeping b.since first.peer first.disk []
+      → EachRecord (StoresShipped b.d (is_committed first.peer.parts.holding.store) (entry new.peer.parts.holding.book)
+      (is_held new.peer.parts.holding.store)) all
+  ships keeping = each_then (λ book store. StoresShipped b.d (is_committed first.peer.parts.holding.store) book (is_held store))
+      (λ before at receiver bytes life i text brings told theirs shipped. absurd (let never = brings.comes in cc)) (q.keeps.ships keeping)
 
   closes_none : (traffic : List Record) → first.link.traffic ≡ Some traffic → list_any (is_closing b.d) all ≡ false
   closes_none traffic is =
@@ -496,6 +517,7 @@ sent_as stage n b first old new refused course promises q serves keeps_up lets_i
     (q.turns.refused + refused) (flushed_turned n b first old new refused course q.turns)
     (record {
       stores = stores stage n b first old new refused course promises q;
+      ships = ships stage n b first old new refused course promises q;
       closes_none = closes_none stage n b first old new refused course promises q;
       serves = serves;
       wrote = wrote stage n b first old new refused course promises q;

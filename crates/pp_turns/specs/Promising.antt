@@ -22,7 +22,8 @@ use Rattle.pp_peer.specs.declared.parts.Parts.{Parts}
 use Rattle.pp_peer.specs.Dialling.{undialled}
 use Rattle.pp_peer.specs.Events.{Absorbs}
 use Rattle.pp_peer.specs.Standing.{Beginning, StandsFor}
-use Rattle.pp_store.specs.Store.{is_held}
+use Rattle.pp_complete.specs.Shipped.{StoresShipped}
+use Rattle.pp_store.specs.Store.{is_committed, is_held}
 use Rattle.pp_core.specs.Keeping.{IsKeeping}
 use Rattle.pp_core.specs.Offering.{FetchesAll, KeepsOffers, AsksOrHolds}
 use Rattle.pp_core.specs.Promising.{IsFoundIn, MissesFew}
@@ -109,13 +110,19 @@ CameAt Came b new added = HasCome b new added
 CameAt Ended b new added = Unit {0}
 CameAt Refused b new added = Unit {0}
 
--- Chunks that come on a plain channel and are proved by what its peer claims are held. No channel was closed, as far as the link tells. Of the channels that may be served none is left more
--- chunks that it was told of, and asked for, than something was refused. And on each plain channel a
--- datagram went lately, the newcomer of a turn was let in, and nobody is choked while there are slots; and while the link refuses nothing, what
--- is held was told of, and what came first was acknowledged once nothing came. A peer that asks for all that it lacks asked on each channel
--- that may be asked for each chunk that it offers, but for what is held, and maybe others.
+-- Chunks that come on a plain channel and are proved by what its peer claims are held. No channel was closed, as far as the link
+-- tells. Of the channels that may be served none is left more chunks that it was told of, and asked for, than something was
+-- refused. And on each plain channel a datagram went lately, the newcomer of a turn was let in, and nobody is choked while there
+-- are slots; and while the link refuses nothing, what is held was told of, and what came first was acknowledged once nothing
+-- came. A peer that asks for all that it lacks asked, on each channel on which it may, for each chunk that it offers, but for
+-- what is held, and maybe others.
 pub record Keeps (stage : Stage) (b : Beginning) (first new : Post) (added : List Record) : Type 0 where
   pub stores : EachRecord (StoresIn b.d (entry new.peer.parts.holding.book) new.peer.parts.holding.store) added
+  -- where the peer kept its disk: what comes on a plain channel with the hashes that it lacked, by what it had at first and
+  -- announced, is held
+  pub ships : IsKeeping b.since first.peer first.disk []
+      → EachRecord (StoresShipped b.d (is_committed first.peer.parts.holding.store) (entry new.peer.parts.holding.book)
+      (is_held new.peer.parts.holding.store)) added
   pub closes_none : (before : List Record) → first.link.traffic ≡ Some before → list_any (is_closing b.d) added ≡ false
   pub serves : IsTelling b first new → (h : History) → IsFoundIn b h → (most : ℕ) → faults_of new ≤ faults_of first + most
       → FailsFew stage first new (LeavesFew most b.d (lets_send b.d.chunk) h) added
@@ -155,14 +162,14 @@ pub record IsToDial (stage : Stage) (first new : Post) (added : List Record) : T
   pub dials : new.peer.dials ≡ first.peer.dials
   pub few : length added ≤ open_of stage
 
--- So it is where so many turns ended.
+-- The same where that many turns ended.
 abbrev pub DialsIn : (ended : ℕ) → Stage → Beginning → List Address → Post → Post → List Record → Type 0
 DialsIn zero stage b addresses first new added = IsToDial stage first new added
 DialsIn (suc n) stage b addresses first new added = HasDialled b addresses first new added
 
 -- ---- turns
 
--- So many turns were taken, the last of which has come so far.
+-- A number of turns were taken, the last of which has come so far.
 pub record HasTurned (stage : Stage) (b : Beginning) (taken : ℕ) (first new : Post) : Type 0 where
   pub turns : TakesTurns b taken first new
   pub keeps : Keeps stage b first new turns.went.added

@@ -1,6 +1,6 @@
 -- What a peer does in turns: each waits once for a datagram, takes what came, and sends what is due.
-use Rattle.std.specs.Prelude.{◌≡◌, ℕ, ◌+◌, ◌<◌, ◌≤◌, Bool, true, false, None, List, [], length, Result, Ok, Err}
-use Rattle.std.specs.List.{AllByRecursion}
+use Rattle.std.specs.Prelude.{◌≡◌, ℕ, ◌+◌, ◌<◌, ◌≤◌, Bool, true, false, Some, None, List, [], length, Result, Ok, Err}
+use Rattle.std.specs.List.{AllByRecursion, list_any}
 use Rattle.pp_terms.specs.Count.{HasRisen, capped}
 use Rattle.pp_terms.specs.disk.Disk.{DiskState, moment_of}
 use Rattle.pp_terms.specs.format.Descriptor.{chunks_of}
@@ -8,6 +8,7 @@ use Rattle.pp_terms.specs.format.Traffic.{LinkState, Record, GainsRecords}
 use Rattle.pp_terms.specs.tree.Book.{LookUp}
 use Rattle.pp_traffic.specs.Committed.{is_in, RequestsNone}
 use Rattle.pp_traffic.specs.Tallied.{TookTurns}
+use Rattle.pp_traffic.specs.Turns.{is_closing}
 use Rattle.pp_promises.specs.Datagrams.{IsWhole}
 use Rattle.pp_counts.specs.Counts.{no_counts}
 use Rattle.pp_outside.specs.declared.disk.DiskFault.{DiskFault}
@@ -71,8 +72,10 @@ pub record TakesTurns (b : Beginning) (taken : ℕ) (old new : Post) : Type 0 wh
   pub live : new.peer.parts.holding.store.live ≡ true
   pub idle : old.peer.parts.fetching ≡ None → new.peer.parts.fetching ≡ None
 
--- The disk refused a write or a sync of the last of so many turns, and nothing was sent after that.
+-- The disk refused a write or a sync of the last of so many turns, and nothing was sent after that. No channel was closed, as far as the
+-- link tells.
 pub record Stops (b : Beginning) (taken : ℕ) (old new : Post) : Type 0 where
   pub went : Went b taken old new
   pub some : 0 < taken
   pub hard : HasRisen old.disk.hard new.disk.hard
+  pub closes_none : (before : List Record) → old.link.traffic ≡ Some before → list_any (is_closing b.d) went.added ≡ false

@@ -1,7 +1,7 @@
 // What seats offer, and which chunk is asked of one next.
-ghost use Rattle.std.specs.Prelude.{◌≡◌, ◌*◌, ◌≤◌, length, IfOk};
+ghost use Rattle.std.specs.Prelude.{◌≡◌, ◌*◌, ◌<◌, ◌≤◌, length, IfOk};
 
-use pp_avail::{Avail, Rank, Ranker, pick};
+use pp_avail::{Avail, Rank, Ranker, by_blocks, pick};
 use pp_ranges::ChunkRange;
 use pp_tree::ChunkSet;
 use std::alloc::{AllocError, Global};
@@ -57,6 +57,110 @@ fn picks_the_least_rank(rt: HostRuntime) -> Result<(), Fail> {
     wanted.remove(3);
     assert_eq!(rt; pick(&avail, 1, &wanted, &rarest), None);
     assert_eq!(rt; pick(&avail, 1, &wanted, &sequential), None);
+    Ok(())
+}
+
+// A seat offers the chunks from one to another.
+fn offer(avail: &mut Avail, seat: u8, first: u32, last: u32)
+    requires seat { seat < 64 }
+    requires inside { last < avail.old.chunks }
+    ensures { avail.new.chunks ≡ avail.old.chunks }
+{
+    if let Some(range) = ChunkRange::new(first, last) {
+        avail.offer(seat, range);
+    }
+}
+
+// How many seats have chunks that lie at the edges of words, of 200 chunks.
+fn at_edges(avail: &Avail) -> [u32; 10]
+    requires { avail.now.chunks ≡ 200 }
+{
+    [
+        avail.copies(0),
+        avail.copies(62),
+        avail.copies(63),
+        avail.copies(64),
+        avail.copies(127),
+        avail.copies(128),
+        avail.copies(129),
+        avail.copies(191),
+        avail.copies(192),
+        avail.copies(199),
+    ]
+}
+
+#[test]
+fn offers_again(rt: HostRuntime) -> Result<(), Fail> {
+    let mut avail = Avail::new(rt.alloc(), 200)?;
+    offer(&mut avail, 0, 0, 199);
+    offer(&mut avail, 0, 0, 199);
+    offer(&mut avail, 1, 63, 128);
+    assert_eq!(rt; at_edges(&avail), [1, 1, 2, 2, 2, 2, 1, 1, 1, 1]);
+    offer(&mut avail, 0, 60, 130);
+    offer(&mut avail, 1, 64, 127);
+    offer(&mut avail, 1, 100, 100);
+    assert_eq!(rt; at_edges(&avail), [1, 1, 2, 2, 2, 2, 1, 1, 1, 1]);
+    assert!(rt; avail.has(0, 199) && avail.has(1, 63) && !avail.has(1, 62) && !avail.has(1, 129));
+    offer(&mut avail, 1, 0, 191);
+    assert_eq!(rt; at_edges(&avail), [2, 2, 2, 2, 2, 2, 2, 2, 1, 1]);
+    avail.leave(0);
+    assert_eq!(rt; at_edges(&avail), [1, 1, 1, 1, 1, 1, 1, 1, 0, 0]);
+    offer(&mut avail, 0, 127, 192);
+    assert_eq!(rt; at_edges(&avail), [1, 1, 1, 1, 2, 2, 2, 2, 1, 0]);
+    assert!(rt; avail.has(0, 127) && avail.has(0, 192) && !avail.has(0, 126) && !avail.has(0, 193));
+    Ok(())
+}
+
+// Of 2,100 chunks, seat 0 offers all, two more those of the first block, of which one lacks chunk 7.
+fn two_blocks(alloc: Global) -> Result<Avail, AllocError>
+    ensures { IfOk result (λ a. a.chunks ≡ 2100) }
+{
+    let mut avail = Avail::new(alloc, 2_100)?;
+    offer(&mut avail, 0, 0, 2_099);
+    offer(&mut avail, 1, 0, 1_023);
+    offer(&mut avail, 2, 0, 6);
+    offer(&mut avail, 2, 8, 1_023);
+    Ok(avail)
+}
+
+// One more chunk is wanted.
+fn want(wanted: &mut ChunkSet, i: u32)
+    requires { i < length wanted.old }
+    ensures { length wanted.new ≡ length wanted.old }
+{
+    wanted.insert(i);
+}
+
+// What is picked of seat 0, which isn't wanted any more.
+fn take_pick(avail: &Avail, wanted: &mut ChunkSet, ranker: &Ranker) -> Option<u32>
+    requires { length wanted.old ≡ avail.now.chunks }
+    ensures { length wanted.new ≡ length wanted.old }
+{
+    let chunk = pick(avail, 0, wanted, ranker)?;
+    wanted.remove(chunk);
+    Some(chunk)
+}
+
+#[test]
+fn picks_by_blocks(rt: HostRuntime) -> Result<(), Fail> {
+    let avail = two_blocks(rt.alloc())?;
+    let mut wanted = none_wanted(rt.alloc(), 2_100)?;
+    want(&mut wanted, 5);
+    want(&mut wanted, 7);
+    want(&mut wanted, 9);
+    want(&mut wanted, 1_030);
+    want(&mut wanted, 2_048);
+    let rarest = Ranker::new(Rank::Rarest, copies_of);
+    assert_eq!(rt; pick(&avail, 0, &wanted, &rarest), Some(1_030));
+    let blocks = Ranker::new(Rank::Blocks, by_blocks);
+    assert_eq!(rt; pick(&avail, 2, &wanted, &blocks), Some(5));
+    assert_eq!(rt; take_pick(&avail, &mut wanted, &blocks), Some(7));
+    assert_eq!(rt; take_pick(&avail, &mut wanted, &blocks), Some(5));
+    assert_eq!(rt; take_pick(&avail, &mut wanted, &blocks), Some(9));
+    assert_eq!(rt; pick(&avail, 1, &wanted, &blocks), None);
+    assert_eq!(rt; take_pick(&avail, &mut wanted, &blocks), Some(1_030));
+    assert_eq!(rt; take_pick(&avail, &mut wanted, &blocks), Some(2_048));
+    assert_eq!(rt; take_pick(&avail, &mut wanted, &blocks), None);
     Ok(())
 }
 
@@ -167,5 +271,9 @@ fn keeps_rules(rt: HostRuntime) -> Result<(), Fail> {
     assert_eq!(rt; (ranker.rank(7, 3), same.rank(7, 4)), (3, 4));
     let ranker = Ranker::new(Rank::Sequential, |_: u32, _: u32| 0);
     assert_eq!(rt; ranker.rank(7, 3), 0);
+    let ranker = Ranker::new(Rank::Blocks, by_blocks);
+    assert_eq!(rt; (ranker.rank(5, 3), ranker.rank(1_030, 1)), (3, 65));
+    assert_eq!(rt; (ranker.rank(1_023, 64), ranker.rank(1_024, 0)), (63, 64));
+    assert_eq!(rt; ranker.rank(1_048_575, 64), 65_535);
     Ok(())
 }

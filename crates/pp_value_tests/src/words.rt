@@ -89,7 +89,7 @@ fn refuses_other_addresses(rt: HostRuntime) {
     }
 }
 
-const WRONG: [(&[&str], usize, UsageKind); 20] = [
+const WRONG: [(&[&str], usize, UsageKind); 36] = [
     (&[], 0, UsageKind::Missing),
     (&["serve"], 0, UsageKind::Command),
     (&["import"], 1, UsageKind::Missing),
@@ -130,6 +130,46 @@ const WRONG: [(&[&str], usize, UsageKind); 20] = [
     (&["rehearse", "01"], 1, UsageKind::Number),
     (&["rehearse", "18446744073709551616"], 1, UsageKind::Number),
     (&["rehearse", "100000000000000000000"], 1, UsageKind::Number),
+    (
+        &["play", "s", D, "127.0.0.1:1", "0", "0"],
+        4,
+        UsageKind::Number,
+    ),
+    (&["play", "s", D, "127.0.0.1:1", "9"], 5, UsageKind::Missing),
+    (
+        &["play", "s", D, "127.0.0.1:1", "9", "0"],
+        5,
+        UsageKind::Number,
+    ),
+    (
+        &["play", "s", D, "127.0.0.1:1", "9", "4097", "x"],
+        5,
+        UsageKind::Number,
+    ),
+    (
+        &["play", "s", D, "127.0.0.1:1", "9", "rarest"],
+        5,
+        UsageKind::Number,
+    ),
+    (
+        &["play", "s", D, "127.0.0.1:1", "9", "4096"],
+        6,
+        UsageKind::Missing,
+    ),
+    (
+        &["play", "s", D, "127.0.0.1:1", "9", "4096", "127.0.0.1:0"],
+        6,
+        UsageKind::Address,
+    ),
+    (&["record"], 1, UsageKind::Missing),
+    (&["record", "16", "0"], 1, UsageKind::Number),
+    (&["record", "015", "1"], 1, UsageKind::Number),
+    (&["record", "15"], 2, UsageKind::Missing),
+    (&["record", "15", "0"], 2, UsageKind::Number),
+    (&["record", "15", "4294967296"], 2, UsageKind::Number),
+    (&["record", "15", "1", "1"], 3, UsageKind::Extra),
+    (&["audit", ""], 1, UsageKind::Extra),
+    (&["audits"], 0, UsageKind::Command),
 ];
 
 #[test]
@@ -145,12 +185,18 @@ fn names_the_first_wrong_word(rt: HostRuntime) -> Result<(), Fail> {
     Ok(())
 }
 
+fn one_peer(peer: Address) -> ArrayVec<Address, 16> {
+    let mut peers = ArrayVec::new();
+    peers.push(peer);
+    peers
+}
+
 #[test]
 fn reads_commands(rt: HostRuntime) -> Result<(), Fail> {
     let descriptor = Descriptor::read(D).ok().ok_or("no descriptor")?;
     let listen = Address::V4([127, 0, 0, 1], 7000);
     let store = "s";
-    let lines: [(&[&str], Command<'_>); 7] = [
+    let lines: [(&[&str], Command<'_>); 12] = [
         (
             &["import", "s", "8192"],
             Command::Import { store, chunk: 8192 },
@@ -174,6 +220,53 @@ fn reads_commands(rt: HostRuntime) -> Result<(), Fail> {
                 number: 18446744073709551615,
             },
         ),
+        (
+            &[
+                "play",
+                "s",
+                D,
+                "127.0.0.1:7000",
+                "1",
+                "4096",
+                "127.0.0.1:7000",
+            ],
+            Command::Play {
+                store,
+                descriptor,
+                listen,
+                turns: 1,
+                window: 4096,
+                peers: one_peer(listen),
+            },
+        ),
+        (
+            &[
+                "play",
+                "s",
+                D,
+                "127.0.0.1:7000",
+                "4294967295",
+                "1",
+                "127.0.0.1:7000",
+            ],
+            Command::Play {
+                store,
+                descriptor,
+                listen,
+                turns: 4294967295,
+                window: 1,
+                peers: one_peer(listen),
+            },
+        ),
+        (&["record", "0", "1"], Command::Record { peer: 0, life: 1 }),
+        (
+            &["record", "15", "4294967295"],
+            Command::Record {
+                peer: 15,
+                life: 4294967295,
+            },
+        ),
+        (&["audit"], Command::Audit),
     ];
     for (line, want) in lines {
         let words = strings(rt.alloc(), line)?;

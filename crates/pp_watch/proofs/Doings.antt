@@ -8,14 +8,15 @@ use Rattle.pp_terms.specs.disk.Disk.{History}
 use Rattle.pp_terms.specs.disk.Calls.{Did, Wrote, Refused, Synced, Crashed, after_call, replay, attached}
 use Rattle.pp_outside.proofs.Replays.{replay-push}
 use Rattle.pp_outside.specs.Faults.{one_more}
-use Rattle.pp_outside.specs.MemoryDisk.{state_of, is_ordered, Attaches, Measures, Reads, Writes, Syncs}
+use Rattle.pp_outside.specs.MemoryDisk.{state_of, order_of, is_ordered, Attaches, Measures, Reads, Writes, Syncs}
+use Rattle.pp_outside.specs.Orders.{after_one}
 use Rattle.pp_outside.specs.declared.call.Call.{Call}
 use Rattle.pp_outside.specs.declared.call.Call.TheVariants.{Attach, Len, Read, Write, Sync}
 use Rattle.pp_outside.specs.declared.memory_disk.MemoryDisk.{MemoryDisk}
 use Rattle.pp_world.specs.DiskCalls.{IsCall, refused_writes}
-use Rattle.pp_watch.specs.Used.{gained}
+use Rattle.pp_watch.specs.Used.{stands, gained}
 use Rattle.pp_watch.specs.Done.{DiskBefore, as_before, used_of, hard_of, HasDone, IsSince}
-use Rattle.pp_watch.proofs.Orders.{none_new, used_same, used_more, grew_in, none_used, gained_more}
+use Rattle.pp_watch.proofs.Orders.{same_later, none_new, used_same, used_more, grew_in, none_used, gained_more}
 
 -- ---- lists of calls
 
@@ -46,20 +47,20 @@ calls_more (call ∷ calls) more all rest = (all.0, calls_more calls more all.1 
 
 pub begun : (before : DiskBefore) (disk : MemoryDisk) → before ≡ as_before disk → IsSince before disk
 begun before disk is = inr (subst (λ (b : DiskBefore). HasDone b disk) (sym is) (
-    let none : (call : Call) → used_of call (as_before disk) disk ≡ 0 = λ call. none_used (is_ordered disk call) in
+    let none : (call : Call) → used_of call (as_before disk) disk ≡ 0 = λ call. none_used (stands (order_of disk call)) in
     let hard : hard_of (as_before disk) disk ≡ 0 = omega (arith, none Attach, none Len, none Write, none Sync) in
     let all : used_of Read (as_before disk) disk + hard_of (as_before disk) disk ≡ 0 = omega (arith, none Read, hard) in
     record {
       calls = [];
       made = refl;
       are_calls = tt;
-      ordered = λ call stood. stood;
+      ordered = λ call. same_later (order_of disk call);
       writes = sym (none Write);
       faults = sym (ap (gained (state_of disk).faults) all);
       hard = sym (ap (gained (state_of disk).hard) hard);
     }))
 
-module _ (before : DiskBefore) (old new : MemoryDisk) (call : Call) (spent : is_ordered new call ≡ false) (others : (other : Call) → other ≢ call → is_ordered new other ≡ is_ordered old other) where
+module _ (before : DiskBefore) (old new : MemoryDisk) (call : Call) (spent : order_of new call ≡ after_one (order_of old call)) (others : (other : Call) → other ≢ call → order_of new other ≡ order_of old other) where
   -- a call that wasn't refused
   pub done_ok : HasDone before old → is_ordered old call ≡ false → (state_of new).faults ≡ (state_of old).faults
       → (state_of new).hard ≡ (state_of old).hard → (did : List Did) → refused_writes did ≡ 0 → AllByRecursion IsCall did
@@ -68,7 +69,7 @@ module _ (before : DiskBefore) (old new : MemoryDisk) (call : Call) (spent : is_
       → HasDone before new
   done_ok done free faults hard did none are made =
       let same : (c : Call) → used_of c before new ≡ used_of c before old =
-      λ c. used_same before.ordered (is_ordered old) (is_ordered new) call spent others free c in
+      λ c. used_same before.ordered (order_of old) (order_of new) call spent others free c in
       let hards : hard_of before new ≡ hard_of before old = omega (arith, same Attach, same Len, same Write, same Sync) in
       let all : used_of Read before new + hard_of before new ≡ used_of Read before old + hard_of before old = omega (arith, same Read, hards) in
       let longer = refused_more done.calls did in
@@ -76,7 +77,7 @@ module _ (before : DiskBefore) (old new : MemoryDisk) (call : Call) (spent : is_
         calls = done.calls ++ did;
         made = made done.calls done.made;
         are_calls = calls_more done.calls did done.are_calls are;
-        ordered = none_new before.ordered (is_ordered old) (is_ordered new) call spent others done.ordered;
+        ordered = none_new before.ordered (order_of old) (order_of new) call spent others done.ordered;
         writes = omega (arith, longer, none, done.writes, same Write);
         faults = faults ∙ done.faults ∙ sym (ap (gained before.faults) all);
         hard = hard ∙ done.hard ∙ sym (ap (gained before.hard) hards);
@@ -92,7 +93,7 @@ module _ (before : DiskBefore) (old new : MemoryDisk) (call : Call) (spent : is_
       → HasDone before new
   done_err done stood hards sum one faults hard did refused are made =
       let more : (c : Call) → used_of c before new ≡ used_of c before old + grew_in call c =
-      λ c. used_more before.ordered (is_ordered old) (is_ordered new) call spent others done.ordered stood c in
+      λ c. used_more before.ordered (order_of old) (order_of new) call spent others done.ordered stood c in
       let hard_more : hard_of before new ≡ hard_of before old + hards = omega (arith, more Attach, more Len, more Write, more Sync, sum) in
       let all : used_of Read before new + hard_of before new ≡ used_of Read before old + hard_of before old + 1 =
       omega (arith, more Read, hard_more, one) in
@@ -101,7 +102,7 @@ module _ (before : DiskBefore) (old new : MemoryDisk) (call : Call) (spent : is_
         calls = done.calls ++ did;
         made = made done.calls done.made;
         are_calls = calls_more done.calls did done.are_calls are;
-        ordered = none_new before.ordered (is_ordered old) (is_ordered new) call spent others done.ordered;
+        ordered = none_new before.ordered (order_of old) (order_of new) call spent others done.ordered;
         writes = omega (arith, longer, refused, done.writes, more Write);
         faults = faults ∙ ap one_more done.faults ∙ gained_more before.faults (used_of Read before old + hard_of before old) 1
             ∙ sym (ap (gained before.faults) all);

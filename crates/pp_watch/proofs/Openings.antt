@@ -1,5 +1,5 @@
 -- An opening over a disk that was watched, as that of a peer of a world; and what else happens to a disk.
-use Rattle.std.proofs.Common.{◌≡◌, ◌⊎◌, inl, inr, ℕ, ◌+◌, ◌^◌, ◌<◌, true, false, None, Some, List, [], ◌∷◌, ◌++◌, refl, sym, ◌∙◌, ap, subst, arith}
+use Rattle.std.proofs.Common.{◌≡◌, ◌⊎◌, inl, inr, ℕ, ◌+◌, ◌^◌, ◌<◌, true, None, Some, List, [], ◌∷◌, ◌++◌, refl, sym, ◌∙◌, ap, subst, arith}
 use Rattle.pp_terms.specs.Count.{HasRisen}
 use Rattle.pp_terms.specs.disk.Calls.{Crashed, Calls, after_call, replay, attached, history_of, crash_image}
 use Rattle.pp_terms.specs.disk.Disk.{History, DiskState, fresh, settled}
@@ -22,6 +22,7 @@ use Rattle.pp_world.specs.World.{PeerState, reads_of}
 use Rattle.pp_watch.specs.Done as doings
 use Rattle.pp_watch.specs.Opened.{after_opening, after_refusal}
 use Rattle.pp_watch.specs.Shown.{ShowsDisk, ShowsLink, with_calls}
+use Rattle.pp_watch.specs.Used.{order_if}
 use Rattle.pp_watch.proofs.Doings.{attached_call}
 use Rattle.pp_watch.proofs.Showing.{makes_calls, shows_calls, history_unattached, replay-append}
 
@@ -47,9 +48,9 @@ module _ (d : Descriptor) (most : ℕ) (old new : MemoryDisk) (x : PeerState) (l
         hard = shown.hard ∙ sym hard;
         few = (let few = shown.few in omega (arith, few, faults));
         few_hard = (let few = shown.few_hard in omega (arith, few, hard));
-        read = shown.read ∙ sym read;
-        write = shown.write ∙ sym write;
-        sync = shown.sync ∙ sym sync;
+        read = shown.read ∙ sym (ap order_if read);
+        write = shown.write ∙ sym (ap order_if write);
+        sync = shown.sync ∙ sym (ap order_if sync);
         attach = shown.attach;
         len = shown.len;
       }
@@ -94,7 +95,7 @@ module _ (d : Descriptor) (most : ℕ) (old new : MemoryDisk) (x : PeerState) (l
     opened_disk = shows_more opened refl refl refl refl refl refl
 
     pub opened_link : (link : MemoryLink) → links.state_of link ≡ record { traffic = Some []; faults = 0; nexts = 0; bound = None }
-        → links.arrivals_of link ≡ record { coming = []; last = 0 } → ((call : Call) → links.is_ordered link call ≡ false)
+        → links.arrivals_of link ≡ record { coming = []; last = 0 } → ((call : Call) → links.order_of link call ≡ None)
         → ShowsLink (most + 4) link opened.orders (new_session x opened book)
     opened_link link state events none = record {
       traffic = ap (λ (l : LinkState). l.traffic) state;
@@ -148,7 +149,7 @@ module _ (d : Descriptor) (most : ℕ) (old new : MemoryDisk) (x : PeerState) (l
 
 pub crashed : (most pick : ℕ) (old new : MemoryDisk) (x : PeerState) → ShowsDisk most old x
     → disks.state_of new ≡ record (disks.state_of old) { history = settled (disks.state_of old).history (crash_image pick (disks.state_of old).history.epoch) }
-    → ((call : Call) → disks.is_ordered new call ≡ disks.is_ordered old call) → ShowsDisk most new (with_crash pick x)
+    → ((call : Call) → disks.order_of new call ≡ disks.order_of old call) → ShowsDisk most new (with_crash pick x)
 crashed most pick old new x shows state orders =
     let f = fresh x.disk.image in
     let image = crash_image pick (disks.state_of old).history.epoch in

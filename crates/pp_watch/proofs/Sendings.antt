@@ -5,21 +5,22 @@ use Rattle.std.proofs.lemmas.Bool.{false_from_ne_true}
 use Rattle.pp_terms.specs.format.Traffic.{Record}
 use Rattle.pp_outside.specs.Arrivals.{after_next}
 use Rattle.pp_outside.specs.Faults.{one_more}
-use Rattle.pp_outside.specs.MemoryLink.{state_of, arrivals_of, is_ordered, is_short, Spends, MayRunShort}
+use Rattle.pp_outside.specs.MemoryLink.{state_of, arrivals_of, order_of, is_ordered, is_short, Spends, MayRunShort}
+use Rattle.pp_outside.specs.Orders.{after_one}
 use Rattle.pp_outside.specs.declared.call.Call.{Call}
 use Rattle.pp_outside.specs.declared.call.Call.TheVariants.{Bind, Next, Send}
 use Rattle.pp_outside.specs.declared.memory_link.MemoryLink.{MemoryLink}
-use Rattle.pp_watch.specs.Used.{gained}
+use Rattle.pp_watch.specs.Used.{stands, gained}
 use Rattle.pp_watch.specs.Sent.{LinkBefore, as_before, used_of, HasSent, IsSince}
-use Rattle.pp_watch.proofs.Orders.{none_new, used_same, used_more, grew_in, none_used, gained_more}
+use Rattle.pp_watch.proofs.Orders.{same_later, none_new, used_same, used_more, grew_in, none_used, gained_more}
 
 pub begun : (before : LinkBefore) (link : MemoryLink) → before ≡ as_before link → IsSince before link
 begun before link is = inr (subst (λ (b : LinkBefore). HasSent b link) (sym is) (
-    let none : (call : Call) → used_of call (as_before link) link ≡ 0 = λ call. none_used (is_ordered link call) in
+    let none : (call : Call) → used_of call (as_before link) link ≡ 0 = λ call. none_used (stands (order_of link call)) in
     let all : used_of Bind (as_before link) link + used_of Next (as_before link) link + used_of Send (as_before link) link ≡ 0 =
     omega (arith, none Bind, none Next, none Send) in
     record {
-      ordered = λ call stood. stood;
+      ordered = λ call. same_later (order_of link call);
       faults = sym (ap (gained (state_of link).faults) all);
       idle = λ empty. refl;
     }))
@@ -28,15 +29,15 @@ begun before link is = inr (subst (λ (b : LinkBefore). HasSent b link) (sym is)
 abbrev refusals : LinkBefore → MemoryLink → ℕ
 refusals before link = used_of Bind before link + used_of Next before link + used_of Send before link
 
-module _ (before : LinkBefore) (old new : MemoryLink) (call : Call) (spent : is_ordered new call ≡ false) (others : (other : Call) → other ≢ call → is_ordered new other ≡ is_ordered old other) where
+module _ (before : LinkBefore) (old new : MemoryLink) (call : Call) (spent : order_of new call ≡ after_one (order_of old call)) (others : (other : Call) → other ≢ call → order_of new other ≡ order_of old other) where
   pub sent_ok : HasSent before old → is_ordered old call ≡ false → (state_of new).faults ≡ (state_of old).faults
       → (before.arrivals.coming ≡ [] → arrivals_of new ≡ before.arrivals) → HasSent before new
   sent_ok sent free faults idle =
       let same : (c : Call) → used_of c before new ≡ used_of c before old =
-      λ c. used_same before.ordered (is_ordered old) (is_ordered new) call spent others free c in
+      λ c. used_same before.ordered (order_of old) (order_of new) call spent others free c in
       let all : refusals before new ≡ refusals before old = omega (arith, same Bind, same Next, same Send) in
       record {
-        ordered = none_new before.ordered (is_ordered old) (is_ordered new) call spent others sent.ordered;
+        ordered = none_new before.ordered (order_of old) (order_of new) call spent others sent.ordered;
         faults = faults ∙ sent.faults ∙ sym (ap (gained before.faults) all);
         idle = idle;
       }
@@ -46,10 +47,10 @@ module _ (before : LinkBefore) (old new : MemoryLink) (call : Call) (spent : is_
       → (before.arrivals.coming ≡ [] → arrivals_of new ≡ before.arrivals) → HasSent before new
   sent_err sent stood one faults idle =
       let more : (c : Call) → used_of c before new ≡ used_of c before old + grew_in call c =
-      λ c. used_more before.ordered (is_ordered old) (is_ordered new) call spent others sent.ordered stood c in
+      λ c. used_more before.ordered (order_of old) (order_of new) call spent others sent.ordered stood c in
       let all : refusals before new ≡ refusals before old + 1 = omega (arith, more Bind, more Next, more Send, one) in
       record {
-        ordered = none_new before.ordered (is_ordered old) (is_ordered new) call spent others sent.ordered;
+        ordered = none_new before.ordered (order_of old) (order_of new) call spent others sent.ordered;
         faults = faults ∙ ap one_more sent.faults ∙ gained_more before.faults (refusals before old) 1 ∙ sym (ap (gained before.faults) all);
         idle = idle;
       }

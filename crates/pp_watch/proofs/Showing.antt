@@ -1,7 +1,6 @@
 -- A disk that was watched, as that of a peer of a world.
-use Rattle.std.proofs.Common.{◌≡◌, ℕ, zero, suc, ◌+◌, ◌^◌, ◌<◌, ◌≤◌, Bool, true, false, List, [], ◌∷◌, ◌++◌, refl, sym, ◌∙◌, ap, arith}
+use Rattle.std.proofs.Common.{◌≡◌, ℕ, zero, suc, ◌+◌, ◌^◌, ◌<◌, ◌≤◌, Bool, true, false, None, List, [], ◌∷◌, ◌++◌, refl, sym, ◌∙◌, ap, arith}
 use Rattle.std.specs.Prelude.{take}
-use Rattle.std.proofs.lemmas.Bool.{false_from_ne_true}
 use Rattle.pp_terms.specs.disk.Disk.{History, fresh}
 use Rattle.pp_terms.specs.disk.Calls.{Did, after_call, replay, attached, history_of}
 use Rattle.pp_outside.specs.MemoryDisk as disks
@@ -12,10 +11,11 @@ use Rattle.pp_world.specs.DiskCalls.{MakesCalls}
 use Rattle.pp_world.specs.Orders.{has_order, times_used}
 use Rattle.pp_world.specs.Schedule.{Device, Read, Write, Sync, Send, Receive}
 use Rattle.pp_world.specs.World.{PeerState}
-use Rattle.pp_watch.specs.Used.{used, gained}
+use Rattle.pp_watch.specs.Used.{used, stands, gained}
 use Rattle.pp_watch.specs.Done.{as_before, used_of, hard_of, HasDone}
 use Rattle.pp_watch.specs.Shown.{ShowsDisk, with_calls}
 use Rattle.pp_watch.proofs.Doings.{attached_call}
+use Rattle.pp_watch.proofs.Orders.{stands_if, stands_due, due_before, none_later, later_if}
 
 -- ---- histories
 
@@ -69,19 +69,19 @@ module _ (most : ℕ) (old new : MemoryDisk) (x : PeerState) (shows : ShowsDisk 
   after = with_calls done.calls new x
 
   reads : used_of calls.Read (as_before old) new ≡ times_used Read x.orders after.orders
-  reads = used_is _ _ _ _ shows.read refl
+  reads = used_is _ _ _ _ (stands_if _ _ shows.read) (stands_due _ _ _ shows.read (done.ordered calls.Read))
 
   writes : used_of calls.Write (as_before old) new ≡ times_used Write x.orders after.orders
-  writes = used_is _ _ _ _ shows.write refl
+  writes = used_is _ _ _ _ (stands_if _ _ shows.write) (stands_due _ _ _ shows.write (done.ordered calls.Write))
 
   syncs : used_of calls.Sync (as_before old) new ≡ times_used Sync x.orders after.orders
-  syncs = used_is _ _ _ _ shows.sync refl
+  syncs = used_is _ _ _ _ (stands_if _ _ shows.sync) (stands_due _ _ _ shows.sync (done.ordered calls.Sync))
 
   no_attach : used_of calls.Attach (as_before old) new ≡ 0
-  no_attach = used_none _ _ shows.attach
+  no_attach = used_none _ _ (ap stands shows.attach)
 
   no_len : used_of calls.Len (as_before old) new ≡ 0
-  no_len = used_none _ _ shows.len
+  no_len = used_none _ _ (ap stands shows.len)
 
   hards : hard_of (as_before old) new ≡ times_used Write x.orders after.orders + times_used Sync x.orders after.orders
   hards = omega (arith, writes, syncs, no_attach, no_len)
@@ -116,9 +116,9 @@ module _ (most : ℕ) (old new : MemoryDisk) (x : PeerState) (shows : ShowsDisk 
       omega (arith, is, below, hards)
 
   none_new : (call : Device) → has_order after.orders call ≡ true → has_order x.orders call ≡ true
-  none_new Read is = sym shows.read ∙ done.ordered calls.Read is
-  none_new Write is = sym shows.write ∙ done.ordered calls.Write is
-  none_new Sync is = sym shows.sync ∙ done.ordered calls.Sync is
+  none_new Read is = due_before _ _ _ shows.read (done.ordered calls.Read) is
+  none_new Write is = due_before _ _ _ shows.write (done.ordered calls.Write) is
+  none_new Sync is = due_before _ _ _ shows.sync (done.ordered calls.Sync) is
   none_new Send is = is
   none_new Receive is = is
 
@@ -133,8 +133,8 @@ module _ (most : ℕ) (old new : MemoryDisk) (x : PeerState) (shows : ShowsDisk 
     hard = hard;
   }
 
-  none_then : (call : Call) → disks.is_ordered old call ≡ false → disks.is_ordered new call ≡ false
-  none_then call none = false_from_ne_true (disks.is_ordered new call) (λ is. let was = done.ordered call is in cc)
+  none_then : (call : Call) → disks.order_of old call ≡ None → disks.order_of new call ≡ None
+  none_then call none = none_later _ _ none (done.ordered call)
 
   pub shows_calls : ShowsDisk (most + 3) new after
   shows_calls = record {
@@ -144,9 +144,9 @@ module _ (most : ℕ) (old new : MemoryDisk) (x : PeerState) (shows : ShowsDisk 
     hard = refl;
     few = (let is = faults in let few = shows.few in omega (arith, is, few, once_read, once_write, once_sync));
     few_hard = (let is = hard in let few = shows.few_hard in omega (arith, is, few, once_write, once_sync));
-    read = refl;
-    write = refl;
-    sync = refl;
+    read = later_if _ _ _ shows.read (done.ordered calls.Read);
+    write = later_if _ _ _ shows.write (done.ordered calls.Write);
+    sync = later_if _ _ _ shows.sync (done.ordered calls.Sync);
     attach = none_then calls.Attach shows.attach;
     len = none_then calls.Len shows.len;
   }

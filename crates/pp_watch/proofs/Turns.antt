@@ -2,7 +2,6 @@
 use Rattle.std.proofs.Common.{◌≡◌, ◌⊎◌, inl, inr, ℕ, ◌+◌, ◌^◌, ◌<◌, Bool, true, false, Some, List, [], ◌∷◌, ◌++◌, refl, sym, ◌∙◌, ap, subst, arith}
 use Rattle.std.specs.Prelude.{Option, Result, Ok, Err, if◌then◌else◌}
 use Rattle.std.specs.List.{AllByRecursion}
-use Rattle.std.proofs.lemmas.Bool.{false_from_ne_true}
 use Rattle.std.proofs.Common.{append_assoc, None}
 use Rattle.std.proofs.lemmas.Option.{same_Some}
 use Rattle.pp_terms.specs.disk.Disk.{moment_of}
@@ -24,12 +23,13 @@ use Rattle.pp_world.specs.Schedule.{Device, Read, Write, Sync, Send, Receive}
 use Rattle.pp_world.specs.Session.{Session}
 use Rattle.pp_world.specs.Turn.{WentAt, event_of, wait_records, with_turn, TakesTurn}
 use Rattle.pp_world.specs.World.{PeerState}
-use Rattle.pp_watch.specs.Used.{used, gained}
+use Rattle.pp_watch.specs.Used.{used, stands, order_if, gained}
 use Rattle.pp_watch.specs.Done as doings
 use Rattle.pp_watch.specs.Sent as sendings
 use Rattle.pp_watch.specs.Shown.{ShowsDisk, ShowsLink, with_calls}
 use Rattle.pp_watch.specs.Turned.{Devices, GainsSent, StopsForCause, after_turn}
 use Rattle.pp_watch.specs.Waiting.{record_at, HasWaited}
+use Rattle.pp_watch.proofs.Orders.{stands_if, stands_due, spent_if, due_before, none_later, later_if}
 use Rattle.pp_watch.proofs.Showing.{makes_calls, shows_calls, gained_below, used_is, used_none, at_most_once}
 use denote.Ref.{Bor}
 
@@ -76,6 +76,16 @@ module _ (most clock : ℕ) (came : Option (Address × Bor (List ℕ))) (old : D
   abbrev pub added : List Record
   added = went ++ wait_records clock x
 
+  -- the orders of the link behind the wait
+  send_was : links.order_of mid calls.Send ≡ order_if x.orders.send
+  send_was = waited.others calls.Send (λ e. cc) ∙ over.send
+
+  next_was : links.order_of mid calls.Next ≡ None
+  next_was = spent_if _ _ _ over.receive waited.spent
+
+  bind_was : links.order_of mid calls.Bind ≡ None
+  bind_was = waited.others calls.Bind (λ e. cc) ∙ over.bind
+
   abbrev pub after : PeerState
   after = after_turn goes_on done.calls new added book s earlier x
 
@@ -97,7 +107,7 @@ module _ (most clock : ℕ) (came : Option (Address × Bor (List ℕ))) (old : D
       none_new Read is = base.ordered Read is
       none_new Write is = base.ordered Write is
       none_new Sync is = base.ordered Sync is
-      none_new Send is = sym over.send ∙ sym (waited.others calls.Send (λ e. cc)) ∙ sent.ordered calls.Send is
+      none_new Send is = due_before _ _ _ send_was (sent.ordered calls.Send) is
       none_new Receive is = cc
 
   moment_is : moment_of (disks.state_of new.disk).history ≡ moment_of (history_of after.disk)
@@ -150,13 +160,13 @@ module _ (most clock : ℕ) (came : Option (Address × Bor (List ℕ))) (old : D
   receives = refl
 
   sends : sendings.used_of calls.Send (sendings.as_before mid) new.link ≡ times_used Send x.orders after.orders
-  sends = used_is _ _ _ _ (waited.others calls.Send (λ e. cc) ∙ over.send) refl
+  sends = used_is _ _ _ _ (stands_if _ _ send_was) (stands_due _ _ _ send_was (sent.ordered calls.Send))
 
   no_next : sendings.used_of calls.Next (sendings.as_before mid) new.link ≡ 0
-  no_next = used_none _ _ waited.spent
+  no_next = used_none _ _ (ap stands next_was)
 
   no_bind : sendings.used_of calls.Bind (sendings.as_before mid) new.link ≡ 0
-  no_bind = used_none _ _ (waited.others calls.Bind (λ e. cc) ∙ over.bind)
+  no_bind = used_none _ _ (ap stands bind_was)
 
   refused : (links.state_of new.link).faults ≡ later.refused
   refused =
@@ -184,8 +194,8 @@ module _ (most clock : ℕ) (came : Option (Address × Bor (List ℕ))) (old : D
     few = (let few = over.few in let once = at_most_once x.orders.receive false in let twice = at_most_once x.orders.send after.orders.send in
         omega (arith, few, once, twice));
     few_turns = (let few = over.few_turns in omega (arith, few));
-    send = refl;
-    receive = false_from_ne_true _ (λ is. let stood = sent.ordered calls.Next is in let gone = waited.spent in cc);
-    bind = false_from_ne_true _ (λ is. let stood = sent.ordered calls.Bind is in let gone = waited.others calls.Bind (λ e. cc) ∙ over.bind in cc);
+    send = later_if _ _ _ send_was (sent.ordered calls.Send);
+    receive = none_later _ _ next_was (sent.ordered calls.Next);
+    bind = none_later _ _ bind_was (sent.ordered calls.Bind);
     idle = ap (λ a. a.coming) (sent.idle waited.idle) ∙ waited.idle;
   }

@@ -5,7 +5,8 @@ use Rattle.std.proofs.lemmas.Bool.{false≢true}
 use Rattle.pp_outside.specs.Faults.{one_more}
 use Rattle.pp_terms.specs.format.Traffic.{Record, LinkState}
 use Rattle.pp_outside.specs.Arrivals.{Arrivals, next_of, after_next}
-use Rattle.pp_outside.specs.MemoryLink.{state_of, arrivals_of, is_ordered, is_short, Spends, MayRunShort}
+use Rattle.pp_outside.specs.MemoryLink.{state_of, arrivals_of, order_of, is_ordered, is_short, Spends, MayRunShort}
+use Rattle.pp_outside.specs.Orders.{is_due, after_one}
 use Rattle.pp_outside.specs.Outside.{record_of, DoesNext}
 use Rattle.pp_outside.specs.declared.call.Call.TheVariants.{Next}
 use Rattle.pp_outside.specs.declared.link.Address.{Address}
@@ -43,12 +44,12 @@ heard clock came old mid new buffer (Ok e) same expected none free w =
       deaf = λ is. absurd (false≢true is);
       heard_it = w.record_is ∙ next.0;
       idle = ap (λ (a : Arrivals). a.coming) w.taken ∙ next.1;
-      spent = w.spends.spent;
+      spent = w.spends.spent ∙ ap after_one (expected.orders Next);
       others = λ call differ. w.spends.others call differ ∙ expected.orders call;
       faults = w.spends.faults ∙ ap (λ (l : LinkState). l.faults) expected.state;
     }
 heard clock came old mid new buffer (Err f) same expected none free w = ⊎_elim
-    (λ stood. let never : true ≡ false = sym stood ∙ expected.orders Next ∙ free in cc)
+    (λ stood. let never : true ≡ false = sym stood ∙ ap is_due (expected.orders Next) ∙ free in cc)
     (λ short. let never : true ≡ false = sym short ∙ w.enough in cc)
     (w.cause.cause refl)
 
@@ -64,8 +65,8 @@ deaf clock came old mid new buffer (Err f) same is none stood w = record {
   deaf = λ no. refl;
   heard_it = tt;
   idle = ap (λ (a : Arrivals). a.coming) w.refused.0 ∙ ap (λ (l : MemoryLink). (arrivals_of l).coming) is ∙ none;
-  spent = w.spends.spent;
-  others = λ call differ. w.spends.others call differ ∙ ap (λ (l : MemoryLink). is_ordered l call) is;
+  spent = w.spends.spent ∙ ap (λ (l : MemoryLink). after_one (order_of l Next)) is;
+  others = λ call differ. w.spends.others call differ ∙ ap (λ (l : MemoryLink). order_of l call) is;
   faults = w.spends.faults ∙ ap (λ (l : MemoryLink). one_more (state_of l).faults) is;
 }
 

@@ -1,5 +1,5 @@
 -- A disk and a link in memory as those of a peer of a world.
-use Rattle.std.specs.Prelude.{◌≡◌, ℕ, ◌≤◌, false, Some, List, [], ◌++◌, length}
+use Rattle.std.specs.Prelude.{◌≡◌, ℕ, ◌≤◌, None, Some, List, [], ◌++◌, length}
 use Rattle.pp_terms.specs.disk.Disk.{fresh}
 use Rattle.pp_terms.specs.disk.Calls.{Did, attached, history_of}
 use Rattle.pp_outside.specs.MemoryDisk as disks
@@ -10,9 +10,10 @@ use Rattle.pp_outside.specs.declared.memory_link.MemoryLink.{MemoryLink}
 use Rattle.pp_world.specs.Orders.{Orders}
 use Rattle.pp_world.specs.Session.{Session}
 use Rattle.pp_world.specs.World.{PeerState}
+use Rattle.pp_watch.specs.Used.{order_if}
 
 -- The disk is the peer's, wherever it was attached. Of its calls at most so many were refused, and readings, writes and syncs alone are
--- ever ordered to fail.
+-- ever ordered to fail, and then the next one.
 pub record ShowsDisk (most : ℕ) (disk : MemoryDisk) (x : PeerState) : Type 0 where
   pub unattached : x.disk.attached_at ≡ 0
   pub history : attached (fresh x.disk.image) (disks.state_of disk).history ≡ history_of x.disk
@@ -20,23 +21,23 @@ pub record ShowsDisk (most : ℕ) (disk : MemoryDisk) (x : PeerState) : Type 0 w
   pub hard : (disks.state_of disk).hard ≡ x.hard
   pub few : x.faults ≤ most
   pub few_hard : x.hard ≤ most
-  pub read : disks.is_ordered disk Read ≡ x.orders.read
-  pub write : disks.is_ordered disk Write ≡ x.orders.write
-  pub sync : disks.is_ordered disk Sync ≡ x.orders.sync
-  pub attach : disks.is_ordered disk Attach ≡ false
-  pub len : disks.is_ordered disk Len ≡ false
+  pub read : disks.order_of disk Read ≡ order_if x.orders.read
+  pub write : disks.order_of disk Write ≡ order_if x.orders.write
+  pub sync : disks.order_of disk Sync ≡ order_if x.orders.sync
+  pub attach : disks.order_of disk Attach ≡ None
+  pub len : disks.order_of disk Len ≡ None
 
 -- The link is that of the peer's session, and nothing is to come over it. Of its calls at most so many were refused, and waits and
--- sendings alone are ever ordered to fail. It waited at most so many times.
+-- sendings alone are ever ordered to fail, and then the next one. It waited at most so many times.
 pub record ShowsLink (most : ℕ) (link : MemoryLink) (orders : Orders) (s : Session) : Type 0 where
   pub traffic : (links.state_of link).traffic ≡ Some s.traffic
   pub faults : (links.state_of link).faults ≡ s.refused
   pub nexts : (links.state_of link).nexts ≡ length s.turns
   pub few : s.refused ≤ most
   pub few_turns : length s.turns ≤ most
-  pub send : links.is_ordered link Send ≡ orders.send
-  pub receive : links.is_ordered link Next ≡ orders.receive
-  pub bind : links.is_ordered link Bind ≡ false
+  pub send : links.order_of link Send ≡ order_if orders.send
+  pub receive : links.order_of link Next ≡ order_if orders.receive
+  pub bind : links.order_of link Bind ≡ None
   pub idle : (links.arrivals_of link).coming ≡ []
 
 -- the peer after calls of its disk, which is that one now

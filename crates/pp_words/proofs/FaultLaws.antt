@@ -5,7 +5,7 @@ use Rattle.pp_terms.specs.tree.Content.{IsChunkSize, IsContentSize}
 use Rattle.pp_terms.specs.format.Descriptor.{Descriptor}
 use Rattle.pp_terms.specs.format.DescriptorRead.{Spelling, IsSpelled, number_of, before_chunk, before_size, before_method, IsFormFault, IsChunkFault, IsSizeFault, IsMethodFault}
 use Rattle.pp_terms.specs.format.DescriptorFault.{DescriptorFault, Form, Chunk, Size, Method, HasFault}
-use Rattle.pp_terms.specs.command.CommandLine.{IsDescriptorText}
+use Rattle.pp_words.specs.CommandLine.{IsDescriptorText}
 use Rattle.pp_tree.specs.declared.descriptor.DescriptorFault.TheVariants as fault
 use Rattle.pp_tree.proofs.Readings.{each_read, same_spelling}
 

@@ -10,10 +10,11 @@ use Rattle.pp_terms.specs.tree.Content.{IsChunkSize}
 use Rattle.pp_terms.specs.format.Descriptor.{Descriptor}
 use Rattle.pp_terms.specs.format.Traffic.{Address}
 use Rattle.pp_terms.specs.format.Addresses.{IsAddress}
-use Rattle.pp_terms.specs.command.Commands.{Order, Sequential, Rarest, order_text, Command, Import, Seed, Fetch, Check, Export, Upgrade, Replay, Rehearse}
-use Rattle.pp_terms.specs.command.Usage as wrong
-use Rattle.pp_terms.specs.command.Usage.{Usage, usage}
-use Rattle.pp_terms.specs.command.CommandLine.{IsDescriptorText, IsImport, IsSeed, IsFetch, IsOnStore, IsRehearse, Spells, Shape, import_shape, seed_shape, fetch_shape, check_shape, export_shape, upgrade_shape, replay_shape, rehearse_shape, commands, shape_of, named, IsFirstWrong}
+use Rattle.pp_terms.specs.command.Order.{Order, Sequential, Rarest, order_text}
+use Rattle.pp_words.specs.Commands.{Command, Import, Seed, Fetch, Check, Export, Upgrade, Replay, Rehearse, Play, Record, Audit}
+use Rattle.pp_words.specs.Usage as wrong
+use Rattle.pp_words.specs.Usage.{Usage, usage}
+use Rattle.pp_words.specs.CommandLine.{IsDescriptorText, IsImport, IsSeed, IsFetch, IsOnStore, IsRehearse, IsPlay, IsRecord, Spells, Shape, import_shape, seed_shape, fetch_shape, check_shape, export_shape, upgrade_shape, replay_shape, rehearse_shape, play_shape, record_shape, audit_shape, commands, shape_of, named, IsFirstWrong}
 use Rattle.pp_tree.proofs.Readings.{descriptor_same}
 use Rattle.pp_tree.proofs.Sizes.{chunk_size_range}
 use Rattle.pp_words.proofs.AddressParts.{address_same}
@@ -29,6 +30,12 @@ chunk_same a b one two e =
 
 number_same : (a b : ℕ) → a < 2 ^ 32 → b < 2 ^ 32 → decimal a ≡ decimal b → a ≡ b
 number_same a b low high e = decimal_injective a b (omega arith) (omega arith) e
+
+narrow_low : (n : ℕ) → n < 4097 → n < 2 ^ 32
+narrow_low n low = omega arith
+
+below_16 : (n : ℕ) → n < 16 → n < 2 ^ 32
+below_16 n low = omega arith
 
 described_same : (s t : List ℕ) (a b : Descriptor) → s ≡ t → IsDescriptorText s a → IsDescriptorText t b → a ≡ b
 described_same s t a b e one two =
@@ -149,6 +156,36 @@ rehearse_only words number one (Rehearse number') two =
     ap (λ n. Rehearse n) (decimal_injective number number' one.low two.low a.0)
 rehearse_only words number one d two = absurd (true≢false (sym (name_is words (codes "rehearse") _ d one.spelled two refl)))
 
+play_only : (words : List (List ℕ)) (store : List ℕ) (descriptor : Descriptor) (listen : Address) (turns window : ℕ) (peers : List Address)
+    → IsPlay words store descriptor listen turns window peers → (d : Command) → Spells words d → Play store descriptor listen turns window peers ≡ d
+play_only words store descriptor listen turns window peers one (Play store' descriptor' listen' turns' window' peers') two =
+    let a = cons_same _ _ _ _ (cons_same _ _ _ _ (sym one.spelled ∙ two.spelled)).1 in
+    let b = cons_same _ _ _ _ a.1 in
+    let c = cons_same _ _ _ _ b.1 in
+    let d = cons_same _ _ _ _ c.1 in
+    let f = cons_same _ _ _ _ d.1 in
+    ap (λ s. Play s descriptor listen turns window peers) a.0
+    ∙ ap (λ x. Play store' x listen turns window peers) (described_same _ _ _ _ b.0 one.descriptor_is two.descriptor_is)
+    ∙ ap (λ x. Play store' descriptor' x turns window peers) (listen_same _ _ _ _ c.0 one.listen_is two.listen_is)
+    ∙ ap (λ n. Play store' descriptor' listen' n window peers) (number_same turns turns' one.few two.few d.0)
+    ∙ ap (λ n. Play store' descriptor' listen' turns' n peers) (number_same window window' (narrow_low window one.narrow) (narrow_low window' two.narrow) f.0)
+    ∙ ap (λ ps. Play store' descriptor' listen' turns' window' ps)
+    (peers_same two.dialled peers peers' (subst (λ ws. AllZip IsAddress ws peers) f.1 one.dialled_are) two.dialled_are)
+play_only words store descriptor listen turns window peers one d two =
+    absurd (true≢false (sym (name_is words (codes "play") _ d one.spelled two refl)))
+
+record_only : (words : List (List ℕ)) (peer life : ℕ) → IsRecord words peer life → (d : Command) → Spells words d → Record peer life ≡ d
+record_only words peer life one (Record peer' life') two =
+    let a = cons_same _ _ _ _ (cons_same _ _ _ _ (sym one.spelled ∙ two.spelled)).1 in
+    let b = cons_same _ _ _ _ a.1 in
+    ap (λ p. Record p life) (number_same peer peer' (below_16 peer one.low) (below_16 peer' two.low) a.0)
+    ∙ ap (λ n. Record peer' n) (number_same life life' one.few two.few b.0)
+record_only words peer life one d two = absurd (true≢false (sym (name_is words (codes "record") _ d one.spelled two refl)))
+
+audit_only : (words : List (List ℕ)) → words ≡ codes "audit" ∷ [] → (d : Command) → Spells words d → Audit ≡ d
+audit_only words one Audit two = refl
+audit_only words one d two = absurd (true≢false (sym (name_is words (codes "audit") _ d one two refl)))
+
 pub one_command : (words : List (List ℕ)) (c d : Command) → Spells words c → Spells words d → c ≡ d
 one_command words (Import store chunk) d one two = import_only words store chunk one d two
 one_command words (Seed store descriptor listen turns) d one two = seed_only words store descriptor listen turns one d two
@@ -158,6 +195,9 @@ one_command words (Export store descriptor) d one two = export_only words store 
 one_command words (Upgrade store descriptor) d one two = upgrade_only words store descriptor one d two
 one_command words Replay d one two = replay_only words one d two
 one_command words (Rehearse number) d one two = rehearse_only words number one d two
+one_command words (Play store descriptor listen turns window peers) d one two = play_only words store descriptor listen turns window peers one d two
+one_command words (Record peer life) d one two = record_only words peer life one d two
+one_command words Audit d one two = audit_only words one d two
 
 -- ---- what an answer says of every command and every wrong word
 
@@ -187,15 +227,26 @@ not_first text shape shapes never more =
     ap (λ b. cond b (Some shape) (named text shapes)) (other_name shape.name text never) ∙ more
 
 pub none_named : (text : List ℕ) → (text ≡ codes "import" → ⊥) → (text ≡ codes "seed" → ⊥) → (text ≡ codes "fetch" → ⊥) → (text ≡ codes "check" → ⊥)
-    → (text ≡ codes "export" → ⊥) → (text ≡ codes "upgrade" → ⊥) → (text ≡ codes "replay" → ⊥) → (text ≡ codes "rehearse" → ⊥) → named text commands ≡ None
-none_named text a b c d e u f g =
+    → (text ≡ codes "export" → ⊥) → (text ≡ codes "upgrade" → ⊥) → (text ≡ codes "replay" → ⊥) → (text ≡ codes "rehearse" → ⊥)
+    → (text ≡ codes "play" → ⊥) → (text ≡ codes "record" → ⊥) → (text ≡ codes "audit" → ⊥) → named text commands ≡ None
+none_named text a b c d e u f g play recorded audit =
     not_first text import_shape from_seed a (not_first text seed_shape from_fetch b (not_first text fetch_shape from_check c
     (not_first text check_shape from_export d (not_first text export_shape from_upgrade e
-    (not_first text upgrade_shape from_replay u (not_first text replay_shape (rehearse_shape ∷ []) f
-    (not_first text rehearse_shape [] g refl)))))))
+    (not_first text upgrade_shape from_replay u (not_first text replay_shape from_rehearse f
+    (not_first text rehearse_shape from_play g (not_first text play_shape from_record play
+    (not_first text record_shape (audit_shape ∷ []) recorded (not_first text audit_shape [] audit refl))))))))))
   where
+    from_record : List Shape
+    from_record = record_shape ∷ audit_shape ∷ []
+
+    from_play : List Shape
+    from_play = play_shape ∷ from_record
+
+    from_rehearse : List Shape
+    from_rehearse = rehearse_shape ∷ from_play
+
     from_replay : List Shape
-    from_replay = replay_shape ∷ rehearse_shape ∷ []
+    from_replay = replay_shape ∷ from_rehearse
 
     from_upgrade : List Shape
     from_upgrade = upgrade_shape ∷ from_replay

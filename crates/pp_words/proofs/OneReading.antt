@@ -4,10 +4,10 @@ use Rattle.std.specs.Prelude.{MatchOption}
 use Rattle.std.specs.List.{AllZip}
 use Rattle.pp_terms.specs.format.Traffic.{Address}
 use Rattle.pp_terms.specs.format.Addresses.{IsAddress}
-use Rattle.pp_terms.specs.command.Commands.{Command, Import, Seed, Fetch, Check, Export, Upgrade, Replay, Rehearse}
-use Rattle.pp_terms.specs.command.Usage as wrong
-use Rattle.pp_terms.specs.command.Usage.{Usage, usage}
-use Rattle.pp_terms.specs.command.CommandLine.{Spells, Slot, AStore, AChunk, ANumber, ADescriptor, AnAddress, AnOrder, IsRight, IsWrong, Shape, commands, shape_of, named, IsOneOf, IsWrongFrom, IsFirstWrong}
+use Rattle.pp_words.specs.Commands.{Command, Import, Seed, Fetch, Check, Export, Upgrade, Replay, Rehearse, Play, Record, Audit}
+use Rattle.pp_words.specs.Usage as wrong
+use Rattle.pp_words.specs.Usage.{Usage, usage}
+use Rattle.pp_words.specs.CommandLine.{Spells, Slot, AStore, AChunk, ANumber, ADescriptor, AnAddress, AnOrder, IsRight, IsWrong, Shape, commands, shape_of, named, IsOneOf, IsWrongFrom, IsFirstWrong}
 use Rattle.pp_words.proofs.FaultLaws.{no_fault, fault_same}
 
 -- ---- one first wrong word
@@ -109,6 +109,16 @@ words_of words (Export store descriptor) is = record { rest = _; named = is.spel
 words_of words (Upgrade store descriptor) is = record { rest = _; named = is.spelled; right = (is.named, ((descriptor, is.descriptor_is), tt)) }
 words_of words Replay is = record { rest = []; named = is; right = tt }
 words_of words (Rehearse number) is = record { rest = _; named = is.spelled; right = ((number, refl, omega arith, is.low), tt) }
+words_of words (Play store descriptor listen turns window peers) is = record {
+  rest = _;
+  named = is.spelled;
+  right = (
+    is.named,
+    ((descriptor, is.descriptor_is), ((listen, is.listen_is), ((turns, refl, is.some_turns, is.few), ((window, refl, is.some_window, is.narrow), first_peer_right is.dialled peers is.dialled_are is.some is.most)))),
+  );
+}
+words_of words (Record peer life) is = record { rest = _; named = is.spelled; right = ((peer, refl, omega arith, is.low), ((life, refl, is.some, is.few), tt)) }
+words_of words Audit is = record { rest = []; named = is; right = tt }
 
 -- words that spell one of the commands have no first wrong word
 pub command_not_wrong : (shapes : List Shape) (words : List (List ℕ)) (c : Command) (u : Usage) → IsOneOf shapes c → Spells words c
@@ -129,3 +139,6 @@ one_of_all (Export store descriptor) = refl
 one_of_all (Upgrade store descriptor) = refl
 one_of_all Replay = refl
 one_of_all (Rehearse number) = refl
+one_of_all (Play store descriptor listen turns window peers) = refl
+one_of_all (Record peer life) = refl
+one_of_all Audit = refl

@@ -4,9 +4,9 @@ use Rattle.std.specs.List.{AllZip}
 use Rattle.std.proofs.lemmas.List.{length-append}
 use Rattle.pp_terms.specs.format.Traffic.{Address}
 use Rattle.pp_terms.specs.format.Addresses.{IsAddress}
-use Rattle.pp_terms.specs.command.Usage as wrong
-use Rattle.pp_terms.specs.command.Usage.{Usage, usage}
-use Rattle.pp_terms.specs.command.CommandLine.{AnAddress, IsWrongFrom}
+use Rattle.pp_words.specs.Usage as wrong
+use Rattle.pp_words.specs.Usage.{Usage, usage}
+use Rattle.pp_words.specs.CommandLine.{AnAddress, IsWrongFrom}
 use Rattle.pp_words.proofs.WordSteps.{front_at, step, extra}
 
 -- The words from `first` up to `at` were addresses of these peers, and what follows is judged as before.

@@ -6,10 +6,10 @@ use Rattle.std.proofs.lemmas.Bool.{true≢false}
 use Rattle.pp_terms.specs.tree.Content.{IsChunkSize}
 use Rattle.pp_terms.specs.format.Traffic.{V4, V6}
 use Rattle.pp_terms.specs.format.Addresses.{IsAddress}
-use Rattle.pp_terms.specs.command.Commands.{Import}
+use Rattle.pp_words.specs.Commands.{Import}
 use Rattle.pp_terms.specs.format.DescriptorFault as fault
-use Rattle.pp_terms.specs.command.Usage.{Missing, Extra, Chunk, Descriptor, usage, usage_line}
-use Rattle.pp_terms.specs.command.CommandLine.{commands, Spells, IsFirstWrong}
+use Rattle.pp_words.specs.Usage.{Missing, Extra, Chunk, Descriptor, usage, usage_line}
+use Rattle.pp_words.specs.CommandLine.{commands, Spells, IsFirstWrong}
 use Rattle.pp_words.proofs.SizeWords.{none_spelled}
 
 pub v4 : IsAddress (codes "127.0.0.1:7000") (V4 (127 ∷ 0 ∷ 0 ∷ 1 ∷ []) 7000)

@@ -4,9 +4,9 @@ use Rattle.std.specs.Prelude.{String, string_bytes}
 use Rattle.std.specs.declared.alloc.Global.{Global}
 use Rattle.std.proofs.Math.Seq.{drop-cons}
 use Rattle.std.proofs.lemmas.List.{length-map, get_or-map}
-use Rattle.pp_terms.specs.command.Usage as wrong
-use Rattle.pp_terms.specs.command.Usage.{Usage, usage}
-use Rattle.pp_terms.specs.command.CommandLine.{Slot, AnAddress, IsRight, IsWrong, IsWrongFrom}
+use Rattle.pp_words.specs.Usage as wrong
+use Rattle.pp_words.specs.Usage.{Usage, usage}
+use Rattle.pp_words.specs.CommandLine.{Slot, AnAddress, IsRight, IsWrong, IsWrongFrom}
 use Rattle.std.proofs.lemmas.Option.{none-some}
 use Rattle.pp_terms.specs.format.Traffic.{Address}
 use Rattle.pp_terms.specs.format.Addresses.{IsAddress}

@@ -2,10 +2,10 @@
 use Rattle.std.specs.Prelude.{◌≡◌, [], ◌∷◌, codes}
 use Rattle.pp_terms.specs.format.Traffic.{V4, V6}
 use Rattle.pp_terms.specs.format.Addresses.{IsAddress}
-use Rattle.pp_terms.specs.command.Commands.{Import}
+use Rattle.pp_words.specs.Commands.{Import}
 use Rattle.pp_terms.specs.format.DescriptorFault as fault
-use Rattle.pp_terms.specs.command.Usage.{Missing, Extra, Command, Chunk, Descriptor, usage, usage_line}
-use Rattle.pp_terms.specs.command.CommandLine.{commands, Spells, IsFirstWrong}
+use Rattle.pp_words.specs.Usage.{Missing, Extra, Command, Chunk, Descriptor, usage, usage_line}
+use Rattle.pp_words.specs.CommandLine.{commands, Spells, IsFirstWrong}
 
 pub record WordExamples : Type 0 where
   -- two addresses and their bytes

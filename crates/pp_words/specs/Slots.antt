@@ -1,7 +1,7 @@
 -- One word after the other.
 use Rattle.std.specs.Prelude.{◌≡◌, ℕ, ◌+◌, List, ◌∷◌, drop, String}
 use Rattle.std.specs.declared.alloc.Global.{Global}
-use Rattle.pp_terms.specs.command.CommandLine.{Slot, IsWrongFrom}
+use Rattle.pp_words.specs.CommandLine.{Slot, IsWrongFrom}
 use Rattle.pp_words.specs.declared.types.Usage.{Usage}
 use Rattle.pp_words.specs.Views.{texts, usage_of}
 

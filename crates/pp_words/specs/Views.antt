@@ -1,16 +1,17 @@
 -- The words, what they spell and what is wrong with them, as plain data.
 use Rattle.std.specs.Prelude.{ℕ, List, map, String, string_bytes}
 use Rattle.std.specs.declared.alloc.Global.{Global}
-use Rattle.pp_terms.specs.command.Commands as terms
+use Rattle.pp_terms.specs.command.Order as orders
+use Rattle.pp_words.specs.Commands as terms
 use Rattle.pp_terms.specs.format.DescriptorFault as fault
-use Rattle.pp_terms.specs.command.Usage as wrong
+use Rattle.pp_words.specs.Usage as wrong
 use Rattle.pp_outside.specs.Outside.{address_of}
 use Rattle.pp_tree.specs.declared.descriptor.DescriptorFault.{DescriptorFault}
 use Rattle.pp_tree.specs.declared.descriptor.DescriptorFault.TheVariants.{Form, Chunk, Size, Method}
 use Rattle.pp_words.specs.declared.types.Order.{Order}
 use Rattle.pp_words.specs.declared.types.Order.TheVariants.{Sequential, Rarest}
 use Rattle.pp_words.specs.declared.types.Command.{Command}
-use Rattle.pp_words.specs.declared.types.Command.TheVariants.{Import, Seed, Fetch, Check, Export, Upgrade, Replay, Rehearse}
+use Rattle.pp_words.specs.declared.types.Command.TheVariants.{Import, Seed, Fetch, Check, Export, Upgrade, Replay, Rehearse, Play, Record, Audit}
 use Rattle.pp_words.specs.declared.types.Usage.{Usage}
 use Rattle.pp_words.specs.declared.types.UsageKind.{UsageKind}
 use Rattle.pp_words.specs.declared.types.UsageKind.TheVariants as kind
@@ -19,9 +20,9 @@ use Rattle.pp_words.specs.declared.types.UsageKind.TheVariants as kind
 abbrev pub texts : List (String Global) → List (List ℕ)
 texts words = map (λ word. string_bytes word) words
 
-abbrev pub order_of : Order → terms.Order
-order_of Sequential = terms.Sequential
-order_of Rarest = terms.Rarest
+abbrev pub order_of : Order → orders.Order
+order_of Sequential = orders.Sequential
+order_of Rarest = orders.Rarest
 
 abbrev pub command_of : Command → terms.Command
 command_of (Import store chunk) = terms.Import store.now chunk
@@ -33,6 +34,10 @@ command_of (Export store descriptor) = terms.Export store.now descriptor
 command_of (Upgrade store descriptor) = terms.Upgrade store.now descriptor
 command_of Replay = terms.Replay
 command_of (Rehearse number) = terms.Rehearse number
+command_of (Play store descriptor listen turns window peers) =
+    terms.Play store.now descriptor (address_of listen) turns window (map address_of peers.items)
+command_of (Record peer life) = terms.Record peer life
+command_of Audit = terms.Audit
 
 abbrev pub fault_of : DescriptorFault → fault.DescriptorFault
 fault_of (Form at) = fault.Form at

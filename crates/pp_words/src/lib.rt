@@ -4,7 +4,7 @@
 mod address;
 mod commands;
 mod laws;
-mod number;
+pub mod number;
 mod reading;
 mod slots;
 mod types;

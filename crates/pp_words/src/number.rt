@@ -7,7 +7,7 @@ ghost use Rattle.pp_words.specs.Digits.{AreDigits};
 const MOST_DIGITS: usize = 20;
 
 /// The number that the text writes in decimal digits without a leading zero, if it is at most `most`.
-pub(crate) fn number(text: &[u8], most: u64) -> Option<u64>
+pub fn number(text: &[u8], most: u64) -> Option<u64>
     ensures { MatchOption result ((n : ℕ) → n ≤ most → text.now ≡ decimal n → ⊥)
         (λ n. (n ≤ most) × (text.now ≡ decimal n)) }
 {

@@ -1,11 +1,13 @@
 // The command that words spell.
 ghost use Rattle.std.specs.Prelude.{◌≡◌, IfOk, IfErr, IsOkAnd, IsErrAnd};
-ghost use Rattle.pp_terms.specs.command.Commands as terms;
-ghost use Rattle.pp_terms.specs.command.CommandLine.{Spells, IsFirstWrong, commands};
-ghost use Rattle.pp_terms.specs.command.Usage as wrong;
+ghost use Rattle.pp_words.specs.Commands as terms;
+ghost use Rattle.pp_words.specs.CommandLine.{Spells, IsFirstWrong, commands};
+ghost use Rattle.pp_words.specs.Usage as wrong;
 ghost use Rattle.pp_words.specs.Views.{texts, command_of, usage_of};
 
-use crate::commands::{check, export, fetch, import, rehearse, replay, seed, upgrade};
+use crate::commands::{
+    audit, check, export, fetch, import, play, record_life, rehearse, replay, seed, upgrade,
+};
 use crate::slots::word;
 use crate::types::{Command, Usage, UsageKind};
 
@@ -37,6 +39,9 @@ fn read_named(words: &[String]) -> Result<Command<'_>, Usage>
         "upgrade" => upgrade(words),
         "replay" => replay(words),
         "rehearse" => rehearse(words),
+        "play" => play(words),
+        "record" => record_life(words),
+        "audit" => audit(words),
         _ => Err(Usage {
             word: 0,
             kind: UsageKind::Command,

@@ -2,10 +2,10 @@
 ghost use Rattle.std.specs.Prelude.{◌≡◌, ℕ, ◌+◌, ◌^◌, ◌<◌, ◌≤◌, List, [], ◌∷◌, length, map, drop, decimal, MatchOption, IfOk, IfErr, OnOk};
 ghost use Rattle.std.specs.List.{AllZip};
 ghost use Rattle.pp_terms.specs.format.Addresses.{IsAddress};
-ghost use Rattle.pp_terms.specs.command.Commands.{order_text};
+ghost use Rattle.pp_terms.specs.command.Order.{order_text};
 ghost use Rattle.pp_terms.specs.tree.Content.{IsChunkSize};
-ghost use Rattle.pp_terms.specs.command.CommandLine.{AStore, AChunk, ANumber, ADescriptor, AnAddress, AnOrder, IsStore, IsDescriptorText, IsWrongFrom};
-ghost use Rattle.pp_terms.specs.command.Usage.{usage, Missing};
+ghost use Rattle.pp_words.specs.CommandLine.{AStore, AChunk, ANumber, ADescriptor, AnAddress, AnOrder, IsStore, IsDescriptorText, IsWrongFrom};
+ghost use Rattle.pp_words.specs.Usage.{usage, Missing};
 ghost use Rattle.pp_outside.specs.Outside.{address_of};
 ghost use Rattle.pp_words.specs.Views.{texts, order_of, usage_of};
 ghost use Rattle.pp_words.specs.Slots.{Takes, Stops};
@@ -73,14 +73,28 @@ fn chunk_size(word: &str) -> Option<u32>
     }
 }
 
-pub(crate) fn turns(words: &[String], at: usize) -> Result<u32, Usage>
-    ensures ok { IfOk result (λ turns. Takes words.now at (decimal turns) × (1 ≤ turns) × (turns < 2 ^ 32)) }
-    ensures err { IfErr result (Stops (ANumber 1 (2 ^ 32)) words.now at) }
+/// A number from 1 on and below a limit.
+pub(crate) fn some_number(words: &[String], at: usize, limit: u64) -> Result<u32, Usage>
+    requires some { 0 < limit }
+    requires low { limit ≤ 2 ^ 32 }
+    ensures ok { IfOk result (λ n. Takes words.now at (decimal n) × (1 ≤ n) × (n < limit)) }
+    ensures err { IfErr result (Stops (ANumber 1 limit) words.now at) }
 {
     let word = word(words, at)?;
-    match number(word.as_bytes(), u64::from(u32::MAX)) {
+    match number(word.as_bytes(), limit - 1) {
         Some(0) => Err(wrong(at, UsageKind::Number)),
-        Some(turns) => Ok(turns as u32),
+        Some(number) => Ok(number as u32),
+        None => Err(wrong(at, UsageKind::Number)),
+    }
+}
+
+pub(crate) fn peer(words: &[String], at: usize) -> Result<u8, Usage>
+    ensures ok { IfOk result (λ peer. Takes words.now at (decimal peer) × (peer < 16)) }
+    ensures err { IfErr result (Stops (ANumber 0 16) words.now at) }
+{
+    let word = word(words, at)?;
+    match number(word.as_bytes(), 15) {
+        Some(peer) => Ok(peer as u8),
         None => Err(wrong(at, UsageKind::Number)),
     }
 }

@@ -11,7 +11,8 @@ pub enum Order {
 }
 
 /// A command. `store` is the name of the store's file, `chunk` the chunk size in bytes, `listen` the address at which
-/// the peer listens, `turns` how often it waits for a datagram, and `number` the number of a rehearsal.
+/// the peer listens, `turns` how often it waits for a datagram, `number` the number of a rehearsal, `window` how many
+/// chunks from the first unwritten one on are asked for, `peer` the number of a peer, and `life` that of one of its lives.
 #[derive(Clone, Debug, Drop, PartialEq, Eq)]
 pub enum Command<'a> {
     /// `import STORE CHUNK`
@@ -56,6 +57,22 @@ pub enum Command<'a> {
     Rehearse {
         number: u64,
     },
+    /// `play STORE DESCRIPTOR LISTEN TURNS WINDOW PEER..`, with a window of 1 to 4096 and 1 to 16 peers
+    Play {
+        store: &'a str,
+        descriptor: Descriptor,
+        listen: Address,
+        turns: u32,
+        window: u32,
+        peers: ArrayVec<Address, 16>,
+    },
+    /// `record PEER LIFE`, with a peer below 16 and a life from 1 on
+    Record {
+        peer: u8,
+        life: u32,
+    },
+    /// `audit`
+    Audit,
 }
 
 /// What is wrong with a word.
@@ -71,7 +88,7 @@ pub enum UsageKind {
     Store,
     /// It is no chunk size: no power of two from 256 to 8192.
     Chunk,
-    /// It is no number, or too large.
+    /// It is no number, or too small or too large.
     Number,
     /// It is no descriptor's text; the fault has its place in the word.
     Descriptor(DescriptorFault),

@@ -11,12 +11,13 @@ use Rattle.pp_terms.specs.format.Mismatch.{mismatch_of}
 use Rattle.pp_terms.specs.format.Options.{spelling_of, fault_at, read_from, read_options}
 use Rattle.pp_terms.specs.format.Traffic.{Record, Received, Quiet, Sent}
 use Rattle.pp_terms.specs.tree.Book.{LookUp}
-use Rattle.pp_terms.specs.tree.Tree.{node, height}
+use Rattle.pp_terms.specs.tree.Tree.{leaf_at, node, height}
 use Rattle.pp_traffic.specs.Life.{IsLife}
+use Rattle.pp_traffic.specs.Plain.{IsPlainUpTo}
 use Rattle.pp_world.proofs.WorldExamples.{is_anothers}
 use Rattle.pp_world.specs.Agreement.{HaveClashed, ClashesWithTree, AllBooksAgree}
 use Rattle.pp_world.specs.Change.{Acts}
-use Rattle.pp_world.specs.Channel.{IsOpen}
+use Rattle.pp_world.specs.Knowing.{PeersKnowTold}
 use Rattle.pp_world.specs.Opening.{Opens, FailsToOpen}
 use Rattle.pp_world.specs.Outcome.{IsEndOf}
 use Rattle.pp_world.specs.Schedule.{Crash}
@@ -27,7 +28,7 @@ use Rattle.pp_world.specs.Turn.{TakesTurn}
 use Rattle.pp_world.specs.World.{PeerState, World, address_of}
 use Rattle.pp_world.specs.Worlds.{swarm_of, empty_disk, idle}
 use Rattle.pp_world.specs.WorldExamples.{small, taught, session_with, peer_with, opened_peer, forged_0, greeting, failing, with_file, turned_0, turned_1, stopped_1, restarted_with, world, keeper, end_of}
-use Rattle.pp_world.specs.BrokenWorlds.{gave_up, sent_last, unscathed_0, three, dial, reply, ask, chunk, sender_past, receiver_past, sender_life, receiver_life, nothing, sender, receiver, lost_chunk, announcer, forgetful, wrecked, root_is, two_roots, BrokenWorlds}
+use Rattle.pp_world.specs.BrokenWorlds.{gave_up, sent_last, unscathed_0, three, dial, reply, ask, chunk, sender_past, receiver_past, sender_life, receiver_life, nothing, sender, receiver, lost_chunk, announcer, unlearned, forgetful, wrecked, root_is, two_roots, BrokenWorlds}
 
 -- ---- moves
 
@@ -113,6 +114,10 @@ crashed : AnnouncedSurvives abc (world 0 wrecked opened_peer) → ⊥
 unfolding spell leaves_of span_in handshake_at data_at ack_at integrity_at span_at address_at message_at next_message messages_from datagram
 crashed k = let e : false ≡ true = ((k.0.0.keeps.announced k.0.0.sound).0 0 refl [] (inl (is_sole []))).opened in cc
 
+untold : PeersKnowTold three (world 0 unlearned opened_peer) → ⊥
+unfolding spell leaves_of span_in handshake_at data_at ack_at integrity_at span_at address_at message_at next_message messages_from datagram height
+untold k = let e : false ≡ true = k.0.0.0.0 0 refl (leaf_at 0) refl in cc
+
 -- ---- a chunk that isn't stored
 
 life_of_sender : IsLife three sender_life sender_past
@@ -174,22 +179,14 @@ sent_chunk = record {
   );
 }
 
-life_of_receiver : IsLife three receiver_life receiver_past
+plain_channel : IsPlainUpTo three receiver_life receiver_past (Received 3 (address_of 0) chunk)
 unfolding spell leaves_of span_in handshake_at data_at ack_at integrity_at span_at address_at message_at next_message messages_from datagram spelling_of fault_at read_from read_options mismatch_of height
-life_of_receiver = record {
+plain_channel = record {
   local_some = omega arith;
   remote_some = omega arith;
-  greeted = refl;
-  answered = refl;
-  opened = refl;
+  fresh = refl;
+  begins = record { opened = refl; replied = refl };
   open_still = refl;
-}
-
-open_channel : IsOpen three receiver_life receiver_past
-unfolding spell leaves_of span_in handshake_at data_at ack_at integrity_at span_at address_at message_at next_message messages_from datagram spelling_of fault_at read_from read_options mismatch_of height
-open_channel = record {
-  alive = life_of_receiver;
-  begins = record { opened = refl; new = refl; replied = refl; alone = refl };
   timely = refl;
 }
 
@@ -208,7 +205,7 @@ took_in = record {
   at = 3;
   traffic = refl;
   from = refl;
-  is_open = open_channel;
+  is_plain = plain_channel;
 }
 
 -- three bytes are one chunk, so above its node there is no other
@@ -267,6 +264,7 @@ broken_worlds = record {
   announced = announced;
   forgotten = forgotten;
   crashed = crashed;
+  untold = untold;
   lost = lost;
   roots = roots;
   lives = lives;

@@ -5,6 +5,7 @@ pub mod Steps
 pub mod Roles
 pub mod Contents
 pub mod Texts
+pub mod Rehearsals
 pub mod WorldExamples
 pub mod KeptExamples
 pub mod BrokenWorlds

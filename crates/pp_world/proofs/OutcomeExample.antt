@@ -173,6 +173,10 @@ unmoved_peers = record {
   numbers = (ends, (ends, tt));
   runs = ((run _, tt), ((run _, tt), tt));
   survives = (survives, (survives, tt));
+  knows = (
+    (((tt, tt), tt), (((tt, tt), tt), tt)),
+    ((((tt, tt), tt), (tt, tt)), ((tt, (tt, tt)), tt)),
+  );
   datagrams = (
     none_came (content_of unmoved) (world 0 opened_peer (idle empty_disk)) (world 0 opened_peer opened_peer) silent,
     (none_came (content_of unmoved) (world 0 (idle empty_disk) (idle empty_disk)) (world 0 opened_peer (idle empty_disk)) silent_before, tt),

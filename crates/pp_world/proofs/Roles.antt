@@ -5,7 +5,7 @@ use Rattle.std.specs.Str.{bytes_eq}
 use Rattle.std.specs.Cmp.Lexicographic.{same_text}
 use Rattle.std.proofs.lemmas.Bool.{and_parts, and_from, or_parts, leb-true, le-leb, eqb-true, eq-eqb, ne_eqb, both_ways, cases_Bool}
 use Rattle.std.proofs.lemmas.List.{length-map}
-use Rattle.pp_terms.specs.command.Commands.{Order, Sequential, Rarest, order_text}
+use Rattle.pp_terms.specs.command.Order.{Order, Sequential, Rarest, order_text}
 use Rattle.pp_world.specs.ScheduleFault.{ScheduleKind}
 use Rattle.pp_world.specs.ScheduleFault as wrong
 use Rattle.pp_world.specs.Schedule.{Role, Seeds, Fetches, role_words}

@@ -5,7 +5,7 @@ use Rattle.std.specs.Str.{bytes_eq}
 use Rattle.std.specs.Cmp.Lexicographic.{same_text}
 use Rattle.std.proofs.lemmas.Bool.{and_parts, and_from, leb-true, le-leb, ne_eqb, both_ways, false≢true}
 use Rattle.hex.specs.Hex.{encode_with, encode_lower, lower_digits}
-use Rattle.pp_terms.specs.command.Commands.{Order, Sequential, Rarest, order_text}
+use Rattle.pp_terms.specs.command.Order.{Order, Sequential, Rarest, order_text}
 use Rattle.pp_terms.specs.tree.Content.{IsChunkSize}
 use Rattle.pp_terms.specs.command.Report.{line}
 use Rattle.pp_terms.specs.format.DescriptorRead.{is_lower_hex}

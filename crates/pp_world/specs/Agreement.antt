@@ -13,8 +13,8 @@ pub record IsBelow (d : Descriptor) (n k j : ℕ) : Type 0 where
   pub layer : k + n ≡ height_of d
   pub within : j < 2 ^ n
 
--- Two books have the same digest of a node that both have, or at some ancestor of it the pairs that they join differ
--- and have the same digest.
+-- Two books have the same digest of a node that both have, or at some ancestor of it the pairs that they join
+-- differ and have the same digest.
 abbrev pub BooksAgree : Descriptor → (one other : LookUp) → Type 0
 BooksAgree d one other = (n k j : ℕ) (x y : List ℕ) → IsBelow d n k j → one k j ≡ Some x → other k j ≡ Some y
     → (x ≡ y) ⊎ BooksClash one other n k j

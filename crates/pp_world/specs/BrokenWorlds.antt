@@ -9,6 +9,7 @@ use Rattle.pp_terms.specs.tree.Book.{LookUp}
 use Rattle.pp_traffic.specs.Life.{Life}
 use Rattle.pp_world.specs.Agreement.{AllBooksAgree}
 use Rattle.pp_world.specs.Change.{Acts}
+use Rattle.pp_world.specs.Knowing.{PeersKnowTold}
 use Rattle.pp_world.specs.Opening.{Opens, FailsToOpen}
 use Rattle.pp_world.specs.Outcome.{IsEndOf}
 use Rattle.pp_world.specs.Schedule.{Crash}
@@ -98,6 +99,10 @@ lost_chunk = world 3 sender (receiver (Received 3 (address_of 0) chunk ∷ [])) 
 abbrev pub announcer : PeerState
 announcer = peer_with empty_disk [] (announcing 0 ∷ [])
 
+-- one whose book is empty
+abbrev pub unlearned : PeerState
+unlearned = peer_with empty_disk [] (record (announcing 0) { book = nothing } ∷ [])
+
 -- one that found nothing when it opened once more
 abbrev pub forgetful : PeerState
 forgetful = peer_with empty_disk [] (session_with bare [] [] ∷ announcing 0 ∷ [])
@@ -135,6 +140,8 @@ pub record BrokenWorlds : Type 0 where
   pub announced : AnnouncedSurvives three (world 0 announcer opened_peer) → ⊥
   pub forgotten : AnnouncedSurvives three (world 0 forgetful opened_peer) → ⊥
   pub crashed : AnnouncedSurvives abc (world 0 wrecked opened_peer) → ⊥
+  -- a chunk was announced, and the book has no digest of it
+  pub untold : PeersKnowTold three (world 0 unlearned opened_peer) → ⊥
   -- a chunk came with its hashes as it was asked for, and isn't stored
   pub lost : DatagramsAreAtomic three (codes "abc") lost_chunk → ⊥
   -- two books have two digests of the root

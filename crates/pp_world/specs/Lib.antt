@@ -15,6 +15,7 @@ pub mod Change
 pub mod Worlds
 pub mod Survival
 pub mod Agreement
+pub mod Knowing
 pub mod Channel
 pub mod Shipment
 pub mod Outcome

@@ -13,6 +13,7 @@ use Rattle.pp_traffic.specs.Keeping.{announces}
 use Rattle.pp_traffic.specs.Past.{read}
 use Rattle.pp_traffic.specs.Serving.{window_of, ServesAll}
 use Rattle.pp_world.specs.Agreement.{AllBooksAgree}
+use Rattle.pp_world.specs.Knowing.{PeersKnowTold}
 use Rattle.pp_world.specs.Shipment.{DatagramsAreAtomic}
 use Rattle.pp_world.specs.Schedule.{Role, Schedule, content_of}
 use Rattle.pp_world.specs.Session.{Session, last_mark, new_link, link_of}
@@ -110,7 +111,7 @@ AreRuns Promises d (role ∷ roles) [] = ⊥
 -- ---- the whole
 
 -- These peers are the end of worlds of the schedule, in which every session keeps the promises of a run, what was
--- announced survives, datagrams are atomic and books agree.
+-- announced survives, each book has what was told, datagrams are atomic and books agree.
 pub record IsOutcome (Promises : RunPromise) (s : Schedule) (ends : List PeerEnd) : Type 0 where
   pub last : World
   pub before : List World
@@ -119,5 +120,6 @@ pub record IsOutcome (Promises : RunPromise) (s : Schedule) (ends : List PeerEnd
   pub numbers : AllByRecursion (IsEndOf (swarm_of s)) ends
   pub runs : AreRuns Promises (swarm_of s) s.roles last.peers
   pub survives : AnnouncedSurvives (swarm_of s) last
+  pub knows : AllByRecursion (PeersKnowTold (swarm_of s)) (last ∷ before)
   pub datagrams : DatagramsAreAtomic (swarm_of s) (content_of s) (last ∷ before)
   pub books : AllBooksAgree (swarm_of s) last

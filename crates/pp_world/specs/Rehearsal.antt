@@ -1,10 +1,11 @@
 -- Rehearsals: schedules that are made of random words (ChaCha8).
-use Rattle.std.specs.Prelude.{ℕ, ◌+◌, ◌/◌, ◌%◌, ◌==◌, ◌&&◌, if◌then◌else◌, List, [], ◌∷◌, ◌++◌, replicate, slice_index, drop}
+use Rattle.std.specs.Prelude.{◌≡◌, ℕ, ◌+◌, ◌≤◌, ◌/◌, ◌%◌, ◌==◌, ◌&&◌, if◌then◌else◌, List, [], ◌∷◌, ◌++◌, replicate, length, slice_index, drop, Ok}
 use Rattle.std.specs.Int.{w64, to_be_bytes}
 use Rattle.rand_core.specs.Steps as steps
 use Rattle.rand_chacha.specs.ChaCha.{of_seed, next_word}
-use Rattle.pp_terms.specs.command.Commands.{Rarest}
-use Rattle.pp_world.specs.Schedule.{Role, Seeds, Fetches, Lose, Repeat, Later, Crash, Start, Step, Once, Run, Schedule, schedule_text}
+use Rattle.pp_terms.specs.command.Order.{Rarest}
+use Rattle.pp_world.specs.Schedule.{Role, Seeds, Fetches, Lose, Repeat, Later, Crash, Start, Step, Once, Run, Schedule, IsSchedule, schedule_text}
+use Rattle.pp_world.specs.ScheduleRead.{read_schedule}
 
 -- the key of a rehearsal's generator, of which the words are those of stream 0 from the first on
 abbrev pub rehearsal_key : ℕ → List ℕ
@@ -29,7 +30,7 @@ trouble w =
     else (if kind == 3 && (w / 16) % 8 == 0 then Once (Crash p ((w / 65536) % 16)) ∷ Once (Start p) ∷ []
     else [])))
 
--- that, and a round of 20 milliseconds, for each word; and many rounds at last
+-- the trouble of each word, and a round of 20 milliseconds behind it; and many rounds at last
 abbrev pub rehearsal_steps : List ℕ → List Step
 rehearsal_steps [] = Run 4000 20000 ∷ []
 rehearsal_steps (w ∷ ws) = trouble w ++ Run 1 20000 ∷ rehearsal_steps ws
@@ -49,3 +50,8 @@ rehearsal_of ws = record {
 
 unfoldable pub rehearsal_text : List ℕ → List ℕ
 rehearsal_text ws = schedule_text (rehearsal_of ws)
+
+-- Each rehearsal of so many words is a schedule that a text can have, and its text is read as that schedule.
+pub record RehearsalsRead : Type 0 where
+  pub are : (ws : List ℕ) → length ws ≤ rehearsal_words → IsSchedule (rehearsal_of ws)
+  pub read : (ws : List ℕ) → length ws ≤ rehearsal_words → read_schedule (rehearsal_text ws) ≡ Ok (rehearsal_of ws)

@@ -3,7 +3,7 @@ use Rattle.std.specs.Prelude.{◌≢◌, ℕ, zero, suc, ◌+◌, ◌*◌, ◌/�
 use Rattle.std.specs.List.{AllByRecursion}
 use Rattle.hex.specs.Hex.{encode_lower}
 use Rattle.pp_terms.specs.tree.Content.{IsChunkSize}
-use Rattle.pp_terms.specs.command.Commands.{Order, order_text}
+use Rattle.pp_terms.specs.command.Order.{Order, order_text}
 use Rattle.pp_terms.specs.command.Report.{line}
 
 -- A peer seeds the content; or it fetches it, and dials other peers.
@@ -49,7 +49,7 @@ pub record Schedule : Type 0 where
 abbrev pub byte_at : ℕ → ℕ → ℕ
 byte_at shift j = (shift + 7 * j + j / 256 + j / 65536) % 256
 
--- so many bytes of it, from a place on
+-- some bytes of it, so many, from a place on
 abbrev pub content_from : (shift from count : ℕ) → List ℕ
 content_from shift from zero = []
 content_from shift from (suc n) = byte_at shift from ∷ content_from shift (from + 1) n
@@ -83,7 +83,8 @@ IsAct peers (Turn p) = p < peers
 IsAct peers (Lose p) = p < peers
 IsAct peers (Repeat p) = p < peers
 IsAct peers (Later p) = p < peers
-IsAct peers (Forge p q bytes) = (p < peers) × (q < peers) × (1 ≤ length bytes) × (length bytes ≤ 16384) × AllByRecursion (λ b. b < 256) bytes
+IsAct peers (Forge p q bytes) = (p < peers) × (q < peers) × (1 ≤ length bytes) × (length bytes ≤ 16384)
+    × AllByRecursion (λ b. b < 256) bytes
 IsAct peers (Fail p call) = p < peers
 IsAct peers (Crash p pick) = (p < peers) × (pick < 2 ^ 64)
 IsAct peers (Stop p) = p < peers

@@ -1,6 +1,6 @@
 -- Worked examples of schedules: texts that are read, texts that aren't, and a rehearsal.
 use Rattle.std.specs.Prelude.{◌≡◌, ℕ, List, [], ◌∷◌, ◌++◌, take, codes, Ok, Err, length}
-use Rattle.pp_terms.specs.command.Commands.{Sequential, Rarest}
+use Rattle.pp_terms.specs.command.Order.{Sequential, Rarest}
 use Rattle.pp_terms.specs.command.Report.{line}
 use Rattle.pp_world.specs.ScheduleFault.{fault, schedule_line}
 use Rattle.pp_world.specs.ScheduleFault as wrong
@@ -46,25 +46,32 @@ pub record SchedulesThatDont : Type 0 where
   pub second_version : read_schedule (lines (codes "ppspp-schedule 2" ∷ [])) ≡ Err (fault 1 wrong.Header)
   pub no_such_peer : read_schedule (first (codes "content 1024 7000 5" ∷ codes "peer 0 seed" ∷ codes "turn 3" ∷ []))
       ≡ Err (fault 4 wrong.Peer)
-  pub misspelt_kind : read_schedule (first (codes "content 256 512 61" ∷ codes "peer 1 fetcarest 0" ∷ codes "later 1" ∷ codes "crash 0start 0" ∷
+  pub misspelt_kind : read_schedule
+      (first (codes "content 256 512 61" ∷ codes "peer 1 fetcarest 0" ∷ codes "later 1" ∷ codes "crash 0start 0" ∷
       codes "turn 0" ∷ [])) ≡ Err (fault 3 wrong.Line)
-  pub undeclared_peer_fails : read_schedule (first (codes "content 256 4657 45" ∷ codes "peer 0 seed" ∷ codes "run 6 700000" ∷ codes "fail 1 sync" ∷
+  pub undeclared_peer_fails : read_schedule
+      (first (codes "content 256 4657 45" ∷ codes "peer 0 seed" ∷ codes "run 6 700000" ∷ codes "fail 1 sync" ∷
       codes "run 9 100000" ∷ codes "crash 0 2" ∷ [])) ≡ Err (fault 5 wrong.Peer)
-  pub no_kind : read_schedule (first (codes "content 256 294 37" ∷ codes "peer 0ed" ∷ codes "peer 1 fetch rarest 0 2" ∷ codes "run 99 700000" ∷
+  pub no_kind : read_schedule (first
+      (codes "content 256 294 37" ∷ codes "peer 0ed" ∷ codes "peer 1 fetch rarest 0 2" ∷ codes "run 99 700000" ∷
       codes "turn 2" ∷ codes "crash 1 5" ∷ []))
       ≡ Err (fault 3 wrong.Line)
   pub misspelt_header : read_schedule (lines (codes "ppspxp-schedule 1" ∷ codes "content 256 4476 86" ∷ codes "peer 0 seed" ∷
       codes "peer 1 fetch seq0ential 0" ∷ codes "stop 0" ∷ codes "stop 1" ∷ codes "crash 1 0" ∷ [])) ≡ Err (fault 1 wrong.Header)
-  pub no_chunk_size : read_schedule (first (codes "content 2-6 8266 60" ∷ codes "peer 0 seed" ∷ codes "peer 1 fetch rarest 0" ∷ codes "turn 1" ∷
+  pub no_chunk_size : read_schedule
+      (first (codes "content 2-6 8266 60" ∷ codes "peer 0 seed" ∷ codes "peer 1 fetch rarest 0" ∷ codes "turn 1" ∷
       codes "start 0" ∷ codes "run 9 0" ∷ codes "repeat 0" ∷ []))
       ≡ Err (fault 2 wrong.Content)
-  pub peer_out_of_order : read_schedule (first (codes "content 256 8555 231" ∷ codes "peer 0 seed" ∷ codes "peer 2 fetch rarest 0 1" ∷ codes "ru2n 6 700000" ∷
+  pub peer_out_of_order : read_schedule
+      (first (codes "content 256 8555 231" ∷ codes "peer 0 seed" ∷ codes "peer 2 fetch rarest 0 1" ∷ codes "ru2n 6 700000" ∷
       codes "start 1" ∷ []) ++ codes "run 2 20000")
       ≡ Err (fault 4 wrong.Peer)
-  pub letter_in_a_number : read_schedule (first (codes "content 256 657 61" ∷ codes "peer 0 seed" ∷ codes "peer 1 fetch sequential 0" ∷ codes "start 0" ∷
+  pub letter_in_a_number : read_schedule
+      (first (codes "content 256 657 61" ∷ codes "peer 0 seed" ∷ codes "peer 1 fetch sequential 0" ∷ codes "start 0" ∷
       codes "run 7 2b000" ∷ codes "run 2 700000" ∷ codes "start 1" ∷ []))
       ≡ Err (fault 6 wrong.Number)
-  pub letter_behind_a_number : read_schedule (first (codes "content 256 5279 127" ∷ codes "peer 0 seed" ∷ codes "peer 1 fetch rarest 0" ∷ codes "fail 0 read" ∷
+  pub letter_behind_a_number : read_schedule
+      (first (codes "content 256 5279 127" ∷ codes "peer 0 seed" ∷ codes "peer 1 fetch rarest 0" ∷ codes "fail 0 read" ∷
       codes "later 1" ∷ codes "run 6 10000f" ∷ codes "run 5 0" ∷ codes "fail 0 read" ∷ []))
       ≡ Err (fault 7 wrong.Number)
   pub half_a_byte : read_schedule (first (codes "content 256 266 161" ∷ codes "peer 0 seed" ∷ codes "peer 1 fetch sequential 0 2" ∷
@@ -83,7 +90,8 @@ pub record SchedulesThatDont : Type 0 where
   pub no_peer : read_schedule (first (codes "content 1024 1 0" ∷ [])) ≡ Err (fault 3 wrong.Line)
   pub step_before_peers : read_schedule (first (codes "content 1024 1 0" ∷ codes "turn 0" ∷ [])) ≡ Err (fault 3 wrong.Line)
   pub peer_after_step : read_schedule (seeded (codes "turn 0" ∷ codes "peer 1 seed" ∷ [])) ≡ Err (fault 5 wrong.Line)
-  pub undeclared_before_faulty : read_schedule (first (codes "content 1024 1 0" ∷ codes "peer 0 fetch rarest 1" ∷ codes "peer 1 fetch rarest 1" ∷ []))
+  pub undeclared_before_faulty : read_schedule
+      (first (codes "content 1024 1 0" ∷ codes "peer 0 fetch rarest 1" ∷ codes "peer 1 fetch rarest 1" ∷ []))
       ≡ Err (fault 3 wrong.Peer)
   pub dials_itself : read_schedule (seeded (codes "peer 1 fetch rarest 0 1" ∷ [])) ≡ Err (fault 4 wrong.Peer)
   pub peer_sixteen : read_schedule (seeded (codes "turn 16" ∷ [])) ≡ Err (fault 4 wrong.Number)

@@ -2,7 +2,7 @@
 use Rattle.std.specs.Prelude.{◌≡◌, ◌↔◌, ℕ, ◌+◌, ◌-◌, ◌*◌, ◌^◌, ◌==◌, nat_lt, nat_le, Bool, true, false, not, ◌&&◌, if◌then◌else◌, Option, Some, None, List, [], ◌∷◌, length, codes, Result, Ok, Err}
 use Rattle.std.specs.List.{list_all, list_any}
 use Rattle.std.specs.Str.{bytes_eq}
-use Rattle.pp_terms.specs.command.Commands.{Order, Sequential, Rarest, order_text}
+use Rattle.pp_terms.specs.command.Order.{Order, Sequential, Rarest, order_text}
 use Rattle.pp_terms.specs.format.DescriptorRead.{is_digit, is_lower_hex, number_of}
 use Rattle.pp_world.specs.ScheduleFault as wrong
 use Rattle.pp_world.specs.ScheduleFault.{ScheduleKind, ScheduleFault, fault}
@@ -84,7 +84,7 @@ peers_in (w ∷ ws) = do
   ps ← peers_in ws
   Ok (p ∷ ps)
 
--- that of one of so many peers
+-- the number of one of so many peers
 abbrev pub one_of : ℕ → ℕ → Result ℕ ScheduleKind
 one_of peers p = where_true (nat_lt p peers) wrong.Peer p
 

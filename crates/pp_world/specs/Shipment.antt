@@ -7,9 +7,10 @@ use Rattle.pp_terms.specs.format.Messages.{Message, Data}
 use Rattle.pp_terms.specs.format.Traffic.{Address, Record, Received, Quiet, Sent}
 use Rattle.pp_traffic.specs.Life.{Life, greets, comes_on}
 use Rattle.pp_traffic.specs.Past.{read}
+use Rattle.pp_traffic.specs.Plain.{IsPlainUpTo}
 use Rattle.pp_traffic.specs.Serving.{window_of, AnswersOn}
 use Rattle.pp_world.specs.Agreement.{HaveClashed, ClashesWithTree}
-use Rattle.pp_world.specs.Channel.{IsOpen, AreEnds}
+use Rattle.pp_world.specs.Channel.{AreEnds}
 use Rattle.pp_world.specs.Session.{Session}
 use Rattle.pp_world.specs.World.{PeerState, World, address_of, reads_of}
 
@@ -49,8 +50,8 @@ IsGenuine d life q own w (Received at sender bytes ∷ before) =
 IsGenuine d life q own w (Quiet at ∷ before) = IsGenuine d life q own w before
 IsGenuine d life q own w (Sent moment receiver bytes ∷ before) = IsGenuine d life q own w before
 
--- The sender sent the shipment on this channel, behind messages with hashes, as the other peer had asked. Nothing
--- that had come on the channel was forged.
+-- The sender sent the shipment on this channel, behind messages with hashes, as the other peer had asked. Nothing that
+-- had come on the channel was forged.
 pub record SentChunk (d : Descriptor) (w : World) (it : Shipment) (life : Life) : Type 0 where
   pub peer : PeerState
   pub here : slice_get w.peers it.sender ≡ Some peer
@@ -71,7 +72,7 @@ pub record SentChunk (d : Descriptor) (w : World) (it : Shipment) (life : Life) 
 
 -- ---- what came
 
--- The receiver took the shipment in between two worlds, in a turn, on this channel, which was surely open for it.
+-- The receiver took the shipment in between two worlds, in a turn, on this channel, which was plain up to it.
 pub record TookIn (d : Descriptor) (old new : World) (it : Shipment) (life : Life) : Type 0 where
   pub before : PeerState
   pub after : PeerState
@@ -86,7 +87,7 @@ pub record TookIn (d : Descriptor) (old new : World) (it : Shipment) (life : Lif
   pub at : ℕ
   pub traffic : session'.traffic ≡ sent ++ Received at (address_of it.sender) it.bytes ∷ session.traffic
   pub from : life.address ≡ address_of it.sender
-  pub is_open : IsOpen d life session.traffic
+  pub is_plain : IsPlainUpTo d life session.traffic (Received at (address_of it.sender) it.bytes)
 
 -- Between two worlds each shipment that was sent before and is taken in now is stored: the receiver's disk reads the
 -- chunk's bytes, whose gate may still be closed. Else a write or a sync of that disk was refused, or the sender's

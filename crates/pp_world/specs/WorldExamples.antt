@@ -1,7 +1,7 @@
 -- A small world, and small peers that keep what they announced.
 use Rattle.std.specs.Prelude.{◌≡◌, ℕ, Bool, true, false, Some, List, [], ◌∷◌, ◌++◌, length, replicate, codes}
 use Rattle.pp_terms.specs.Example.{abc, store_of_abc}
-use Rattle.pp_terms.specs.command.Commands.{Sequential, Rarest}
+use Rattle.pp_terms.specs.command.Order.{Sequential, Rarest}
 use Rattle.pp_terms.specs.command.Report.{line}
 use Rattle.pp_terms.specs.disk.Calls.{Did, Wrote, Refused, Synced, Crashed, Calls}
 use Rattle.pp_terms.specs.disk.Image.{known}

@@ -8,6 +8,7 @@
 ghost use Rattle.pp_world.specs.BrokenWorlds.{BrokenWorlds};
 ghost use Rattle.pp_world.specs.MarkLaws.{MarkLaws};
 ghost use Rattle.pp_world.specs.OutcomeExample.{OutcomeExamples};
+ghost use Rattle.pp_world.specs.Rehearsal.{RehearsalsRead};
 ghost use Rattle.pp_world.specs.ScheduleExamples.{SchedulesThatRead, SchedulesThatDont, Rehearses};
 ghost use Rattle.pp_world.specs.ScheduleRead.{SchedulesRead};
 ghost use Rattle.pp_world.specs.WorldExamples.{SmallWorlds, ActExamples, KeptExamples};
@@ -15,6 +16,11 @@ ghost use Rattle.pp_world.specs.WorldExamples.{SmallWorlds, ActExamples, KeptExa
 /// A text is read as a schedule exactly where it is the text of that schedule, which keeps the limits.
 pub fn laws_of_schedules()
     ensures { SchedulesRead }
+{}
+
+/// Each rehearsal is a schedule, and its text is read as that.
+pub fn laws_of_rehearsals()
+    ensures { RehearsalsRead }
 {}
 
 /// What was at a mark stays, and where a disk was attached changes nothing of what stands on it.

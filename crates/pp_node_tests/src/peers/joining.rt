@@ -171,9 +171,14 @@ struct Pair {
 impl Pair {
     fn new(alloc: Global) -> Result<Pair, Fail> {
         let (swarm, disk) = store_of_zeros(alloc, 7000)?;
-        let seeder = End::new(alloc, &swarm, SEEDER, None, disk)?;
+        Pair::over(alloc, &swarm, disk)
+    }
+
+    // The seeder has this disk, with a store of the swarm.
+    fn over(alloc: Global, swarm: &Descriptor, disk: MemoryDisk) -> Result<Pair, Fail> {
+        let seeder = End::new(alloc, swarm, SEEDER, None, disk)?;
         let empty = MemoryDisk::new(alloc, &[])?;
-        let fetcher = End::new(alloc, &swarm, FETCHER, Some(SEEDER), empty)?;
+        let fetcher = End::new(alloc, swarm, FETCHER, Some(SEEDER), empty)?;
         Ok(Pair { seeder, fetcher })
     }
 
@@ -206,6 +211,22 @@ impl Pair {
         let seeder: [Address; 1] = [SEEDER];
         Ok(is_kept(&self.seeder, true, &nobody)? && is_kept(&self.fetcher, false, &seeder)?)
     }
+}
+
+// The link of a fetcher that fetched all of a store, and heard in each of a few rounds what the seeder had sent.
+pub(super) fn whole_fetch(
+    alloc: Global,
+    swarm: &Descriptor,
+    disk: MemoryDisk,
+) -> Result<MemoryLink, Fail> {
+    let mut pair = Pair::over(alloc, swarm, disk)?;
+    let has_met = pair.meets(8, 100_000, Loss::Nothing, Loss::Nothing);
+    if !has_met || !pair.has_all() {
+        return Err("the fetch didn't end".into());
+    }
+    let Pair { fetcher, .. } = pair;
+    let End { link, .. } = fetcher;
+    Ok(link)
 }
 
 // What a pair showed. Whether it kept what is promised is asked of a few rounds only: to decide it over many turns takes minutes.

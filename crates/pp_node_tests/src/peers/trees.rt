@@ -5,7 +5,7 @@ use pp_outside::LyingDisk;
 use pp_store::{ImportFault, import};
 
 // The root of 7,000 bytes in chunks of 1,024.
-const SEVEN: [u8; 32] = [
+pub(super) const SEVEN: [u8; 32] = [
     0xb4, 0x2e, 0xff, 0xe6, 0xef, 0xb1, 0xb6, 0x0e, 0x31, 0x99, 0xb1, 0x81, 0x82, 0xc6, 0x3d, 0x95,
     0x77, 0xf6, 0xcd, 0xfe, 0xaa, 0xa0, 0xac, 0xb3, 0x39, 0x9a, 0xc8, 0xd8, 0x7b, 0x4d, 0x8f, 0x73,
 ];
@@ -38,17 +38,17 @@ const NODE_0_1: [u8; 32] = [
 ];
 
 // The options before the root, and those behind it.
-const BEFORE: [u8; 7] = [0, 1, 1, 1, 2, 0, 0x20];
+pub(super) const BEFORE: [u8; 7] = [0, 1, 1, 1, 2, 0, 0x20];
 
-const BEHIND: [u8; 16] = [3, 1, 4, 2, 6, 2, 8, 2, 0xfe, 0xf8, 9, 0, 0, 4, 0, 0xff];
+pub(super) const BEHIND: [u8; 16] = [3, 1, 4, 2, 6, 2, 8, 2, 0xfe, 0xf8, 9, 0, 0, 4, 0, 0xff];
 
 // A message of this type that names the chunks from one to another, but for what follows the name.
-fn named(kind: u8, first: u8, last: u8) -> [u8; 9] {
+pub(super) fn named(kind: u8, first: u8, last: u8) -> [u8; 9] {
     [kind, 0, 0, 0, first, 0, 0, 0, last]
 }
 
 // Makes the content a store on the disk.
-fn store_on(disk: &mut MemoryDisk) -> Result<Descriptor, ImportFault> {
+pub(super) fn store_on(disk: &mut MemoryDisk) -> Result<Descriptor, ImportFault> {
     let content = generated();
     import(1024, &mut MemorySource::new(&content), disk)
 }

@@ -1,5 +1,5 @@
-// Disks: in memory, one that lies, and one that keeps nothing.
-use pp_outside::{Call, Disk, LyingDisk, MemoryDisk, NullDisk};
+// Disks: in memory, one that lies, one that fails from some call on, and one that keeps nothing.
+use pp_outside::{Call, Disk, DiskFault, FuseDisk, LyingDisk, MemoryDisk, NullDisk};
 use std::alloc::Global;
 use std::test::Fail;
 
@@ -84,6 +84,74 @@ fn each_ordered_call_fails_once(rt: HostRuntime) -> Result<(), Fail> {
             assert_eq!(rt; succeeds(&mut disk, call), call != ordered, "{call:?}");
         }
         assert!(rt; succeeds(&mut disk, ordered));
+    }
+    Ok(())
+}
+
+#[test]
+fn the_third_write_fails(rt: HostRuntime) -> Result<(), Fail> {
+    let mut disk = MemoryDisk::new(rt.alloc(), &[1])?;
+    disk.fail_after(Call::Write, 2);
+    disk.fail_after(Call::Send, 0);
+    for passes in [true, true, false, true, true] {
+        for call in [Call::Attach, Call::Len, Call::Read, Call::Sync] {
+            assert!(rt; succeeds(&mut disk, call), "{call:?}");
+        }
+        assert_eq!(rt; succeeds(&mut disk, Call::Write), passes);
+    }
+    // A later order is in place of one that waits, and those of two kinds wait apart.
+    disk.fail_after(Call::Len, 5);
+    disk.fail_after(Call::Len, 1);
+    disk.fail_next(Call::Read);
+    assert!(rt; !succeeds(&mut disk, Call::Read));
+    for passes in [true, false, true, true, true, true] {
+        assert_eq!(rt; disk.len().is_ok(), passes);
+    }
+    assert!(rt; !disk.short());
+    Ok(())
+}
+
+#[test]
+fn burns_after_two_calls(rt: HostRuntime) -> Result<(), Fail> {
+    let inner = MemoryDisk::new(rt.alloc(), &[10, 11, 12])?;
+    let mut disk = FuseDisk::new(inner, 2);
+    assert_eq!(rt; disk.calls_left(), 2);
+    assert_eq!(rt; disk.write_at(1, &[7]), Ok(()));
+    assert_eq!(rt; disk.sync(), Ok(()));
+    assert_eq!(rt; disk.moment(), 1);
+    assert_eq!(rt; disk.calls_left(), 0);
+    assert_eq!(rt; disk.write_at(0, &[8, 8]), Err(DiskFault));
+    let mut into = [0xee; 2];
+    assert_eq!(rt; disk.read_at(0, &mut into), Err(DiskFault));
+    assert_eq!(rt; into, [0xee; 2]);
+    assert_eq!(rt; disk.sync(), Err(DiskFault));
+    assert_eq!(rt; disk.len(), Err(DiskFault));
+    assert_eq!(rt; disk.attach("any"), Err(DiskFault));
+    assert_eq!(rt; disk.moment(), 1);
+    let mut inner = disk.into_inner();
+    assert_eq!(rt; inner.bytes(), [10, 7, 12].as_slice());
+    assert_eq!(rt; inner.calls(), 2);
+    assert_eq!(rt; inner.moment(), 1);
+    // No write is pending that a crash might do.
+    inner.crash(1);
+    assert_eq!(rt; inner.bytes(), [10, 7, 12].as_slice());
+    assert!(rt; succeeds(&mut inner, Call::Len));
+    Ok(())
+}
+
+#[test]
+fn burns_through_a_refusal(rt: HostRuntime) -> Result<(), Fail> {
+    let mut inner = MemoryDisk::new(rt.alloc(), &[1])?;
+    inner.fail_after(Call::Len, 1);
+    let mut disk = FuseDisk::new(inner, 3);
+    for (result, left) in [
+        (Ok(1), 2),
+        (Err(DiskFault), 1),
+        (Ok(1), 0),
+        (Err(DiskFault), 0),
+    ] {
+        assert_eq!(rt; disk.len(), result);
+        assert_eq!(rt; disk.calls_left(), left);
     }
     Ok(())
 }

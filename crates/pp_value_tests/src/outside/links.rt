@@ -111,3 +111,29 @@ fn keeps_what_came_and_went(rt: HostRuntime) -> Result<(), Fail> {
     }
     Ok(())
 }
+
+#[test]
+fn the_second_sending_fails(rt: HostRuntime) -> Result<(), Fail> {
+    let alloc = rt.alloc();
+    let mut link = with_three_events(alloc)?;
+    let disk = MemoryDisk::new(alloc, &[])?;
+    let mut buffer = vec![in alloc; 0; 65536]?;
+    link.fail_after(Call::Send, 1);
+    link.fail_after(Call::Write, 0);
+    for (n, passes) in [(1, true), (2, false), (3, true), (4, true)] {
+        assert_eq!(rt;
+            link.send(&disk, &PEER, &[n]).is_ok(),
+            passes,
+            "sending {n}"
+        );
+        assert!(rt; link.bind(&PEER).is_ok());
+        assert!(rt; link.next(0, &mut buffer).is_ok());
+    }
+    assert_eq!(rt; link.sent(), 3);
+    // The third wait from here is refused.
+    link.fail_after(Call::Next, 2);
+    for passes in [true, true, false, true] {
+        assert_eq!(rt; link.next(0, &mut buffer).is_ok(), passes);
+    }
+    Ok(())
+}

@@ -1,7 +1,8 @@
 // The texts of schedules.
 use ScheduleKind::{Content, Header, Hex, Line, Number, Peer};
-use pp_avail::Rank;
-use pp_replay::{Act, Device, Role, ScheduleFault, ScheduleKind, Step, Steps, read_schedule};
+use pp_replay::{
+    Act, Device, Order, Role, ScheduleFault, ScheduleKind, Step, Steps, read_schedule,
+};
 use std::alloc::{AllocError, Global};
 use std::test::Fail;
 
@@ -180,11 +181,11 @@ fn are_roles_of_three(roles: &[Role]) -> bool {
         [
             Role::Seeds,
             Role::Fetches {
-                order: Rank::Sequential,
+                order: Order::Sequential,
                 dialled: first,
             },
             Role::Fetches {
-                order: Rank::Rarest,
+                order: Order::Rarest,
                 dialled: second,
             },
         ] => first.as_slice() == [0].as_slice() && second.as_slice() == [0, 1].as_slice(),

@@ -1,5 +1,5 @@
 use Rattle.std.proofs.Common.{ap, refl, subst}
-use Rattle.pp_terms.specs.command.CommandLine.{Spells}
+use Rattle.pp_words.specs.CommandLine.{Spells}
 use Rattle.pp_words.specs.Views.{command_of}
 use Rattle.pp_node.proofs.Commands.{rehearse_ended, replay_ended, upgrade_ended}
 use Rattle.pp_node.proofs.top.obey.Goals as goal

@@ -1,8 +1,9 @@
 use Rattle.std.proofs.Common.{rules, refl}
-use Rattle.pp_terms.specs.command.Commands.{Check, Export, Fetch, Seed, Upgrade, Replay, Rehearse}
+use Rattle.pp_words.specs.Commands.{Check, Export, Fetch, Seed, Upgrade, Replay, Rehearse}
 use Rattle.pp_words.specs.Views.{texts, command_of, usage_of}
 use Rattle.pp_node.specs.Outside.{outside}
 use Rattle.pp_node.proofs.Commands.{none_spelled, import_ends, seed_ends, fetch_ends, check_ends, export_ends, upgrade_ends, replay_ends, rehearse_ends}
+use Rattle.pp_node.proofs.Untroubled.{answers_well}
 use Rattle.pp_node.proofs.top.run.Goals as goal
 
 pub returns-in-Ok-clause-import : goal.returns-in-Ok-clause-import
@@ -61,6 +62,13 @@ returns-in-Ok-clause-rehearse g c =
     (outside (g.D.Disk.state c.obey.new.disk) (g.L.Link.seen c.obey.new.link) (g.S.Source.state c.obey.new.source) (g.K.Sink.state c.obey.new.sink) c.obey.new.book)
     c.in-Ok.ensures.ok.0 c.number.ensures c.obey.ensures.ended
 
+pub returns-in-Ok-clause-untroubled : goal.returns-in-Ok-clause-untroubled
+returns-in-Ok-clause-untroubled g c =
+    answers_well (texts c.args.words.now) (command_of c.in-Ok.command) c.obey.result c.number.result
+    (outside (g.D.Disk.state c.args.disk.now) (g.L.Link.seen c.args.link.now) (g.S.Source.state c.args.source.now) (g.K.Sink.state c.args.sink.now) c.args.book.now)
+    (outside (g.D.Disk.state c.obey.new.disk) (g.L.Link.seen c.obey.new.link) (g.S.Source.state c.obey.new.source) (g.K.Sink.state c.obey.new.sink) c.obey.new.book)
+    c.in-Ok.ensures.ok.0 c.number.ensures c.obey.ensures.ended
+
 -- words that are wrong spell no command that is built
 pub returns-in-Err-clause-usage : goal.returns-in-Err-clause-usage
 returns-in-Err-clause-usage g c = (
@@ -95,3 +103,7 @@ returns-in-Err-clause-replay g c = λ spelled.
 pub returns-in-Err-clause-rehearse : goal.returns-in-Err-clause-rehearse
 returns-in-Err-clause-rehearse g c = λ number spelled.
     absurd (none_spelled (texts c.args.words.now) (usage_of c.in-Err.usage) c.in-Err.ensures.err (Rehearse number) refl spelled)
+
+pub returns-in-Err-clause-untroubled : goal.returns-in-Err-clause-untroubled
+returns-in-Err-clause-untroubled g c = λ command spelled untroubled one.
+    absurd (none_spelled (texts c.args.words.now) (usage_of c.in-Err.usage) c.in-Err.ensures.err command one spelled)

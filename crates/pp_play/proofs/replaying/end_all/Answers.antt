@@ -13,7 +13,7 @@ pub loop-actor-preserved : goal.loop-actor-preserved
 loop-actor-preserved c =
     subst (EndAs c.args.descriptor.now (c.loop-actor.yielded ++ c.in-Some.actor ∷ [])) (sym c.in_ok-push.ensures.items)
     (ends_more c.args.descriptor.now c.loop-actor.yielded c.loop-actor.ends.items c.in-Some.actor c.in_ok-into_remains.field-0 c.in_ok-end_of.field-0
-    c.loop-actor.invariant c.in_ok-into_remains.ensures.remains c.in_ok-into_remains.ensures.survives c.in_ok-end_of.ensures)
+    c.loop-actor.invariant c.in_ok-into_remains.ensures.remains c.in_ok-into_remains.ensures.survives c.in_ok-into_remains.ensures.runs c.in_ok-end_of.ensures)
 
 pub returns : goal.returns
 returns c =

@@ -12,4 +12,4 @@ play-requires-clause-peers c = counted c.args.schedule.now c.in_ok-stage.stage c
 pub returns : goal.returns
 returns c = played c.args.schedule.now c.in_ok-stage.stage (the_view c.stage.inside) c.in_ok-end_all.field-0 c.chunks.result c.in_ok-stage.ensures
     (subst (PlaysAs (moves_of c.args.schedule.now) c.in_ok-stage.stage) (sym c.stage.view_is) c.in_ok-play.ensures)
-    (few_moves c.args.schedule.now c.requires) c.in_ok-end_all.ensures c.chunks.ensures.chunks
+    (few_moves c.args.schedule.now c.requires) c.in_ok-end_all.ensures c.chunks.ensures.chunks c.chunks.ensures.valid

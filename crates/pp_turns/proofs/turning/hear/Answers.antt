@@ -25,8 +25,8 @@ returns-in-Ok-clause-waits g c link link' does =
       advanced = c.absorb.ensures.advanced;
       ledger = c.absorb.ensures.ledger;
       keeps = c.absorb.ensures.keeps;
-    }) c.absorb.ensures.exact c.absorb.ensures.stands c.absorb.ensures.proves c.absorb.ensures.wrote c.absorb.ensures.unchoked
-    c.absorb.ensures.told c.absorb.ensures.acks c.absorb.ensures.offers c.absorb.ensures.live c.absorb.ensures.cause
+    }) c.absorb.ensures.exact c.absorb.ensures.stands c.absorb.ensures.proves c.absorb.ensures.ships c.absorb.ensures.wrote
+    c.absorb.ensures.unchoked c.absorb.ensures.told c.absorb.ensures.acks c.absorb.ensures.offers c.absorb.ensures.live c.absorb.ensures.cause
 
 pub returns-in-Err-clause-waits : goal.returns-in-Err-clause-waits
 returns-in-Err-clause-waits g c link link' does =

@@ -1,7 +1,7 @@
 use Rattle.std.proofs.Common.{◌^◌, [], ◌∷◌, decimal, refl}
 use Rattle.std.proofs.lemmas.Result.{err_from_is_err_and}
-use Rattle.pp_terms.specs.command.Commands.{order_text}
-use Rattle.pp_terms.specs.command.CommandLine.{AStore, ANumber, ADescriptor, AnAddress, AnOrder}
+use Rattle.pp_terms.specs.command.Order.{order_text}
+use Rattle.pp_words.specs.CommandLine.{AStore, ANumber, ADescriptor, AnAddress, AnOrder}
 use Rattle.pp_outside.specs.Outside.{address_of}
 use Rattle.pp_words.specs.Views.{texts, order_of, usage_of}
 use Rattle.pp_words.proofs.WordSteps.{step}

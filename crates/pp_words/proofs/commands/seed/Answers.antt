@@ -1,6 +1,6 @@
 use Rattle.std.proofs.Common.{◌^◌, [], ◌∷◌}
 use Rattle.std.proofs.lemmas.Result.{err_from_is_err_and}
-use Rattle.pp_terms.specs.command.CommandLine.{AStore, ANumber, ADescriptor, AnAddress}
+use Rattle.pp_words.specs.CommandLine.{AStore, ANumber, ADescriptor, AnAddress}
 use Rattle.pp_outside.specs.Outside.{address_of}
 use Rattle.pp_words.specs.Views.{texts, usage_of}
 use Rattle.pp_words.proofs.WordSteps.{step}

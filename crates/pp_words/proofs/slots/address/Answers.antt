@@ -1,5 +1,5 @@
 use Rattle.std.proofs.Common.{rules}
-use Rattle.pp_terms.specs.command.CommandLine.{AnAddress}
+use Rattle.pp_words.specs.CommandLine.{AnAddress}
 use Rattle.pp_words.specs.Views.{texts, usage_of}
 use Rattle.pp_words.proofs.WordSteps.{stop, no_address}
 use Rattle.pp_words.proofs.slots.address.Goals as goal

@@ -9,5 +9,5 @@ returns-clause-small c = omega (arith, c.self.invariant.small, value_size c.self
 pub returns-clause-marks : goal.returns-clause-marks
 returns-clause-marks c =
     subst (λ xs. AreMarksOf c.args.self.now xs) (sym c.deref.ensures.value)
-    (marks_of c.self.inside.count c.self.inside.words.items c.self.inside.marks.items c.args.self.now c.self.view_is
-    c.self.invariant.inside c.self.invariant.size c.self.invariant.marks_size c.self.invariant.marked)
+    (marks_of c.self.inside.count c.self.inside.words.items c.self.inside.any.items c.args.self.now c.self.view_is
+    c.self.invariant.inside c.self.invariant.size c.self.invariant.any_size c.self.invariant.any_marks)

@@ -10,7 +10,7 @@ use Rattle.pp_core.proofs.Firsts.{absorb_acks}
 use Rattle.pp_core.proofs.LatelySent.{awaits_number}
 use Rattle.pp_core.proofs.Offered.{absorbs_offers}
 use Rattle.pp_core.proofs.Remembered.{absorb_keeps}
-use Rattle.pp_core.proofs.Steadily.{promised}
+use Rattle.pp_core.proofs.Steadily.{promised, shipped}
 use Rattle.pp_core.proofs.Storing.{stores_what_fits}
 use Rattle.pp_core.proofs.Unchoked.{absorbs_unchoked}
 use Rattle.pp_core.proofs.Wrote.{absorbs_wrote}
@@ -59,6 +59,19 @@ returns-clause-proves g c = rw (← c.self.view_is) (on_ok_weaker c.absorb.resul
     (subst (λ (d : Descriptor). AllHold (chunks_of d) c.self.inside.parts.seats.seats) stands.seats.swarm c.far.ensures.content)
     c.requires stands c.absorb.ensures.advanced.advances.entries
     (stores_what_fits c.args.event.now c.args.bytes.now c.self.inside.parts c.absorb.new.self absorbs))
+    c.absorb.ensures.exact)
+
+pub returns-clause-ships : goal.returns-clause-ships
+returns-clause-ships g c = rw (← c.self.view_is) (on_ok_weaker c.absorb.result
+    (λ absorbs b most past stands live had commits.
+    let swarm : c.descriptor.result ≡ b.d =
+    c.descriptor.ensures ∙ ap (λ (p : PeerState). p.parts.holding.store.descriptor) (sym c.self.view_is) ∙ stands.ledger.swarm in
+    shipped b most past c.args.event.now c.args.bytes.now c.self.inside.parts c.absorb.new.self
+    (subst IsDescriptor swarm c.chunk.ensures.valid)
+    (subst (λ (d : Descriptor). AllHold (chunks_of d) c.self.inside.parts.seats.seats) stands.seats.swarm c.far.ensures.content)
+    c.requires stands c.absorb.ensures.advanced.advances.entries
+    (stores_what_fits c.args.event.now c.args.bytes.now c.self.inside.parts c.absorb.new.self absorbs)
+    live c.store.ensures.tied had commits)
     c.absorb.ensures.exact)
 
 pub returns-clause-ledger : goal.returns-clause-ledger

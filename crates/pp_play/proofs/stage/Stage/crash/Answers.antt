@@ -8,7 +8,7 @@ use Rattle.pp_world.specs.Schedule as acts
 use Rattle.pp_actor.specs.Actor.{ActorState}
 use Rattle.pp_play.specs.Stage.{StageState, MovesAs}
 use Rattle.pp_play.specs.contracts.stage.Stage.{the_view}
-use Rattle.pp_play.proofs.Stages.{actor_changes, ok_then}
+use Rattle.pp_play.proofs.Stages.{actor_changes, ok_both}
 use Rattle.pp_play.proofs.stage.Stage.crash.Goals as goal
 
 pub returns : goal.returns
@@ -20,7 +20,7 @@ returns c =
     subst (λ (i : ℕ). slice_get seen.actors i ≡ Some c.index_mut.result.now) c.from.ensures
     (slice_get_read seen.actors (length seen.actors) c.from.result c.index_mut.result.now refl within c.index_mut.ensures.value) in
     let after : ActorState = c.crash.new.self in
-    ok_then c.crash.result (λ makes. subst (λ (s : StageState). MovesAs (Make (acts.Crash c.args.peer c.args.pick)) s (record seen { actors = slice_set seen.actors c.from.result after })) c.self.view_is
+    ok_both c.crash.result (λ makes part. subst (λ (s : StageState). MovesAs (Make (acts.Crash c.args.peer c.args.pick)) s (record seen { actors = slice_set seen.actors c.from.result after })) c.self.view_is
     (subst (λ (i : ℕ). MovesAs (Make (acts.Crash c.args.peer c.args.pick)) seen (record seen { actors = slice_set seen.actors i after })) (sym c.from.ensures)
     (actor_changes c.args.peer (Make (acts.Crash c.args.peer c.args.pick)) (with_crash c.args.pick) c.index_mut.result.now after seen (λ d w. refl)
-    (λ x. refl) here (length-set seen.actors c.args.peer after) makes))) c.crash.ensures
+    (λ x. refl) here (length-set seen.actors c.args.peer after) part makes))) c.crash.ensures.shows c.crash.ensures.part

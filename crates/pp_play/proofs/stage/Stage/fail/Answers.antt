@@ -24,4 +24,4 @@ returns c =
     subst (λ (s : StageState). MovesAs (Make (acts.Fail c.args.peer (as_device c.args.call))) s (record seen { actors = slice_set seen.actors c.from.result after })) c.self.view_is
     (subst (λ (i : ℕ). MovesAs (Make (acts.Fail c.args.peer (as_device c.args.call))) seen (record seen { actors = slice_set seen.actors i after })) (sym c.from.ensures)
     (actor_changes c.args.peer (Make (acts.Fail c.args.peer (as_device c.args.call))) (while_running (with_failing (as_device c.args.call))) c.index_mut.result.now after seen (λ d w. refl)
-    (λ x. queue_while_running (with_failing (as_device c.args.call)) x (failing_queue (as_device c.args.call) x)) here (length-set seen.actors c.args.peer after) c.fail.ensures))
+    (λ x. queue_while_running (with_failing (as_device c.args.call)) x (failing_queue (as_device c.args.call) x)) here (length-set seen.actors c.args.peer after) c.fail.ensures.part c.fail.ensures.shows))

@@ -7,6 +7,6 @@ use Rattle.pp_play.proofs.stage.Stage.start_each.Goals as goal
 
 pub loop-peer-preserved : goal.loop-peer-preserved
 loop-peer-preserved c =
-    subst (λ (ms : List Move). PlaysAs ms c.args.self.now c.start_by.new.self) (sym (for_each_one_more Start c.loop-peer.peer))
-    (plays_then (for_each Start 0 c.loop-peer.peer) (Make (Start c.loop-peer.peer)) c.args.self.now c.loop-peer.self c.start_by.new.self c.loop-peer.invariant
-    c.in_ok-start_by.ensures.moves)
+    subst (λ (ms : List Move). PlaysAs ms c.args.self.now c.start.new.self) (sym (for_each_one_more Start c.loop-peer.peer))
+    (plays_then (for_each Start 0 c.loop-peer.peer) (Make (Start c.loop-peer.peer)) c.args.self.now c.loop-peer.self c.start.new.self c.loop-peer.invariant
+    c.in_ok-start.ensures.moves)

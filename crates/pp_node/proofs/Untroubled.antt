@@ -1,0 +1,220 @@
+-- Where no device refused a call, a command that has what it is for is done, but for want of memory and chunks that are missing.
+use Rattle.std.proofs.Common.{◌≡◌, ◌⊎◌, inl, inr, ℕ, zero, suc, ◌+◌, ◌*◌, ◌^◌, ◌<◌, ◌≤◌, List, [], ◌∷◌, length, Result, Ok, Err, refl, sym, ◌∙◌, ap, subst, arith}
+use Rattle.std.specs.Prelude.{min, Some}
+use Rattle.rand_core.specs.Steps as steps
+use Rattle.rand_chacha.specs.ChaCha.{of_seed, next_word}
+use Rattle.pp_words.specs.CommandLine.{Spells, IsOneOf}
+use Rattle.pp_words.specs.Commands.{Command, Import, Seed, Fetch, Check, Export, Upgrade, Replay, Rehearse, Play, Audit}
+use Rattle.pp_words.specs.Commands as commands
+use Rattle.pp_terms.specs.disk.Disk.{DiskState, IsKnown}
+use Rattle.pp_terms.specs.disk.Sound.{BeganSound}
+use Rattle.pp_terms.specs.format.Descriptor.{Descriptor}
+use Rattle.pp_terms.specs.format.Traffic.{Record}
+use Rattle.pp_terms.specs.tree.Content.{IsContentSize}
+use Rattle.pp_scan.specs.Header.{IsDifference}
+use Rattle.pp_store.specs.Old.{HasOldHeader, old_header}
+use Rattle.pp_store.specs.Upgrade.{IsOtherHeader}
+use Rattle.pp_world.specs.Rehearsal.{first_words, rehearsal_key, rehearsal_of, rehearsal_text}
+use Rattle.pp_world.specs.Schedule.{Schedule}
+use Rattle.pp_world.specs.ScheduleFault.{ScheduleFault}
+use Rattle.pp_world.specs.ScheduleRead.{read_schedule}
+use Rattle.pp_world.proofs.Rehearsals.{rehearsals_read}
+use Rattle.pp_node.proofs.Commands.{ended_as}
+use Rattle.pp_node.specs.Built.{built}
+use Rattle.pp_node.specs.Checking.{ChecksIn, CheckEnds}
+use Rattle.pp_node.specs.Commanding.{HasEnded}
+use Rattle.pp_node.specs.Exporting.{ExportsIn, ExportEnds}
+use Rattle.pp_node.specs.Looking.{IsOf, IsOther}
+use Rattle.pp_node.specs.Outside.{Outside}
+use Rattle.pp_node.specs.Promising.{PeerWords, SeedsIn, FetchesIn, SeedEnds, FetchEnds}
+use Rattle.pp_node.specs.Replaying.{PlaysText, ReplaysIn, ReplayEnds, RehearseEnds}
+use Rattle.pp_node.specs.Run.{ImportsIn, ImportEnds}
+use Rattle.pp_node.specs.Status.{number_of}
+use Rattle.pp_node.specs.Untroubled.{IsUntroubled, FindsOwn, FindsEmpty, IsDoneOrShort, IsDoneOrMissing, AnswersWell}
+use Rattle.pp_node.specs.Upgrading.{UpgradesIn, UpgradeEnds}
+use Rattle.pp_node.specs.declared.status.Status.{Status}
+use Rattle.pp_node.specs.declared.status.Status.TheVariants.{Done, Usage, NotAStore, Incomplete, DiskFault, LinkFault, SourceFault, SinkFault, NotEmpty, ContentSize, Schedule as NoSchedule, Memory, Damaged}
+
+-- no first byte differs of a file that is empty or the descriptor's
+none_differs : (d : Descriptor) (at found want : ℕ) (disk disk' : DiskState) → IsKnown disk → IsOf d disk'.history.found
+    → IsOther d at found want disk disk' → ⊥
+none_differs d at found want disk disk' known (inl empty) other =
+    let some = other.some known in omega (arith, some, ap length empty)
+none_differs d at found want disk disk' known (inr begins) other =
+    let first = other.first known in
+    first.differ (first.found_is ∙ begins at other.within ∙ sym first.want_is)
+
+-- as many words are drawn as are asked for
+words_count : {S : Type 0} (step : S → ℕ × S) (count : ℕ) (state : S) → length (steps.first_words step count state) ≡ count
+unfolding steps.first_words
+words_count step zero state = refl
+words_count step (suc k) state = ap suc (words_count step k (step state).1)
+
+-- the words of a rehearsal
+abbrev drawn : ℕ → List ℕ
+drawn number = first_words 2002 (rehearsal_key number)
+
+drawn_few : (number : ℕ) → length (drawn number) ≤ 2002
+drawn_few number = omega (arith, words_count (next_word 4) 2002 (of_seed (rehearsal_key number)))
+
+module _ (old new : Outside) (u : IsUntroubled old new) where
+  checked : (d : Descriptor) (s : Status) → FindsOwn d old new → ChecksIn s d old new → IsDoneOrShort (number_of s)
+  checked d Done own ends = inl refl
+  checked d NotAStore own ends = absurd (none_differs d ends.at ends.found ends.want old.disk new.disk own.known own.begins ends.other)
+  checked d DiskFault own ends = absurd (u.disk ends.refused.risen)
+  checked d SinkFault own ends = absurd (u.sink ends.risen)
+  checked d Memory own ends = inr refl
+  checked d Usage own ends = absurd ends
+  checked d Incomplete own ends = absurd ends
+  checked d LinkFault own ends = absurd ends
+  checked d SourceFault own ends = absurd ends
+  checked d NotEmpty own ends = absurd ends
+  checked d ContentSize own ends = absurd ends
+  checked d NoSchedule own ends = absurd ends
+  checked d Damaged own ends = absurd ends
+
+  seeded : (w : PeerWords) (added : List Record) (s : Status) → FindsOwn w.descriptor old new → SeedsIn s w old new added → IsDoneOrShort (number_of s)
+  seeded w added Done own ends = inl refl
+  seeded w added NotAStore own ends =
+      absurd (none_differs w.descriptor ends.0.at ends.0.found ends.0.want old.disk new.disk own.known own.begins ends.0.other)
+  seeded w added DiskFault own (inl ends) = absurd (u.disk ends.0.refused.risen)
+  seeded w added DiskFault own (inr ends) = absurd (u.hard ends.hard)
+  seeded w added LinkFault own ends = absurd (u.link ends.0.risen)
+  seeded w added SinkFault own ends = absurd (u.sink ends.1)
+  seeded w added Memory own ends = inr refl
+  seeded w added Usage own ends = absurd ends
+  seeded w added Incomplete own ends = absurd ends
+  seeded w added SourceFault own ends = absurd ends
+  seeded w added NotEmpty own ends = absurd ends
+  seeded w added ContentSize own ends = absurd ends
+  seeded w added NoSchedule own ends = absurd ends
+  seeded w added Damaged own ends = absurd ends
+
+  fetched : (w : PeerWords) (added : List Record) (s : Status) → FindsOwn w.descriptor old new → FetchesIn s w old new added → IsDoneOrMissing (number_of s)
+  fetched w added Done own ends = inl (inl refl)
+  fetched w added Incomplete own ends = inr refl
+  fetched w added NotAStore own ends =
+      absurd (none_differs w.descriptor ends.0.at ends.0.found ends.0.want old.disk new.disk own.known own.begins ends.0.other)
+  fetched w added DiskFault own (inl ends) = absurd (u.disk ends.0.refused.risen)
+  fetched w added DiskFault own (inr ends) = absurd (u.hard ends.hard)
+  fetched w added LinkFault own ends = absurd (u.link ends.0.risen)
+  fetched w added SinkFault own ends = absurd (u.sink ends.1)
+  fetched w added Memory own ends = inl (inr refl)
+  fetched w added Usage own ends = absurd ends
+  fetched w added SourceFault own ends = absurd ends
+  fetched w added NotEmpty own ends = absurd ends
+  fetched w added ContentSize own ends = absurd ends
+  fetched w added NoSchedule own ends = absurd ends
+  fetched w added Damaged own ends = absurd ends
+
+  exported : (d : Descriptor) (s : Status) → FindsOwn d old new → ExportsIn s d old new
+      → IsDoneOrMissing (number_of s) ⊎ ((number_of s ≡ number_of Damaged) × (BeganSound d new.disk.history → ⊥))
+  exported d Done own ends = inl (inl (inl refl))
+  exported d Incomplete own ends = inl (inr refl)
+  exported d NotAStore own ends = absurd (none_differs d ends.at ends.found ends.want old.disk new.disk own.known own.begins ends.other)
+  exported d DiskFault own ends = absurd (u.disk ends.refused.risen)
+  exported d SinkFault own ends = absurd (u.sink ends.risen)
+  exported d Memory own ends = inl (inl (inr refl))
+  exported d Damaged own ends = inr (refl, ends.damaged.never own.known)
+  exported d Usage own ends = absurd ends
+  exported d LinkFault own ends = absurd ends
+  exported d SourceFault own ends = absurd ends
+  exported d NotEmpty own ends = absurd ends
+  exported d ContentSize own ends = absurd ends
+  exported d NoSchedule own ends = absurd ends
+
+  imported : (chunk : ℕ) (s : Status) → FindsEmpty old new → (content : List ℕ) → old.source.left ≡ Some content → IsContentSize chunk (length content)
+      → ImportsIn s chunk old new → number_of s ≡ 0
+  imported chunk Done own content left fits ends = refl
+  imported chunk DiskFault own content left fits ends = absurd (u.disk ends.risen)
+  imported chunk SourceFault own content left fits ends = absurd (u.source ends.risen)
+  imported chunk SinkFault own content left fits ends = absurd (u.sink ends.risen)
+  imported chunk NotEmpty own content left fits ends =
+      absurd (let some = ends.some in let len = ends.counted own.known in omega (arith, some, len, ap length own.empty))
+  imported chunk ContentSize own content left fits ends = absurd (no_size ends.either (ends.counted content left))
+    where
+      no_size : (ends.count ≡ 0) ⊎ (ends.count ≡ 2 ^ 20 * chunk + 1) → ends.count ≡ min (length content) (2 ^ 20 * chunk + 1) → ⊥
+      no_size (inl none) is = let some = fits.some in omega (arith, some, none, is)
+      no_size (inr more) is = let within = fits.within in omega (arith, within, more, is)
+  imported chunk Usage own content left fits ends = absurd ends
+  imported chunk NotAStore own content left fits ends = absurd ends
+  imported chunk Incomplete own content left fits ends = absurd ends
+  imported chunk LinkFault own content left fits ends = absurd ends
+  imported chunk NoSchedule own content left fits ends = absurd ends
+  imported chunk Memory own content left fits ends = absurd ends
+  imported chunk Damaged own content left fits ends = absurd ends
+
+  upgraded : (d : Descriptor) (s : Status) → FindsEmpty old new → (bytes : List ℕ) → old.source.left ≡ Some bytes → HasOldHeader d bytes
+      → UpgradesIn s d old new → IsDoneOrShort (number_of s)
+  upgraded d Done own bytes left has ends = inl refl
+  upgraded d NotAStore own bytes left has ends = absurd (
+      let first = ends.other.first bytes left in first.differ (first.found_is ∙ has ends.at first.within ∙ sym first.want_is))
+  upgraded d DiskFault own bytes left has ends = absurd (u.disk ends.risen)
+  upgraded d SourceFault own bytes left has ends = absurd (u.source ends.risen)
+  upgraded d SinkFault own bytes left has ends = absurd (u.sink ends.risen)
+  upgraded d NotEmpty own bytes left has ends =
+      absurd (let some = ends.some in let len = ends.counted own.known in omega (arith, some, len, ap length own.empty))
+  upgraded d Memory own bytes left has ends = inr refl
+  upgraded d Usage own bytes left has ends = absurd ends
+  upgraded d Incomplete own bytes left has ends = absurd ends
+  upgraded d LinkFault own bytes left has ends = absurd ends
+  upgraded d ContentSize own bytes left has ends = absurd ends
+  upgraded d NoSchedule own bytes left has ends = absurd ends
+  upgraded d Damaged own bytes left has ends = absurd ends
+
+  -- a text that is a schedule was played
+  played : (text : List ℕ) (schedule : Schedule) (s : Status) → read_schedule text ≡ Ok schedule → PlaysText text s old.sink new.sink → IsDoneOrShort (number_of s)
+  played text schedule Done read ends = inl refl
+  played text schedule NoSchedule read ends = absurd (let never : Ok schedule ≡ Err ends.fault = sym read ∙ ends.read in cc)
+  played text schedule SinkFault read ends = absurd (u.sink ends.risen)
+  played text schedule Memory read ends = inr refl
+  played text schedule Usage read ends = absurd ends
+  played text schedule NotAStore read ends = absurd ends
+  played text schedule Incomplete read ends = absurd ends
+  played text schedule DiskFault read ends = absurd ends
+  played text schedule LinkFault read ends = absurd ends
+  played text schedule SourceFault read ends = absurd ends
+  played text schedule NotEmpty read ends = absurd ends
+  played text schedule ContentSize read ends = absurd ends
+  played text schedule Damaged read ends = absurd ends
+
+  replayed : (content : List ℕ) (schedule : Schedule) (s : Status) → old.source.left ≡ Some content → read_schedule content ≡ Ok schedule
+      → ReplaysIn s old.source new.source old.sink new.sink → IsDoneOrShort (number_of s)
+  replayed content schedule SourceFault left read ends = absurd (u.source ends.0)
+  replayed content schedule Memory left read ends = inr refl
+  replayed content schedule Done left read ends = played ends.text schedule Done (sym (ends.same content left) ∙ read) ends.plays
+  replayed content schedule NoSchedule left read ends = played ends.text schedule NoSchedule (sym (ends.same content left) ∙ read) ends.plays
+  replayed content schedule SinkFault left read ends = played ends.text schedule SinkFault (sym (ends.same content left) ∙ read) ends.plays
+  replayed content schedule Usage left read ends = played ends.text schedule Usage (sym (ends.same content left) ∙ read) ends.plays
+  replayed content schedule NotAStore left read ends = played ends.text schedule NotAStore (sym (ends.same content left) ∙ read) ends.plays
+  replayed content schedule Incomplete left read ends = played ends.text schedule Incomplete (sym (ends.same content left) ∙ read) ends.plays
+  replayed content schedule DiskFault left read ends = played ends.text schedule DiskFault (sym (ends.same content left) ∙ read) ends.plays
+  replayed content schedule LinkFault left read ends = played ends.text schedule LinkFault (sym (ends.same content left) ∙ read) ends.plays
+  replayed content schedule NotEmpty left read ends = played ends.text schedule NotEmpty (sym (ends.same content left) ∙ read) ends.plays
+  replayed content schedule ContentSize left read ends = played ends.text schedule ContentSize (sym (ends.same content left) ∙ read) ends.plays
+  replayed content schedule Damaged left read ends = played ends.text schedule Damaged (sym (ends.same content left) ∙ read) ends.plays
+
+  -- what each command answers
+  answers : (c : Command) (result : ℕ) → HasEnded c result old new → AnswersWell c result old new
+  answers (Import store chunk) result end = λ own content left fits. end.number ∙ imported chunk end.status own content left fits end.ends
+  answers (Seed store d listen turns) result end = λ own. subst IsDoneOrShort (sym end.run.number)
+      (seeded (record { store = store; descriptor = d; listen = listen; turns = turns }) end.run.added end.run.status own end.ends)
+  answers (Fetch store d listen turns order peers) result end = λ own. subst IsDoneOrMissing (sym end.run.number)
+      (fetched (record { store = store; descriptor = d; listen = listen; turns = turns }) end.run.added end.run.status own end.ends)
+  answers (Check store d) result end = λ own. subst IsDoneOrShort (sym end.number) (checked d end.status own end.ends)
+  answers (Export store d) result end = λ own. subst
+      (λ (n : ℕ). IsDoneOrMissing n ⊎ ((n ≡ number_of Damaged) × (BeganSound d new.disk.history → ⊥))) (sym end.number) (exported d end.status own end.ends)
+  answers (Upgrade store d) result end = λ own bytes left has. subst IsDoneOrShort (sym end.number) (upgraded d end.status own bytes left has end.ends)
+  answers Replay result end = λ content schedule left read. subst IsDoneOrShort (sym end.number) (replayed content schedule end.status left read end.ends)
+  answers (Rehearse number) result end = subst IsDoneOrShort (sym end.is_number)
+      (played (rehearsal_text (drawn number)) (rehearsal_of (drawn number)) end.status (rehearsals_read.read (drawn number) (drawn_few number)) end.ends)
+  answers (Play store d listen turns window peers) result end = absurd end
+  answers (commands.Record peer life) result end = absurd end
+  answers Audit result end = absurd end
+
+-- the same of the command that the words spell
+pub answers_well : (words : List (List ℕ)) (command : Command) (status : Status) (result : ℕ) (old new : Outside) → Spells words command
+    → result ≡ number_of status → HasEnded command (number_of status) old new
+    → (c : Command) → Spells words c → IsUntroubled old new → IsOneOf built c → AnswersWell c result old new
+answers_well words command status result old new read number ended c spelled u one =
+    answers old new u c result (ended_as words command status result old new read number ended c spelled)

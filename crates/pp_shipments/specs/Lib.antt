@@ -1,0 +1,2 @@
+pub mod Trusty
+pub mod Laws

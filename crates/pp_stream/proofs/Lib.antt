@@ -1,0 +1,4 @@
+pub mod Written
+pub mod Chunks
+pub mod Steps
+pub mod Played

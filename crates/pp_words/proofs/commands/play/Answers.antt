@@ -1,0 +1,67 @@
+use Rattle.std.proofs.Common.{◌^◌, [], ◌∷◌, decimal, refl}
+use Rattle.std.proofs.lemmas.Result.{err_from_is_err_and}
+use Rattle.pp_words.specs.CommandLine.{AStore, ANumber, ADescriptor, AnAddress}
+use Rattle.pp_outside.specs.Outside.{address_of}
+use Rattle.pp_words.specs.Views.{texts, usage_of}
+use Rattle.pp_words.proofs.WordSteps.{step}
+use Rattle.pp_words.proofs.commands.play.Goals as goal
+
+pub returns-in_err-store-clause-err : goal.returns-in_err-store-clause-err
+returns-in_err-store-clause-err c =
+    let p = err_from_is_err_and c.from_residual.result c.from_residual.ensures.1 in
+    rw (p.1, p.2) (c.in_err-store.ensures.err (ADescriptor ∷ AnAddress ∷ ANumber 1 (2 ^ 32) ∷ ANumber 1 4097 ∷ AnAddress ∷ []) 15)
+
+pub returns-in_err-descriptor-clause-err : goal.returns-in_err-descriptor-clause-err
+returns-in_err-descriptor-clause-err c =
+    let p = err_from_is_err_and c.from_residual-in_err-descriptor.result c.from_residual-in_err-descriptor.ensures.1 in
+    rw (p.1, p.2) (step AStore (ADescriptor ∷ AnAddress ∷ ANumber 1 (2 ^ 32) ∷ ANumber 1 4097 ∷ AnAddress ∷ []) 15 1 (texts c.args.words.now) c.in_ok-store.store.now (usage_of c.in_err-descriptor.field-0.0)
+    c.in_ok-store.ensures.ok.0 c.in_ok-store.ensures.ok.1
+    (c.in_err-descriptor.ensures.err (AnAddress ∷ ANumber 1 (2 ^ 32) ∷ ANumber 1 4097 ∷ AnAddress ∷ []) 15))
+
+pub returns-in_err-listen-clause-err : goal.returns-in_err-listen-clause-err
+returns-in_err-listen-clause-err c =
+    let p = err_from_is_err_and c.from_residual-in_err-listen.result c.from_residual-in_err-listen.ensures.1 in
+    rw (p.1, p.2) (step AStore (ADescriptor ∷ AnAddress ∷ ANumber 1 (2 ^ 32) ∷ ANumber 1 4097 ∷ AnAddress ∷ []) 15 1 (texts c.args.words.now) c.in_ok-store.store.now (usage_of c.in_err-listen.field-0.0)
+    c.in_ok-store.ensures.ok.0 c.in_ok-store.ensures.ok.1
+    (step ADescriptor (AnAddress ∷ ANumber 1 (2 ^ 32) ∷ ANumber 1 4097 ∷ AnAddress ∷ []) 15 2 (texts c.args.words.now) c.in_ok-descriptor.ensures.ok.0 (usage_of c.in_err-listen.field-0.0)
+    c.in_ok-descriptor.ensures.ok.1 (c.in_ok-descriptor.descriptor, c.in_ok-descriptor.ensures.ok.2)
+    (c.in_err-listen.ensures.err (ANumber 1 (2 ^ 32) ∷ ANumber 1 4097 ∷ AnAddress ∷ []) 15)))
+
+pub returns-in_err-turns-clause-err : goal.returns-in_err-turns-clause-err
+returns-in_err-turns-clause-err c =
+    let p = err_from_is_err_and c.from_residual-in_err-turns.result c.from_residual-in_err-turns.ensures.1 in
+    rw (p.1, p.2) (step AStore (ADescriptor ∷ AnAddress ∷ ANumber 1 (2 ^ 32) ∷ ANumber 1 4097 ∷ AnAddress ∷ []) 15 1 (texts c.args.words.now) c.in_ok-store.store.now (usage_of c.in_err-turns.field-0.0)
+    c.in_ok-store.ensures.ok.0 c.in_ok-store.ensures.ok.1
+    (step ADescriptor (AnAddress ∷ ANumber 1 (2 ^ 32) ∷ ANumber 1 4097 ∷ AnAddress ∷ []) 15 2 (texts c.args.words.now) c.in_ok-descriptor.ensures.ok.0 (usage_of c.in_err-turns.field-0.0)
+    c.in_ok-descriptor.ensures.ok.1 (c.in_ok-descriptor.descriptor, c.in_ok-descriptor.ensures.ok.2)
+    (step AnAddress (ANumber 1 (2 ^ 32) ∷ ANumber 1 4097 ∷ AnAddress ∷ []) 15 3 (texts c.args.words.now) c.in_ok-listen.ensures.ok.0 (usage_of c.in_err-turns.field-0.0)
+    c.in_ok-listen.ensures.ok.1 (address_of c.in_ok-listen.listen, c.in_ok-listen.ensures.ok.2)
+    (c.in_err-turns.ensures.err (ANumber 1 4097 ∷ AnAddress ∷ []) 15))))
+
+pub returns-in_err-window-clause-err : goal.returns-in_err-window-clause-err
+returns-in_err-window-clause-err c =
+    let p = err_from_is_err_and c.from_residual-in_err-window.result c.from_residual-in_err-window.ensures.1 in
+    rw (p.1, p.2) (step AStore (ADescriptor ∷ AnAddress ∷ ANumber 1 (2 ^ 32) ∷ ANumber 1 4097 ∷ AnAddress ∷ []) 15 1 (texts c.args.words.now) c.in_ok-store.store.now (usage_of c.in_err-window.field-0.0)
+    c.in_ok-store.ensures.ok.0 c.in_ok-store.ensures.ok.1
+    (step ADescriptor (AnAddress ∷ ANumber 1 (2 ^ 32) ∷ ANumber 1 4097 ∷ AnAddress ∷ []) 15 2 (texts c.args.words.now) c.in_ok-descriptor.ensures.ok.0 (usage_of c.in_err-window.field-0.0)
+    c.in_ok-descriptor.ensures.ok.1 (c.in_ok-descriptor.descriptor, c.in_ok-descriptor.ensures.ok.2)
+    (step AnAddress (ANumber 1 (2 ^ 32) ∷ ANumber 1 4097 ∷ AnAddress ∷ []) 15 3 (texts c.args.words.now) c.in_ok-listen.ensures.ok.0 (usage_of c.in_err-window.field-0.0)
+    c.in_ok-listen.ensures.ok.1 (address_of c.in_ok-listen.listen, c.in_ok-listen.ensures.ok.2)
+    (step (ANumber 1 (2 ^ 32)) (ANumber 1 4097 ∷ AnAddress ∷ []) 15 4 (texts c.args.words.now) (decimal c.in_ok-turns.turns) (usage_of c.in_err-window.field-0.0)
+    c.in_ok-turns.ensures.ok.0 (c.in_ok-turns.turns, refl, c.in_ok-turns.ensures.ok.1, c.in_ok-turns.ensures.ok.2)
+    (c.in_err-window.ensures.err (AnAddress ∷ []) 15)))))
+
+pub returns-in_err-peers-clause-err : goal.returns-in_err-peers-clause-err
+returns-in_err-peers-clause-err c =
+    let p = err_from_is_err_and c.from_residual-in_err-peers.result c.from_residual-in_err-peers.ensures.1 in
+    rw (p.1, p.2) (step AStore (ADescriptor ∷ AnAddress ∷ ANumber 1 (2 ^ 32) ∷ ANumber 1 4097 ∷ AnAddress ∷ []) 15 1 (texts c.args.words.now) c.in_ok-store.store.now (usage_of c.in_err-peers.field-0.0)
+    c.in_ok-store.ensures.ok.0 c.in_ok-store.ensures.ok.1
+    (step ADescriptor (AnAddress ∷ ANumber 1 (2 ^ 32) ∷ ANumber 1 4097 ∷ AnAddress ∷ []) 15 2 (texts c.args.words.now) c.in_ok-descriptor.ensures.ok.0 (usage_of c.in_err-peers.field-0.0)
+    c.in_ok-descriptor.ensures.ok.1 (c.in_ok-descriptor.descriptor, c.in_ok-descriptor.ensures.ok.2)
+    (step AnAddress (ANumber 1 (2 ^ 32) ∷ ANumber 1 4097 ∷ AnAddress ∷ []) 15 3 (texts c.args.words.now) c.in_ok-listen.ensures.ok.0 (usage_of c.in_err-peers.field-0.0)
+    c.in_ok-listen.ensures.ok.1 (address_of c.in_ok-listen.listen, c.in_ok-listen.ensures.ok.2)
+    (step (ANumber 1 (2 ^ 32)) (ANumber 1 4097 ∷ AnAddress ∷ []) 15 4 (texts c.args.words.now) (decimal c.in_ok-turns.turns) (usage_of c.in_err-peers.field-0.0)
+    c.in_ok-turns.ensures.ok.0 (c.in_ok-turns.turns, refl, c.in_ok-turns.ensures.ok.1, c.in_ok-turns.ensures.ok.2)
+    (step (ANumber 1 4097) (AnAddress ∷ []) 15 5 (texts c.args.words.now) (decimal c.in_ok-window.window) (usage_of c.in_err-peers.field-0.0)
+    c.in_ok-window.ensures.ok.0 (c.in_ok-window.window, refl, c.in_ok-window.ensures.ok.1, c.in_ok-window.ensures.ok.2)
+    c.in_err-peers.ensures.err)))))
