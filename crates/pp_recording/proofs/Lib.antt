@@ -1,0 +1,15 @@
+pub mod Groups
+pub mod NodeTexts
+pub mod Fillings
+pub mod NodeOrder
+pub mod Risings
+pub mod HexWords
+pub mod Splits
+pub mod AddressWords
+pub mod LineTexts
+pub mod Partings
+pub mod LineFaults
+pub mod ByteTests
+pub mod Draftings
+pub mod Digits
+pub mod FirstFaults
