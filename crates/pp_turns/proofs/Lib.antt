@@ -3,3 +3,5 @@ pub mod Promising
 pub mod Steps
 pub mod Turned
 pub mod Loops
+pub mod Limited
+pub mod Between

@@ -1,5 +1,5 @@
 -- A turn more, with what it keeps of what a peer promises.
-use Rattle.std.proofs.Common.{◌≡◌, ◌⊎◌, inl, inr, ⊎_elim, ℕ, ◌+◌, ◌-◌, ◌^◌, ◌<◌, ◌≤◌, zero, suc, map, length, append_assoc, Bool, true, false, ◌||◌, Some, List, [], ◌∷◌, ◌++◌, Result, Ok, Err, OnOk, refl, sym, ◌∙◌, ap, subst, arith}
+use Rattle.std.proofs.Common.{◌≡◌, ◌⊎◌, inl, inr, ⊎_elim, ℕ, ◌+◌, ◌-◌, ◌<◌, ◌≤◌, zero, suc, map, length, append_assoc, Bool, true, false, ◌||◌, Some, List, [], ◌∷◌, ◌++◌, Result, Ok, Err, OnOk, refl, sym, ◌∙◌, ap, subst, arith}
 use Rattle.std.specs.List.{AllByRecursion, list_any}
 use Rattle.std.proofs.lemmas.List.Folds.{list_any-append}
 use Rattle.pp_terms.specs.Count.{HasRisen, HasCause, capped}
@@ -38,7 +38,7 @@ use Rattle.pp_core.specs.Promising.{IsFoundIn, Promises}
 use Rattle.pp_core.specs.Remembering.{KeepsWrote, StaysUnchoked, KeepsTold, HasNoTicket, AwaitsAck, KeepsAcks, HasNoRepeat}
 use Rattle.pp_core.specs.Keeping.{IsKeeping}
 use Rattle.pp_core.specs.Storing.{StoresIn, CommitsTold}
-use Rattle.pp_core.specs.Turning.{scene, Sends, after_refusal}
+use Rattle.pp_core.specs.Turning.{Sends, after_refusal}
 use Rattle.pp_core.proofs.Dialled.{misses_more}
 use Rattle.pp_core.proofs.FirstTurn.{events_few}
 use Rattle.pp_core.proofs.LatelySent.{refused_wrote}
@@ -47,7 +47,7 @@ use Rattle.pp_core.proofs.Promising.{keeping_reads}
 use Rattle.pp_core.proofs.Remembered.{refused_keeps}
 use Rattle.pp_core.proofs.Unchoked.{refusal_unchokes}
 use Rattle.pp_turns.specs.Promising.{Stage, Ended, Came, Refused, faults_of, Tells, FailsFew, IsTelling, IsCalmLink, EndsAll, HasCome, Keeps, open_of, HasDialled, DialsIn, HasTurned}
-use Rattle.pp_turns.specs.Taking.{TurnsTo, TakesTurn, WaitsTo, Waits}
+use Rattle.pp_turns.specs.Taking.{TakesTurn, Waits, Finishes}
 use Rattle.pp_turns.specs.Turning.{Post, IsBegun, TakesTurns}
 use Rattle.pp_turns.proofs.Promising.{each_grows, each_ships, each_sent, commits_told, fails_event, fails_refused, fails_sent, fails_sent_late, fails_none, owes_none, keeps_none, tells_none, acknowledges_none, asks_none, ends_before, ends_sent, event_last, gained_some, event_open}
 use Rattle.pp_turns.proofs.Steps.{Kept, Absorbed, turns_none, none_turned, turns_event, event_turned, sent_none, stops_event, turns_refused, refused_turned, turns_flushed, flushed_turned}
@@ -59,13 +59,13 @@ calm_before : (first old new : Post) → old.link.faults ≤ new.link.faults →
 calm_before first old new later calm risen = calm (risen_more first.link.faults old.link.faults new.link.faults later risen)
 
 -- where both counts tell they told before
-told_before : (old new : Post) → old.link.faults ≤ new.link.faults → old.disk.faults ≤ new.disk.faults → Tells new → Tells old
+pub told_before : (old new : Post) → old.link.faults ≤ new.link.faults → old.disk.faults ≤ new.disk.faults → Tells new → Tells old
 told_before old new link disk t = record {
   link = (let low = t.link in omega (arith, low, link));
   disk = (let low = t.disk in omega (arith, low, disk));
 }
 
-tells_before : (b : Beginning) (first old new : Post) → old.link.faults ≤ new.link.faults → old.disk.faults ≤ new.disk.faults
+pub tells_before : (b : Beginning) (first old new : Post) → old.link.faults ≤ new.link.faults → old.disk.faults ≤ new.disk.faults
     → IsTelling b first new → IsTelling b first old
 tells_before b first old new link disk t = record {
   keeping = t.keeping;
@@ -97,7 +97,7 @@ turned_as stage n b first new t added refused are keeps lost within dials = reco
 }
 
 -- as many were missed before, and more refused since
-misses_still : (b : Beginning) (addresses : List Address) (first old new : Post) (more past : List Record) → faults_of old ≤ faults_of new
+pub misses_still : (b : Beginning) (addresses : List Address) (first old new : Post) (more past : List Record) → faults_of old ≤ faults_of new
     → HasDialled b addresses first old past → HasDialled b addresses first new (more ++ past)
 misses_still b addresses first old new more past later h = record {
   rest = more ++ h.rest;
@@ -594,11 +594,17 @@ turned_late n b first old new refused course promises q =
     (q.keeps.asks fetches (told Refused n b first old new refused course promises q tells) others
     (λ i is. contains i (held_then Refused n b first old new refused course promises q i is)))) (omega arith) refl
 
+-- what is due, behind a wait
+pub finish_whole : (old new : Post) (refused : ℕ) → (course : Sends refused old.peer new.peer old.link new.link old.disk new.disk)
+    → Promises refused old.peer new.peer old.link new.link old.disk new.disk course.flushes.added → Finishes old new
+finish_whole old new refused course promises b taken first waited = ⊎_elim
+    (λ came. turned_sent taken b first old new refused course promises came)
+    (λ late. turned_late taken b first old new refused course promises late)
+    waited
+
 -- a turn: the wait, and then what is due
 pub turn_whole : (old mid new : Post) (refused : ℕ) (u v : Unit {0}) → Waits old mid (Ok u)
     → (course : Sends refused mid.peer new.peer mid.link new.link mid.disk new.disk)
     → Promises refused mid.peer new.peer mid.link new.link mid.disk new.disk course.flushes.added → TakesTurn old new (Ok v)
-turn_whole old mid new refused u v waits course promises b taken first q = ⊎_elim
-    (λ came. turned_sent (taken + 1) b first mid new refused course promises came)
-    (λ late. turned_late (taken + 1) b first mid new refused course promises late)
-    (waits b taken first q)
+turn_whole old mid new refused u v waits course promises b taken first q =
+    finish_whole mid new refused course promises b (taken + 1) first (waits b taken first q)

@@ -6,8 +6,8 @@ use Rattle.pp_outside.specs.declared.disk.DiskFault.{DiskFault}
 use Rattle.pp_peer.specs.Standing.{Beginning}
 use Rattle.pp_core.specs.Peers.{PeerState}
 use Rattle.pp_core.specs.Turning.{Closes}
-use Rattle.pp_turns.specs.Turning.{Post, IsBegun, Stops}
-use Rattle.pp_turns.specs.Promising.{Stage, Ended, Came, Refused, HasTurned}
+use Rattle.pp_turns.specs.Turning.{Post, Stops}
+use Rattle.pp_turns.specs.Promising.{Ended, Came, Refused, HasTurned}
 
 -- What a turn came to.
 abbrev pub TurnsTo : Beginning → ℕ → Post → Post → Result (Unit {0}) DiskFault → Type 0
@@ -27,6 +27,11 @@ WaitsTo b taken old new (Err _) = Stops b taken old new
 abbrev pub Waits : Post → Post → Result (Unit {0}) DiskFault → Type 0
 Waits old new result =
     (b : Beginning) (taken : ℕ) (first : Post) → HasTurned Ended b taken first old → WaitsTo b (taken + 1) first new result
+
+-- What was due was sent, which ends the turn, whatever its wait came to.
+abbrev pub Finishes : Post → Post → Type 0
+Finishes old new = (b : Beginning) (taken : ℕ) (first : Post) → HasTurned Came b taken first old ⊎ HasTurned Refused b taken first old
+    → HasTurned Ended b taken first new
 
 -- all chunks of the peer's content are committed
 abbrev pub HasAll : PeerState → Type 0

@@ -4,8 +4,11 @@ ghost use Rattle.std.specs.Prelude.{◌≡◌, true, length, MatchBool, IfOk, On
 ghost use Rattle.pp_terms.specs.Count.{HasCause};
 ghost use Rattle.pp_terms.specs.format.Traffic.{LinkState};
 ghost use Rattle.pp_outside.specs.Outside.{size_of, FitsIn, DoesNext};
+ghost use Rattle.pp_scan.specs.Look.{KeepsAll};
+ghost use Rattle.pp_holding.specs.Holding.{stock_of};
+ghost use Rattle.pp_holding.specs.Stock.{Advances};
 ghost use Rattle.pp_peer.specs.Standing.{Beginning};
-ghost use Rattle.pp_turns.specs.Taking.{TakesTurn, Waits, TurnsEnd, HasAll, LacksSome};
+ghost use Rattle.pp_turns.specs.Taking.{TakesTurn, Waits, Finishes, TurnsEnd, HasAll, LacksSome};
 ghost use Rattle.pp_turns.specs.Turning.{post, IsBegun};
 
 use pp_core::Peer;
@@ -59,7 +62,7 @@ pub fn take_turn<D: Disk, L: Link>(
 {
     let came = link.next(WAIT_US, buffer);
     hear(peer, came, buffer, disk)?;
-    peer.flush(disk, link);
+    finish_turn(peer, disk, link);
     Ok(())
 }
 
@@ -76,6 +79,8 @@ pub fn hear<D: Disk>(
     // Over each link on which that was what a wait came to it is the first half of a turn.
     ensures waits { (old new : LinkState) → DoesNext old buffer.now came new
         → Waits (post peer.old (D.state disk.old) old) (post peer.new (D.state disk.new) new) result }
+    // Whatever it answers, what was committed stays so, and the book keeps what it knows.
+    ensures advances { Advances (stock_of peer.old.parts.holding (D.state disk.old)) (stock_of peer.new.parts.holding (D.state disk.new)) }
     // Only where the disk refused a write or a sync it answers a fault.
     ensures cause { peer.old.parts.holding.store.live ≡ true → HasCause (D.state disk.old).hard (D.state disk.new).hard result }
     ensures live { peer.old.parts.holding.store.live ≡ true → OnOk result (peer.new.parts.holding.store.live ≡ true) }
@@ -87,6 +92,18 @@ pub fn hear<D: Disk>(
             Ok(())
         }
     }
+}
+
+/// Sends what is due, which ends a turn: `hear` is its first half. Between the two the disk may be read, and `Peer::want_below` called.
+pub fn finish_turn<D: Disk, L: Link>(peer: &mut Peer, disk: &mut D, link: &mut L)
+    ensures ends { Finishes (post peer.old (D.state disk.old) (L.seen link.old))
+        (post peer.new (D.state disk.new) (L.seen link.new)) }
+    // What the peer holds stays, and the disk is only read.
+    ensures store { peer.new.parts.holding.store ≡ peer.old.parts.holding.store }
+    ensures book { peer.new.parts.holding.book ≡ peer.old.parts.holding.book }
+    ensures reads { KeepsAll (D.state disk.old) (D.state disk.new) }
+{
+    peer.flush(disk, link);
 }
 
 // How many bytes of the buffer are the event's.

@@ -1,8 +1,10 @@
-use Rattle.std.proofs.Common.{ap, take, refl, subst, Result}
-use Rattle.pp_terms.specs.format.Traffic.{LinkState}
+use Rattle.std.proofs.Common.{ap, take, refl, sym, subst, Result}
 use Rattle.pp_outside.specs.Outside.{DoesNext}
 use Rattle.pp_outside.specs.declared.link.Event.{Event}
 use Rattle.pp_outside.specs.declared.link.LinkFault.{LinkFault}
+use Rattle.pp_holding.specs.Holding.{stock_of}
+use Rattle.pp_holding.specs.Stock.{Advances}
+use Rattle.pp_holding.proofs.Advancing.{advances_none}
 use Rattle.pp_core.specs.Peers.{PeerState}
 use Rattle.pp_turns.specs.Turning.{Post, post}
 use Rattle.pp_turns.proofs.Steps.{bytes_fit, gained_event}
@@ -35,3 +37,11 @@ returns-in-Err-clause-waits g c link link' does =
     let new : Post = post c.refused.new.self (g.D.Disk.state c.args.disk.now) link' in
     waits_refused old new tt c.refused.ensures.exact refl next.refused next.nexts next.bound
     next.cause.later (next.cause.risen refl) c.refused.ensures.stands
+
+pub returns-in-Ok-clause-advances : goal.returns-in-Ok-clause-advances
+returns-in-Ok-clause-advances g c = c.absorb.ensures.advanced.advances
+
+pub returns-in-Err-clause-advances : goal.returns-in-Err-clause-advances
+returns-in-Err-clause-advances g c =
+    subst (λ (p : PeerState). Advances (stock_of c.args.peer.now.parts.holding (g.D.Disk.state c.args.disk.now)) (stock_of p.parts.holding (g.D.Disk.state c.args.disk.now)))
+    (sym c.refused.ensures.exact) (advances_none (stock_of c.args.peer.now.parts.holding (g.D.Disk.state c.args.disk.now)))
