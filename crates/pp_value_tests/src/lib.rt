@@ -1,5 +1,5 @@
-//! Tests of the values that the peer is made of, and of the devices in memory. They stand in a crate of their own, since the tests of
-//! a crate have all of it proved once more.
+//! Tests of the values that the peer is made of. They stand in a crate of their own, since the tests of a crate have all of it proved
+//! once more.
 #![tactic(auto)]
 
 #[cfg(test)]
@@ -15,8 +15,6 @@ mod ledbat;
 #[cfg(test)]
 mod options;
 #[cfg(test)]
-mod outside;
-#[cfg(test)]
 mod paths;
 #[cfg(test)]
 mod pex;
@@ -25,8 +23,6 @@ mod plan;
 #[cfg(test)]
 mod ranges;
 #[cfg(test)]
-mod replay;
-#[cfg(test)]
 mod requests;
 #[cfg(test)]
 mod tree;
@@ -34,5 +30,3 @@ mod tree;
 mod wanting;
 #[cfg(test)]
 mod wire;
-#[cfg(test)]
-mod words;

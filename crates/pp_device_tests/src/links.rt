@@ -1,6 +1,6 @@
 // A link in memory: what it hands out, and what it keeps.
 use pp_outside::{Address, Call, Disk, Event, Link, LinkFault, Mark, MemoryDisk, MemoryLink};
-use std::alloc::Global;
+use std::alloc::{AllocError, Global};
 use std::test::Fail;
 
 const PEER: Address = Address::V4([127, 0, 0, 1], 7000);
@@ -112,12 +112,17 @@ fn keeps_what_came_and_went(rt: HostRuntime) -> Result<(), Fail> {
     Ok(())
 }
 
+// Waits once, with room for any datagram: whether the link didn't refuse.
+fn waits(alloc: Global, link: &mut MemoryLink) -> Result<bool, AllocError> {
+    let mut buffer = vec![in alloc; 0; 65536]?;
+    Ok(link.next(0, &mut buffer).is_ok())
+}
+
 #[test]
 fn the_second_sending_fails(rt: HostRuntime) -> Result<(), Fail> {
     let alloc = rt.alloc();
     let mut link = with_three_events(alloc)?;
     let disk = MemoryDisk::new(alloc, &[])?;
-    let mut buffer = vec![in alloc; 0; 65536]?;
     link.fail_after(Call::Send, 1);
     link.fail_after(Call::Write, 0);
     for (n, passes) in [(1, true), (2, false), (3, true), (4, true)] {
@@ -127,13 +132,19 @@ fn the_second_sending_fails(rt: HostRuntime) -> Result<(), Fail> {
             "sending {n}"
         );
         assert!(rt; link.bind(&PEER).is_ok());
-        assert!(rt; link.next(0, &mut buffer).is_ok());
+        assert!(rt; waits(alloc, &mut link)?);
     }
     assert_eq!(rt; link.sent(), 3);
-    // The third wait from here is refused.
+    Ok(())
+}
+
+#[test]
+fn the_third_wait_fails(rt: HostRuntime) -> Result<(), Fail> {
+    let alloc = rt.alloc();
+    let mut link = with_three_events(alloc)?;
     link.fail_after(Call::Next, 2);
     for passes in [true, true, false, true] {
-        assert_eq!(rt; link.next(0, &mut buffer).is_ok(), passes);
+        assert_eq!(rt; waits(alloc, &mut link)?, passes);
     }
     Ok(())
 }

@@ -1,4 +1,0 @@
-// The devices in memory.
-mod disks;
-mod links;
-mod streams;
