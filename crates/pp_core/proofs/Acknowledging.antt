@@ -21,7 +21,6 @@ use Rattle.pp_outside.specs.Outside.{address_of, record_of}
 use Rattle.pp_outside.specs.declared.link.Event.{Event}
 use Rattle.pp_outside.specs.declared.link.Event.TheVariants as events
 use Rattle.pp_channels.specs.Seats.{channel_at}
-use Rattle.pp_channels.specs.declared.channel.Channel.{Channel}
 use Rattle.pp_lives.specs.Reading.{is_waiting}
 use Rattle.pp_lives.specs.Standing.{Stands, HasSeat}
 use Rattle.pp_lives.proofs.Own.{stands_of}

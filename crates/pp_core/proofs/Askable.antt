@@ -1,5 +1,5 @@
 -- A channel that may be asked, in the words of the promises, is a seat on which more may be asked for.
-use Rattle.std.proofs.Common.{◌≡◌, inl, inr, ⊎_elim, ℕ, ◌<◌, ◌≤◌, true, false, Option, Some, None, List, refl, sym, ◌∙◌, ap, subst, arith, not, ◌&&◌}
+use Rattle.std.proofs.Common.{◌≡◌, inl, inr, ⊎_elim, ℕ, ◌<◌, ◌≤◌, true, false, Option, Some, None, List, refl, sym, ◌∙◌, ap, subst, arith, not}
 use Rattle.std.specs.Prelude.{unwrap_or, slice_get}
 use Rattle.std.proofs.lemmas.Bool.{cases_Bool, both_ways, and_from}
 use Rattle.pp_terms.specs.format.Descriptor.{Descriptor, chunks_of}
@@ -14,7 +14,6 @@ use Rattle.pp_promises.specs.OwnSide.{is_choked_by_peer, has_old_request}
 use Rattle.pp_promises.specs.ReadStory.{read_story}
 use Rattle.pp_promises.proofs.ReadStories.{plains_are_read}
 use Rattle.pp_requests.specs.Moments.{asked_at}
-use Rattle.pp_outside.specs.Outside.{address_of}
 use Rattle.pp_channels.specs.Seats.{channel_at, is_begun}
 use Rattle.pp_channels.specs.declared.channel.Channel.{Channel}
 use Rattle.pp_lives.specs.Fars.{far_of}

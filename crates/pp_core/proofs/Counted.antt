@@ -1,8 +1,8 @@
 -- Of what was given up in a flush the counts of the link and of the disk tell.
-use Rattle.std.proofs.Common.{◌≡◌, ◌⊎◌, inl, inr, ⊎_elim, ℕ, zero, suc, ◌+◌, ◌-◌, ◌^◌, ◌<◌, ◌≤◌, Bool, true, false, ◌&&◌, Option, Some, None, List, [], ◌∷◌, refl, sym, ◌∙◌, ap, subst, arith}
-use Rattle.std.specs.Prelude.{IsTrue, MatchBool}
+use Rattle.std.proofs.Common.{◌≡◌, inl, inr, ℕ, zero, suc, ◌+◌, ◌-◌, ◌^◌, ◌<◌, ◌≤◌, Bool, true, false, Option, Some, None, List, [], ◌∷◌, refl, sym, ◌∙◌, ap, subst, arith}
+use Rattle.std.specs.Prelude.{MatchBool}
 use Rattle.pp_terms.specs.Count.{HasRisen}
-use Rattle.pp_terms.specs.disk.Disk.{DiskState, History, IsKnown}
+use Rattle.pp_terms.specs.disk.Disk.{DiskState, IsKnown}
 use Rattle.pp_terms.specs.format.Traffic.{LinkState}
 use Rattle.pp_tree.specs.Book.{entry}
 use Rattle.pp_scan.specs.Holding.{is_there}
@@ -13,14 +13,11 @@ use Rattle.pp_lives.specs.declared.lives.Far.{Far}
 use Rattle.pp_draft.specs.declared.note.Note.{Note}
 use Rattle.pp_desk.specs.declared.steps.Delivered.{Delivered}
 use Rattle.pp_desk.specs.Delivers.{Way, Batch, At, none_delivered, counted, DeliversOne, DeliversEach, GoesIf, Goes}
-use Rattle.pp_desk.proofs.Following.{link_carries}
 use Rattle.pp_holding.specs.Holding.{HoldingState}
-use Rattle.pp_peer.specs.declared.parts.Parts.{Parts}
 use Rattle.pp_peer.specs.declared.speaking.Speaker.{Speaker}
 use Rattle.pp_peer.specs.Delivering.{ReadsRight, AreRefused}
-use Rattle.pp_peer.specs.Flushing.{Scene, Flushes}
-use Rattle.pp_peer.specs.Sending.{SendsAll}
-use Rattle.pp_peer.specs.Speaking.{SpeaksTo, SpeaksOn, TurnsIf, TurnsTo, TurnsBelow}
+use Rattle.pp_peer.specs.Flushing.{Scene}
+use Rattle.pp_peer.specs.Speaking.{TurnsIf, TurnsTo, TurnsBelow}
 use Rattle.pp_core.specs.Peers.{PeerState}
 use Rattle.pp_core.specs.Turning.{scene, Sends}
 use Rattle.pp_core.proofs.Rooms.{greets_faults}

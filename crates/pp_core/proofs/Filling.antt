@@ -31,7 +31,6 @@ use Rattle.pp_peer.specs.declared.parts.Parts.{Parts}
 use Rattle.pp_peer.specs.declared.speaking.Speaker.{Speaker}
 use Rattle.pp_peer.specs.Standing.{own_at, own_in}
 use Rattle.pp_peer.specs.Flushing.{Scene}
-use Rattle.pp_promises.specs.OwnSide.{most_asked}
 use Rattle.pp_seat.specs.Own.{room_of}
 use Rattle.pp_peer.specs.Speaking.{may_ask, most_of, PicksFrom, SettlesIn, SpeaksTo, SpeaksOn, TurnsIf, TurnsTo, TurnsBelow}
 use Rattle.pp_peer.proofs.Owning.{room_fits, picks_are_fit}

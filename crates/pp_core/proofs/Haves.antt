@@ -1,16 +1,15 @@
 -- Chunks that other peers offered are among the offers of their seats, while things are sent.
-use Rattle.std.proofs.Common.{◌≡◌, ◌⊎◌, inl, inr, ⊎_elim, ℕ, ◌<◌, ◌≤◌, leb, eqb, Bool, true, false, cond, Option, Some, None, List, [], ◌∷◌, ◌++◌, length, refl, sym, ◌∙◌, ap, subst, arith, ◌+◌}
+use Rattle.std.proofs.Common.{◌≡◌, inl, inr, ⊎_elim, ℕ, ◌<◌, ◌≤◌, leb, eqb, Bool, true, false, cond, Option, Some, None, List, [], ◌∷◌, ◌++◌, length, refl, sym, ◌∙◌, ap, subst, arith, ◌+◌}
 use Rattle.std.specs.Prelude.{MatchBool, is_some}
 use Rattle.std.specs.List.{AllByRecursion}
 use Rattle.std.proofs.lemmas.Bool.{false≢true}
 use Rattle.pp_terms.specs.disk.Disk.{DiskState, moment_of}
-use Rattle.pp_terms.specs.format.Descriptor.{Descriptor, chunks_of}
+use Rattle.pp_terms.specs.format.Descriptor.{Descriptor}
 use Rattle.pp_terms.specs.format.Messages.{Message}
 use Rattle.pp_terms.specs.format.Traffic.{Address, Record, Sent, LinkState}
-use Rattle.pp_traffic.specs.Awaiting.{Awaits}
 use Rattle.pp_traffic.specs.Life.{Life, answers}
 use Rattle.pp_traffic.specs.Past.{now}
-use Rattle.pp_traffic.specs.Plain.{greets_once, IsPlainNow}
+use Rattle.pp_traffic.specs.Plain.{greets_once}
 use Rattle.pp_traffic.specs.Story.{Line, Said, say, said_in, told}
 use Rattle.pp_traffic.proofs.Awaited.{plain_grows}
 use Rattle.pp_promises.specs.OwnSide.{is_offered}

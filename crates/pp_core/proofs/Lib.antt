@@ -54,6 +54,7 @@ pub mod Coming
 pub mod Filling
 pub mod FewNamed
 pub mod Limits
+pub mod Below
 pub mod Offered
 pub mod Lately
 pub mod LatelySent

@@ -1,5 +1,5 @@
 -- Below which number chunks are asked for stays, whatever comes and goes.
-use Rattle.std.proofs.Common.{◌≡◌, ◌⊎◌, inl, inr, ⊎_elim, ℕ, ◌<◌, ◌≤◌, Bool, true, false, cond, Option, Some, None, List, [], ◌∷◌, ◌∙◌, refl, sym, ap}
+use Rattle.std.proofs.Common.{◌≡◌, inl, inr, ⊎_elim, ℕ, ◌<◌, ◌≤◌, Bool, true, false, cond, Option, Some, None, List, [], ◌∷◌, Result, Ok, Err, OnOk, ◌∙◌, refl, sym, ap}
 use Rattle.std.specs.Prelude.{slice_get, option_map}
 use Rattle.std.proofs.lemmas.Bool.{cases_lt, cases_Bool}
 use Rattle.pp_terms.specs.format.Descriptor.{Descriptor, chunks_of}
@@ -27,7 +27,7 @@ use Rattle.pp_peer.specs.Flushing.{Scene}
 use Rattle.pp_peer.specs.Greeting.{IsGreeted, wanted_of, Releases}
 use Rattle.pp_peer.specs.Messages.{is_proven_in, Offers, GivesBackOf, Heeds, TakesOther, got_of, TakesData, Does, InTurn, before_close, ReadsAll}
 use Rattle.pp_peer.specs.Taking.{read_at}
-use Rattle.pp_peer.specs.Events.{HearsProven, HearsArrival, TakesDatagram, TakesEvent, Absorbs}
+use Rattle.pp_peer.specs.Events.{HearsProven, HearsArrival, TakesEvent, Absorbs}
 use Rattle.pp_peer.specs.Speaking.{SetsBack, SetsBackTo, PicksFrom, SettlesIn, SpeaksTo}
 use Rattle.pp_peer.specs.Sending.{SendsAll}
 use Rattle.pp_core.specs.Offering.{limit_of}
@@ -151,6 +151,11 @@ event_limit (events.Quiet at) bytes old new t = ap (λ (p : Parts). limit_of p.f
 pub absorbs_limit : (e : Event) (bytes : List ℕ) (old new : Parts) → Absorbs e bytes old new → SameLimit old new
 absorbs_limit e bytes old new a = ap (λ (p : Parts). limit_of p.fetching) a.rest ∙ event_limit e bytes old a.mid a.takes
 
+pub absorbs_on : {E : Type 0} (e : Event) (bytes : List ℕ) (old new : Parts) (result : Result (Unit {0}) E) → OnOk result (Absorbs e bytes old new)
+    → OnOk result (SameLimit old new)
+absorbs_on e bytes old new (Ok u) exact = absorbs_limit e bytes old new exact
+absorbs_on e bytes old new (Err fault) exact = tt
+
 -- ---- a flush
 
 wanted_limit : (a b : Option FetchState) → wanted_of a ≡ wanted_of b → limit_of a ≡ limit_of b
@@ -178,7 +183,7 @@ greets_limit seat moment true old new link later g = same_limit old new (ap (λ 
 greets_limit seat moment false old new link later (inl r) = same_limit old new (ap (λ (p : Parts). p.fetching) r.rest)
 greets_limit seat moment false old new link later (inr n) = same_limit old new (ap (λ (p : Parts). p.fetching) n.same)
 
-back_limit : (seat : ℕ) (greets : Bool) (news : List Span) (old new : Parts) → SetsBack seat greets news old new → SameLimit old new
+pub back_limit : (seat : ℕ) (greets : Bool) (news : List Span) (old new : Parts) → SetsBack seat greets news old new → SameLimit old new
 back_limit seat greets news old new s = of s.known.proven greets news s.sets
   where
     of : (is_proven does : Bool) (xs : List Span) → SetsBackTo is_proven does xs seat old new → SameLimit old new
@@ -195,7 +200,7 @@ speaks_limit seat far greets refused speaker left old new s =
     ∙ ap (λ (p : Parts). limit_of p.fetching) s.says.rest
     ∙ picks_limit _ speaker.order seat s.are_picked.room s.picks old.parts.fetching s.picked.fetching s.are_picked.picks_from
 
-limit_kept : IsStepwise SameLimit
+pub limit_kept : IsStepwise SameLimit
 limit_kept = record {
   none = λ p. refl;
   twice = λ a b c one two. two ∙ one;
@@ -205,12 +210,18 @@ limit_kept = record {
   attends = λ seat turn old new a. same_limit old new (ap (λ (p : Parts). p.fetching) a.keeps.rest);
 }
 
+-- up to where the seats have their turns
+pub turned_limit : (dials lefts : List Dial) (speaker left : Speaker) (refused : ℕ) (a b : Scene) → (s : SendsAll dials lefts speaker left refused a b)
+    → SameLimit a.parts s.turned
+turned_limit dials lefts speaker left refused a b s =
+    ap limit_of (slots_fetching s.dialled.parts s.turned s.turns)
+    ∙ ap limit_of (dials_fetching dials lefts (record a { parts = s.given }) s.dialled s.dials_all)
+    ∙ wanted_limit s.given.fetching s.dropped.fetching s.gives_up.wanted
+    ∙ wanted_limit s.dropped.fetching a.parts.fetching s.drops.wanted
+
 pub flush_limit : (dials lefts : List Dial) (speaker left : Speaker) (refused : ℕ) (a b : Scene) → SendsAll dials lefts speaker left refused a b
     → SameLimit a.parts b.parts
 flush_limit dials lefts speaker left refused a b s =
     ap (λ (p : Parts). limit_of p.fetching) s.only
     ∙ turns_kept SameLimit limit_kept 64 s.unsaid s.speaks.gathered left (record s.dialled { parts = s.turned }) s.said s.speaks.turns
-    ∙ ap limit_of (slots_fetching s.dialled.parts s.turned s.turns)
-    ∙ ap limit_of (dials_fetching dials lefts (record a { parts = s.given }) s.dialled s.dials_all)
-    ∙ wanted_limit s.given.fetching s.dropped.fetching s.gives_up.wanted
-    ∙ wanted_limit s.dropped.fetching a.parts.fetching s.drops.wanted
+    ∙ turned_limit dials lefts speaker left refused a b s

@@ -63,7 +63,7 @@ use Rattle.pp_core.proofs.Flushes.{in_set, lets_go}
 use Rattle.pp_core.proofs.Coming.{absorbs_heard, none_heard}
 use Rattle.pp_core.proofs.Haves.{flush_heard, refusal_heard}
 use Rattle.pp_core.proofs.Having.{had_of, wanted_had, absorbs_held, flush_held}
-use Rattle.pp_core.proofs.Limits.{absorbs_limit, flush_limit}
+use Rattle.pp_core.proofs.Limits.{flush_limit}
 use Rattle.pp_core.proofs.Named.{named_later, named_then, noted_asked}
 use Rattle.pp_core.proofs.PlainBefore.{plain_then}
 use Rattle.pp_core.proofs.Rooms.{Alike, slots_alike, most_at, most_in, IsOwned}
@@ -124,14 +124,16 @@ awaited_at own i e = of (asked_at own i) refl e
     of None is e = absurd (false≢true e)
     of (Some moment) is e = (moment, is)
 
--- What a fetching peer knows before a flush and after it, which wants all chunks.
+-- What a fetching peer knows before a flush and after it, and below which number it wants chunks.
 pub record IsAsking (b : Beginning) (old new : PeerState) : Type 0 where
   pub had : HasHeld old.parts
   pub waits : HasWaiting new.parts.holding.store new.parts.holding.queue.waiting
   pub held : HasHeld new.parts
   pub fetching : FetchState
   pub is_fetching : new.parts.fetching ≡ Some fetching
-  pub wants : chunks_of b.d ≤ fetching.want.limit
+  pub limit : ℕ
+  pub wants : fetching.want.limit ≡ limit
+  pub inside : limit ≤ chunks_of b.d
 
 module _ (refused : ℕ) (old new : PeerState) (link later : LinkState) (disk left : DiskState) (course : Sends refused old new link later disk left)
     (b : Beginning) (most : ℕ) (past : List Record) (since : b.since ≤ moment_of disk.history) (stands : StandsFor b most old.parts past)
@@ -279,7 +281,7 @@ module _ (refused : ℕ) (old new : PeerState) (link later : LinkState) (disk le
         omega (arith, count, room, all, most_said)
 
     -- a chunk that is offered where nothing is left to ask for
-    chunk_asked : OffersNone a.seat new.parts → (i : ℕ) → i < chunks_of b.d → is_offered i (story b.d life records) ≡ true
+    chunk_asked : OffersNone a.seat new.parts → (i : ℕ) → i < is.limit → is_offered i (story b.d life records) ≡ true
         → (list_any (asks_for b.d i) records ≡ true) ⊎ (is_held new.parts.holding.store i ≡ true)
     chunk_asked none i low offered = ⊎_elim
         (λ had. inr (in_held new.parts.holding i is.waits (sym ((is.held f is.is_fetching).each i within) ∙ had)))
@@ -290,16 +292,17 @@ module _ (refused : ℕ) (old new : PeerState) (link later : LinkState) (disk le
         (lt-ltb i (length f.want.had) within)
         (lt-ltb i f.want.limit (let wants = is.wants in omega (arith, low, wants)))
         (ap (λ (o : Option FetchState). offers_of o a.seat i) (sym is.is_fetching)
-        ∙ heard life (inl may.plain) a.seat a.channel a.there a.of_life (ap is_some is.is_fetching) i low
+        ∙ heard life (inl may.plain) a.seat a.channel a.there a.of_life (ap is_some is.is_fetching) i (let inside = is.inside in omega (arith, low, inside))
         (ap (is_offered i) (plains_are_read b.d life records may.plain) ∙ offered)))
       where
         within : i < length f.want.had
         within =
             let size = (is.held f is.is_fetching).size ∙ is.waits.committed_size in
             let same = ap chunks_of then.ledger.swarm in
-            omega (arith, low, size, same)
+            let inside = is.inside in
+            omega (arith, low, size, same, inside)
 
-    channel_asked : (HasRisen link.faults later.faults → ⊥) → (i : ℕ) → i < chunks_of b.d → is_offered i (story b.d life records) ≡ true
+    channel_asked : (HasRisen link.faults later.faults → ⊥) → (i : ℕ) → i < is.limit → is_offered i (story b.d life records) ≡ true
         → (list_any (asks_for b.d i) records ≡ true) ⊎ (is_held new.parts.holding.store i ≡ true)
     channel_asked unrisen i low offered = ⊎_elim
         (λ nothing. chunk_asked (λ g e. nothing g (sym fetching_same ∙ e)) i low offered)
@@ -311,8 +314,8 @@ module _ (refused : ℕ) (old new : PeerState) (link later : LinkState) (disk le
         (turns_leave a.seat 64 s.unsaid s.speaks.gathered new.speaker (record s.dialled { parts = s.turned }) s.said s.speaks.turns a.low owned had
         may_said)
 
-  -- On each channel that may be asked each chunk of the content that it offers was asked for, or is held, unless the link refused a datagram.
-  pub turn_asks : AsksOrHolds b.d (chunks_of b.d) (λ i. is_held new.parts.holding.store i) records ⊎ HasRisen link.faults later.faults
+  -- On each channel that may be asked each chunk below the limit that it offers was asked for, or is held, unless the link refused a datagram.
+  pub turn_asks : AsksOrHolds b.d is.limit (λ i. is_held new.parts.holding.store i) records ⊎ HasRisen link.faults later.faults
   turn_asks = ⊎_elim
       (λ risen. inr risen)
       (λ none. inl (λ life may i low offered.
@@ -328,9 +331,9 @@ limit_there : (o : Option FetchState) (n : ℕ) → limit_of o ≡ Some n → (f
 limit_there None n e = absurd cc
 limit_there (Some f) n e = (f, refl, same_Some f.want.limit n e)
 
--- A peer that begins, and asks for all that it lacks, keeps what others offer: nothing.
-pub begun_offers : (d : Descriptor) (p : Parts) → FetchesAll d p → HasHeld p → KeepsOffers d p []
-begun_offers d p fetches held = record { fetches = fetches; held = held; heard = none_heard d p }
+-- A peer that begins keeps what others offer: nothing.
+pub begun_offers : (d : Descriptor) (p : Parts) → HasHeld p → KeepsOffers d p []
+begun_offers d p held = record { held = held; heard = none_heard d p }
 
 -- A peer that begins to fetch asks for all that it lacks.
 pub begun_fetches : (d : Descriptor) (random : List ℕ) (asks : Option Rank) (dial : List Address) (p : PeerState) → HasBegun d random asks dial p
@@ -343,26 +346,29 @@ begun_fetches d random asks dial p begun some = of asks begun.fetching some
 
 -- A wait that was refused keeps it,
 pub refused_offers : (d : Descriptor) (p : PeerState) (past : List Record) → KeepsOffers d p.parts past → KeepsOffers d (after_refusal p).parts past
-refused_offers d p past k = record { fetches = k.fetches; held = k.held; heard = refusal_heard d p past k.heard }
+refused_offers d p past k = record { held = k.held; heard = refusal_heard d p past k.heard }
 
 -- an event does,
 pub absorbs_offers : (b : Beginning) (most : ℕ) (past : List Record) (old new : Parts) → StandsFor b most old past → IsWhole old → (event : Event)
     (bytes : List ℕ) → IsEvent event bytes → Absorbs event bytes old new → KeepsOffers b.d old past → KeepsOffers b.d new (record_of event bytes ∷ past)
 absorbs_offers b most past old new stands whole event bytes fits a k = record {
-  fetches = absorbs_limit event bytes old new a ∙ k.fetches;
   held = absorbs_held event bytes old new a k.held;
   heard = absorbs_heard b most past old new stands whole event bytes fits a k.heard;
 }
 
--- and so does a flush, which asks for what is offered.
+-- and so does a flush, which leaves the limit
+pub sends_limit : (refused : ℕ) (old new : PeerState) (link later : LinkState) (disk left : DiskState) → Sends refused old new link later disk left
+    → limit_of new.parts.fetching ≡ limit_of old.parts.fetching
+sends_limit refused old new link later disk left course =
+    ap (λ (p : Parts). limit_of p.fetching) course.rest
+    ∙ flush_limit old.dials new.dials old.speaker new.speaker refused (scene old.parts link disk) (scene course.sent later left) course.sends
+
+-- and asks for what is offered.
 module _ (refused : ℕ) (old new : PeerState) (link later : LinkState) (disk left : DiskState) (course : Sends refused old new link later disk left)
     (b : Beginning) (most : ℕ) (past : List Record) (since : b.since ≤ moment_of disk.history) (stands : StandsFor b most old.parts past)
     (keeps : KeepsOffers b.d old.parts past) where
   pub flush_offers : KeepsOffers b.d new.parts (course.flushes.added ++ past)
   flush_offers = record {
-    fetches = ap (λ (p : Parts). limit_of p.fetching) course.rest
-        ∙ flush_limit old.dials new.dials old.speaker new.speaker refused (scene old.parts link disk) (scene course.sent later left) course.sends
-        ∙ keeps.fetches;
     held = flush_held old.dials new.dials old.speaker new.speaker refused (scene old.parts link disk) (scene course.sent later left) new.parts
         course.sends course.flushes.holding course.rest keeps.held;
     heard = flush_heard refused old new link later disk left course b most past since stands keeps.heard;
@@ -372,10 +378,11 @@ module _ (refused : ℕ) (old new : PeerState) (link later : LinkState) (disk le
   waiting_then waits = subst (λ (p : Parts). HasWaiting p.holding.store p.holding.queue.waiting) (sym course.rest)
       (subst (λ (h : HoldingState). HasWaiting h.store h.queue.waiting) (sym course.flushes.holding) waits)
 
-  pub flush_asks_all : HasWaiting old.parts.holding.store old.parts.holding.queue.waiting
+  pub flush_asks_all : (n : ℕ) → HasWaiting old.parts.holding.store old.parts.holding.queue.waiting
+      → limit_of old.parts.fetching ≡ Some n → n ≤ chunks_of b.d
       → (others : ℕ → Bool) → ((i : ℕ) → is_held new.parts.holding.store i ≡ true → others i ≡ true)
-      → AsksOrHolds b.d (chunks_of b.d) others (course.flushes.added ++ past) ⊎ HasRisen link.faults later.faults
-  flush_asks_all waits others contains = ⊎_elim
+      → AsksOrHolds b.d n others (course.flushes.added ++ past) ⊎ HasRisen link.faults later.faults
+  flush_asks_all n waits is inside others contains = ⊎_elim
       (λ asks. inl (λ life may i low offered. ⊎_elim
       (λ it. inl it)
       (λ held_there. inr (contains i held_there))
@@ -387,8 +394,10 @@ module _ (refused : ℕ) (old new : PeerState) (link later : LinkState) (disk le
         held = flush_offers.held;
         fetching = there.0;
         is_fetching = there.1;
-        wants = (let limit = there.2 in omega (arith, limit));
+        limit = n;
+        wants = there.2;
+        inside = inside;
       }) flush_offers.heard)
     where
-      there : (f : FetchState) × (new.parts.fetching ≡ Some f) × (f.want.limit ≡ chunks_of b.d)
-      there = limit_there new.parts.fetching (chunks_of b.d) flush_offers.fetches
+      there : (f : FetchState) × (new.parts.fetching ≡ Some f) × (f.want.limit ≡ n)
+      there = limit_there new.parts.fetching n (sends_limit refused old new link later disk left course ∙ is)

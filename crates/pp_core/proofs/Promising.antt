@@ -1,5 +1,5 @@
 -- What a flush leaves, in the words of what a peer promises.
-use Rattle.std.proofs.Common.{◌≡◌, ℕ, ◌<◌, List, ◌∙◌, ap}
+use Rattle.std.proofs.Common.{ℕ, ◌<◌, List, ◌∙◌, ap}
 use Rattle.std.proofs.lemmas.Bool.{or_left}
 use Rattle.pp_terms.specs.disk.Disk.{DiskState}
 use Rattle.pp_terms.specs.format.Descriptor.{chunks_of}
@@ -12,13 +12,14 @@ use Rattle.pp_core.specs.Peers.{PeerState}
 use Rattle.pp_core.specs.Promising.{Promises}
 use Rattle.pp_core.specs.Turning.{scene, Sends}
 use Rattle.pp_core.proofs.Acknowledging.{turn_acknowledges}
+use Rattle.pp_core.proofs.Below.{flush_asks_below}
 use Rattle.pp_core.proofs.Closing.{flush_closes_none}
 use Rattle.pp_core.proofs.Counted.{sends_counted}
 use Rattle.pp_core.proofs.Dialled.{first_dials}
 use Rattle.pp_core.proofs.Firsts.{flush_acks, flush_unrepeated}
 use Rattle.pp_core.proofs.LatelySent.{flush_wrote}
 use Rattle.pp_core.proofs.LetsIn.{turn_lets_in}
-use Rattle.pp_core.proofs.Offered.{flush_offers, flush_asks_all}
+use Rattle.pp_core.proofs.Offered.{flush_offers, flush_asks_all, sends_limit}
 use Rattle.pp_core.proofs.Remembered.{flush_keeps, flush_taken}
 use Rattle.pp_core.proofs.Served.{flush_serves}
 use Rattle.pp_core.proofs.StaysTold.{all_below}
@@ -63,7 +64,9 @@ flush_promises refused old new link later disk left course waits some = record {
       turn_lets_in event bytes refused (record old { parts = start }) old new link later disk left absorbs course fits b most still past before was
       stands tells;
   offers = λ b most past since stands keeps. flush_offers refused old new link later disk left course b most past since stands keeps;
-  asks = λ b most past since stands keeps others contains.
-      flush_asks_all refused old new link later disk left course b most past since stands keeps waits others contains;
+  asks = λ b most past n since stands keeps is inside others contains.
+      flush_asks_all refused old new link later disk left course b most past since stands keeps n waits is inside others contains;
+  limit = sends_limit refused old new link later disk left course;
+  below = λ b most past before n stands tells is. flush_asks_below refused old new link later disk left course b most past before n stands tells is;
   keeps_up = λ b most past before stands tells keeps. flush_keeps_up refused old new link later disk left course b most past before stands keeps tells;
 }

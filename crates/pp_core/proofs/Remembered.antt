@@ -1,5 +1,5 @@
 -- What a peer knows of what it told and wrote, from one turn to the next.
-use Rattle.std.proofs.Common.{◌≡◌, ◌⊎◌, ℕ, ◌<◌, ◌≤◌, true, Option, Some, List, [], ◌∷◌, ◌++◌, length, refl, sym, ◌∙◌, ap, subst, arith}
+use Rattle.std.proofs.Common.{◌≡◌, ◌⊎◌, ℕ, ◌≤◌, true, Option, Some, List, [], ◌∷◌, ◌++◌, length, refl, sym, ◌∙◌, ap, subst, arith}
 use Rattle.pp_terms.specs.Count.{HasRisen}
 use Rattle.pp_terms.specs.disk.Disk.{DiskState, History, moment_of}
 use Rattle.pp_terms.specs.format.Descriptor.{Descriptor, chunks_of}
@@ -9,7 +9,6 @@ use Rattle.pp_terms.specs.tree.Content.{IsChunkSize}
 use Rattle.pp_traffic.specs.Keeping.{StoodThroughout}
 use Rattle.pp_promises.specs.Announced.{TellsOfHeld}
 use Rattle.pp_promises.specs.Answered.{KeepsUp}
-use Rattle.pp_promises.specs.Batches.{most_pending}
 use Rattle.pp_promises.specs.LastTurn.{sent_since}
 use Rattle.pp_outside.specs.Arrivals.{IsEvent}
 use Rattle.pp_outside.specs.Outside.{record_of}

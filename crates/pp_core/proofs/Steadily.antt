@@ -14,7 +14,6 @@ use Rattle.pp_peer.specs.Standing.{Beginning, StandsFor}
 use Rattle.pp_core.specs.Storing.{StoresWhatFits, StoresIn, CommitsTold}
 use Rattle.pp_terms.specs.format.Messages.{Message, Data, Ack, Have, Integrity, Request, Cancel, Choke, Unchoke}
 use Rattle.pp_terms.specs.tree.Book.{IsRooted}
-use Rattle.pp_terms.specs.tree.Claims.{Claim}
 use Rattle.pp_terms.specs.tree.Range.{Span}
 use Rattle.pp_tree.specs.Book.{entry}
 use Rattle.pp_counts.specs.declared.note.Note.{Note}
@@ -24,7 +23,6 @@ use Rattle.pp_outside.specs.declared.link.Event.TheVariants as events
 use Rattle.pp_lives.specs.declared.arriving.Arrival.{Arrival}
 use Rattle.pp_lives.specs.declared.arriving.Arrival.TheVariants as arrivals
 use Rattle.pp_holding.specs.Holding.{HoldingState, AreTied}
-use Rattle.pp_holding.specs.declared.queue.Ticket.{Ticket}
 use Rattle.pp_plan.specs.Told.{ToldNodes}
 use Rattle.pp_seat.specs.Lines.{inside}
 use Rattle.pp_seat.specs.Seats.{SeatState}
@@ -32,7 +30,7 @@ use Rattle.pp_desk.specs.Hearing.{HearsPart, HearsAck, HearsHave, HearsIntegrity
 use Rattle.pp_seats.specs.Hearing.{Begins, IsShown, BeginsShown, IsAnswered, Prepares}
 use Rattle.pp_seats.specs.Standing.{SeatsState, AllHold}
 use Rattle.pp_peer.specs.declared.parts.Parts.{Parts}
-use Rattle.pp_peer.specs.Messages.{Puts, TakesData, TakesOther, Does}
+use Rattle.pp_peer.specs.Messages.{TakesData, TakesOther, Does}
 use Rattle.pp_peer.specs.Events.{with_channel, with_seated, HearsArrival, TakesEvent}
 use Rattle.pp_core.specs.Paths.{path_heard, path_of}
 use Rattle.pp_core.proofs.Paths.{seat_after, heeded_beside, data_or_other}

@@ -12,7 +12,7 @@ use Rattle.pp_terms.specs.format.Descriptor.{Descriptor}
 use Rattle.pp_terms.specs.format.Messages as plain
 use Rattle.pp_terms.specs.format.Traffic.{Record, LinkState}
 use Rattle.pp_terms.specs.tree.Range.{Span}
-use Rattle.pp_promises.specs.Answered.{openings, is_choke, ChokesNone}
+use Rattle.pp_promises.specs.Answered.{is_choke, ChokesNone}
 use Rattle.pp_outside.specs.Arrivals.{IsEvent}
 use Rattle.pp_outside.specs.Outside.{address_of, record_of}
 use Rattle.pp_outside.specs.declared.link.Address.{Address}

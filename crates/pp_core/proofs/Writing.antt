@@ -18,14 +18,13 @@ use Rattle.pp_traffic.proofs.Plains.{none_from_end, at_either, first_either, pla
 use Rattle.pp_traffic.proofs.Standing.{found_since}
 use Rattle.pp_promises.specs.Answered.{is_of, writes_on, wrote_lately, KeepsUp}
 use Rattle.pp_outside.specs.Outside.{address_of}
-use Rattle.pp_channels.specs.Seats.{channel_at, is_begun, is_dialled}
+use Rattle.pp_channels.specs.Seats.{is_dialled}
 use Rattle.pp_channels.specs.Timing.{is_greeted, is_silent}
 use Rattle.pp_channels.specs.declared.channel.Channel.{Channel}
 use Rattle.pp_lives.specs.Reading.{is_waiting, is_proven, shows}
 use Rattle.pp_lives.proofs.Plainly.{in_time}
 use Rattle.pp_lives.proofs.Sent.{same_self}
 use Rattle.pp_lives.proofs.Telling.{now_later}
-use Rattle.pp_peer.specs.declared.parts.Parts.{Parts}
 use Rattle.pp_peer.specs.Flushing.{IsOurs}
 use Rattle.pp_peer.specs.Standing.{Beginning, StandsFor}
 use Rattle.pp_core.specs.Peers.{PeerState}

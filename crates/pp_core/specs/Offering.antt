@@ -1,10 +1,12 @@
 -- What other peers offer, and what of it a fetch asks for.
-use Rattle.std.specs.Prelude.{◌≡◌, ◌⊎◌, ℕ, ◌<◌, Bool, true, false, is_some, Option, Some, None, List}
+use Rattle.std.specs.Prelude.{◌≡◌, ◌⊎◌, ℕ, ◌<◌, nat_le, Bool, true, false, ◌||◌, is_some, Option, Some, None, List, [], ◌∷◌}
 use Rattle.std.specs.List.{list_any}
 use Rattle.pp_terms.specs.format.Descriptor.{Descriptor, chunks_of}
-use Rattle.pp_terms.specs.format.Traffic.{Record}
+use Rattle.pp_terms.specs.format.Messages.{Message, Request}
+use Rattle.pp_terms.specs.format.Traffic.{Record, Received, Quiet, Sent}
 use Rattle.pp_traffic.specs.Awaiting.{Awaits}
 use Rattle.pp_traffic.specs.Life.{Life}
+use Rattle.pp_traffic.specs.Past.{read}
 use Rattle.pp_traffic.specs.Plain.{IsPlainNow}
 use Rattle.pp_traffic.specs.Story.{Line, story}
 use Rattle.pp_promises.specs.Asked.{MayBeAsked, asks_for}
@@ -50,9 +52,8 @@ limit_of (Some f) = Some f.want.limit
 abbrev pub FetchesAll : Descriptor → Parts → Type 0
 FetchesAll d p = limit_of p.fetching ≡ Some (chunks_of d)
 
--- The peer asks for all chunks that it lacks, has what it holds, and keeps what others offer.
+-- The peer has what it holds, and keeps what others offer.
 pub record KeepsOffers (d : Descriptor) (p : Parts) (past : List Record) : Type 0 where
-  pub fetches : FetchesAll d p
   pub held : HasHeld p
   pub heard : OffersHeard d p past
 
@@ -60,3 +61,19 @@ pub record KeepsOffers (d : Descriptor) (p : Parts) (past : List Record) : Type 
 abbrev pub AsksOrHolds : Descriptor → ℕ → (others : ℕ → Bool) → List Record → Type 0
 AsksOrHolds d below others past = (life : Life) → MayBeAsked d life past → (i : ℕ) → i < below → is_offered i (story d life past) ≡ true
     → (list_any (asks_for d i) past ≡ true) ⊎ (others i ≡ true)
+
+-- a REQUEST among the messages asks for a chunk from number n on
+abbrev pub reaches : ℕ → List Message → Bool
+reaches n [] = false
+reaches n (Request span ∷ ms) = nat_le n span.last || reaches n ms
+reaches n (_ ∷ ms) = reaches n ms
+
+-- the record was sent, and one of it does
+abbrev pub requests_from : Descriptor → ℕ → Record → Bool
+requests_from d n (Received at sender bytes) = false
+requests_from d n (Quiet at) = false
+requests_from d n (Sent moment receiver bytes) = reaches n (read d (Sent moment receiver bytes)).messages.read
+
+-- Each REQUEST that was sent lies below chunk n.
+abbrev pub RequestsBelow : Descriptor → ℕ → List Record → Type 0
+RequestsBelow d n past = list_any (requests_from d n) past ≡ false

@@ -26,7 +26,7 @@ use Rattle.pp_peer.specs.Events.{Absorbs}
 use Rattle.pp_peer.specs.Flushing.{Scene}
 use Rattle.pp_peer.specs.Standing.{Beginning, StandsFor}
 use Rattle.pp_store.specs.Store.{is_held}
-use Rattle.pp_core.specs.Offering.{KeepsOffers, AsksOrHolds}
+use Rattle.pp_core.specs.Offering.{KeepsOffers, AsksOrHolds, limit_of, RequestsBelow}
 use Rattle.pp_core.specs.Peers.{PeerState}
 use Rattle.pp_core.specs.Remembering.{KeepsWrote, StaysUnchoked, KeepsTold, HasNoTicket, AwaitsAck, KeepsAcks, HasNoRepeat}
 use Rattle.pp_core.specs.Turning.{scene}
@@ -109,18 +109,23 @@ AcknowledgesKnown old later added = (event : Event) (bytes : List ℕ) (start : 
     → (book : LookUp) → AwaitsAck b.d book old.parts (record_of event bytes ∷ past)
     → AcknowledgesFirst b.d book (added ++ record_of event bytes ∷ past) ⊎ HasRisen old.link.faults later.faults
 
--- A fetch goes on asking for all that it lacks, and what others offer stays noted.
+-- What others offer stays noted.
 abbrev pub StaysOffering : Scene → Parts → List Record → Type 0
 StaysOffering old new added = (b : Beginning) (most : ℕ) (past : List Record) → b.since ≤ moment_of old.disk.history
     → StandsFor b most old.parts past → KeepsOffers b.d old.parts past → KeepsOffers b.d new (added ++ past)
 
--- A fetch asked on each channel that may be asked for each chunk that it offers, but for what is held, and maybe others; unless the link
--- refused a datagram.
+-- A fetch asked on each channel that may be asked for each chunk below that number that it offers, but for what is held, and maybe
+-- others; unless the link refused a datagram.
 abbrev pub AsksAll : Scene → Parts → LinkState → List Record → Type 0
-AsksAll old new later added = (b : Beginning) (most : ℕ) (past : List Record) → b.since ≤ moment_of old.disk.history
-    → StandsFor b most old.parts past → KeepsOffers b.d old.parts past
+AsksAll old new later added = (b : Beginning) (most : ℕ) (past : List Record) (n : ℕ) → b.since ≤ moment_of old.disk.history
+    → StandsFor b most old.parts past → KeepsOffers b.d old.parts past → limit_of old.parts.fetching ≡ Some n → n ≤ chunks_of b.d
     → (others : ℕ → Bool) → ((i : ℕ) → is_held new.holding.store i ≡ true → others i ≡ true)
-    → AsksOrHolds b.d (chunks_of b.d) others (added ++ past) ⊎ HasRisen old.link.faults later.faults
+    → AsksOrHolds b.d n others (added ++ past) ⊎ HasRisen old.link.faults later.faults
+
+-- Where the link tells, each REQUEST of a fetch lies below the number below which it asks for chunks.
+abbrev pub AsksBelow : Scene → List Record → Type 0
+AsksBelow old added = (b : Beginning) (most : ℕ) (past before : List Record) (n : ℕ) → StandsFor b most old.parts past
+    → old.link.traffic ≡ Some before → limit_of old.parts.fetching ≡ Some n → RequestsBelow b.d n added
 
 -- What a flush promises in which so many calls were given up, and these records went.
 pub record Promises (refused : ℕ) (old new : PeerState) (link later : LinkState) (disk left : DiskState)
@@ -141,3 +146,5 @@ pub record Promises (refused : ℕ) (old new : PeerState) (link later : LinkStat
   pub acknowledges : AcknowledgesKnown (scene old.parts link disk) later added
   pub offers : StaysOffering (scene old.parts link disk) new.parts added
   pub asks : AsksAll (scene old.parts link disk) new.parts later added
+  pub below : AsksBelow (scene old.parts link disk) added
+  pub limit : limit_of new.parts.fetching ≡ limit_of old.parts.fetching

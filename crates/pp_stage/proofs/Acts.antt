@@ -89,7 +89,7 @@ promised_on old mid new (Err e) refused is waits course promises = absurd cc
 -- The disk refused something.
 pub promised_off : (old new : Post) (result : Result (Unit {0}) DiskFault) → is_ok result ≡ false → Waits old new result → KeepsPromises false old new
 promised_off old new (Ok u) is waits = absurd cc
-promised_off old new (Err e) is waits = record { kept = waits }
+promised_off old new (Err e) is waits = record { kept = λ b taken first turned. (waits b taken first turned).stops }
 
 -- The same peer, devices and answer under other names.
 pub renamed : (goes_on went_on : Bool) (first last last' : PeerState) (link : LinkState) (old old' new new' : MemoryDisk) (over over' : MemoryLink)

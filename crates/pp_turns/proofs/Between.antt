@@ -1,5 +1,5 @@
 -- Between the two halves of a turn, and between turns: a peer may ask for chunks below another number, and its disk may be read.
-use Rattle.std.proofs.Common.{◌≡◌, ℕ, ◌≤◌, zero, suc, Option, Some, None, List, [], refl, sym, ap, subst, arith}
+use Rattle.std.proofs.Common.{◌≡◌, ℕ, ◌<◌, ◌≤◌, zero, suc, Option, Some, None, List, [], refl, sym, ap, subst, arith}
 use Rattle.std.proofs.lemmas.Option.{same_Some}
 use Rattle.pp_terms.specs.disk.Disk.{DiskState, History, moment_of}
 use Rattle.pp_terms.specs.format.Descriptor.{chunks_of}
@@ -12,13 +12,14 @@ use Rattle.pp_holding.proofs.Advancing.{advances_none, advances_twice, advances_
 use Rattle.pp_fetching.specs.Fetching.{FetchState}
 use Rattle.pp_peer.specs.Standing.{Beginning}
 use Rattle.pp_core.specs.Having.{HasJust}
-use Rattle.pp_core.specs.Offering.{limit_of, FetchesAll, KeepsOffers}
+use Rattle.pp_core.specs.Offering.{limit_of, FetchesAll, KeepsOffers, RequestsBelow}
 use Rattle.pp_core.specs.Turning.{limited, with_limit}
+use Rattle.pp_core.proofs.Below.{requests_less}
 use Rattle.pp_core.proofs.Haves.{limit_heard}
 use Rattle.pp_core.proofs.Keeping.{kept_on, limited_stands}
 use Rattle.pp_core.proofs.Unchoked.{limit_unchokes}
 use Rattle.pp_turns.specs.Turning.{Post, stock_in, IsBegun, TakesTurns}
-use Rattle.pp_turns.specs.Promising.{Stage, Ended, Came, Refused, faults_of, Tells, FailsFew, IsTelling, TakenAt, CameAt, DialsIn, HasTurned}
+use Rattle.pp_turns.specs.Promising.{Stage, Ended, Came, Refused, faults_of, Tells, FailsFew, IsTelling, TakenAt, CameAt, AskedAt, open_of, DialsIn, HasTurned}
 use Rattle.pp_turns.proofs.Limited.{absorbs_to}
 use Rattle.pp_turns.proofs.Turned.{told_before, tells_before, misses_still}
 
@@ -64,9 +65,8 @@ module _ (limit : ℕ) (b : Beginning) (first old : Post) where
     stands = limited_stands b came.most limit came.start (limited limit came.start.fetching) came.past refl came.stands;
   }
 
-  offers_then : (added : List Record) → limit ≡ chunks_of b.d → KeepsOffers b.d old.peer.parts added → KeepsOffers b.d (with_limit limit old.peer.parts) added
-  offers_then added all offers = record {
-    fetches = limit_then limit (chunks_of b.d) old.peer.parts.fetching all offers.fetches;
+  offers_then : (added : List Record) → KeepsOffers b.d old.peer.parts added → KeepsOffers b.d (with_limit limit old.peer.parts) added
+  offers_then added offers = record {
     held = held_then limit (batch_of old.peer.parts.holding) old.peer.parts.fetching offers.held;
     heard = limit_heard b.d limit old.peer.parts added offers.heard;
   }
@@ -99,10 +99,24 @@ module _ (limit : ℕ) (b : Beginning) (first old : Post) where
     idle = λ idle. ap (limited limit) (q.idle idle);
   }
 
-  -- Turns go on to have been taken when the limit changes; where the first peer asked for all that it lacked, the limit has to be that of all.
-  pub turned_limited : (stage : Stage) (n : ℕ) → (FetchesAll b.d first.peer.parts → limit ≡ chunks_of b.d) → HasTurned stage b n first old
+  -- what was asked for lies below the limit, if that doesn't fall
+  below_then : (added : List Record) (o : Option FetchState) → ((n : ℕ) → limit_of o ≡ Some n → n ≤ limit)
+      → ((n : ℕ) → limit_of o ≡ Some n → RequestsBelow b.d n added) → (n : ℕ) → limit_of (limited limit o) ≡ Some n → RequestsBelow b.d n added
+  below_then added None rises below n is = absurd cc
+  below_then added (Some f) rises below n is = subst (λ (m : ℕ). RequestsBelow b.d m added) (same_Some limit n is)
+      (requests_less b.d f.want.limit limit added (rises f.want.limit refl) (below f.want.limit refl))
+
+  asked_then : (stage : Stage) (added : List Record) → 0 < open_of stage → AskedAt stage b first (asking_below limit old) added
+  asked_then Ended added some = absurd (omega (arith, some))
+  asked_then Came added some = tt
+  asked_then Refused added some = tt
+
+  -- Turns go on to have been taken when the limit rises before the last one ends; where the first peer asked for all that it lacked, the limit
+  -- has to be that of all.
+  pub turned_limited : (stage : Stage) (n : ℕ) → 0 < open_of stage → (FetchesAll b.d first.peer.parts → limit ≡ chunks_of b.d)
+      → ((m : ℕ) → limit_of old.peer.parts.fetching ≡ Some m → m ≤ limit) → HasTurned stage b n first old
       → HasTurned stage b n first (asking_below limit old)
-  turned_limited stage n all q = record {
+  turned_limited stage n some all rises q = record {
     turns = turns_then n q.turns;
     keeps = record {
       stores = q.keeps.stores;
@@ -119,8 +133,11 @@ module _ (limit : ℕ) (b : Beginning) (first old : Post) where
       acknowledges = q.keeps.acknowledges;
       came = came_then stage q.turns.went.added q.keeps.came;
       lets_in = λ before is tells. q.keeps.lets_in before is (tells_then tells);
-      offers = λ fetches. offers_then q.turns.went.added (all fetches) (q.keeps.offers fetches);
+      offers = offers_then q.turns.went.added q.keeps.offers;
+      fetches = λ fetches. limit_then limit (chunks_of b.d) old.peer.parts.fetching (all fetches) (q.keeps.fetches fetches);
+      asked = asked_then stage q.turns.went.added some;
       asks = λ fetches tells. q.keeps.asks fetches (tells_then tells);
+      below = λ before is. below_then q.turns.went.added old.peer.parts.fetching rises (q.keeps.below before is);
     };
     lost = λ telling. q.lost (telling_then telling);
     within = q.within;
@@ -183,6 +200,11 @@ module _ (disk : DiskState) (b : Beginning) (first old : Post) (looks : KeepsAll
     stands = came.stands;
   }
 
+  asked_read : (stage : Stage) (added : List Record) → AskedAt stage b first old added → AskedAt stage b first (reading disk old) added
+  asked_read Ended added asked = asked
+  asked_read Came added asked = tt
+  asked_read Refused added asked = tt
+
   dials_read : (ended : ℕ) (stage : Stage) (addresses : List Address) (added : List Record) → DialsIn ended stage b addresses first old added
       → DialsIn ended stage b addresses first (reading disk old) added
   dials_read zero stage addresses added d = record { dials = d.dials; few = d.few }
@@ -232,9 +254,18 @@ module _ (disk : DiskState) (b : Beginning) (first old : Post) (looks : KeepsAll
       lets_in = λ before is tells. fails_later stage _ q.turns.went.added (q.keeps.lets_in before is (told tells));
       offers = q.keeps.offers;
       asks = λ fetches tells others contains. fails_later stage _ q.turns.went.added (q.keeps.asks fetches (told tells) others contains);
+      below = q.keeps.below;
+      fetches = q.keeps.fetches;
+      asked = asked_read stage q.turns.went.added q.keeps.asked;
     };
     lost = λ tells. let lost = q.lost (telling tells) in omega (arith, lost, later);
     within = q.within;
     dials = λ addresses are few before is tells ended sum.
         dials_read ended stage addresses q.turns.went.added (q.dials addresses are few before is (told tells) ended sum);
   }
+
+-- No record is added by that.
+pub added_read : (disk : DiskState) (b : Beginning) (first old : Post) (looks : KeepsAll old.disk disk) (stage : Stage) (n : ℕ) (q : HasTurned stage b n first old)
+    → (turned_read disk b first old looks stage n q).turns.went.added ≡ q.turns.went.added
+unfolding turned_read
+added_read disk b first old looks stage n q = refl

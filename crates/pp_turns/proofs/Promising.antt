@@ -1,5 +1,5 @@
 -- What turns keep of what a peer promises, turn by turn.
-use Rattle.std.proofs.Common.{◌≡◌, ◌⊎◌, inl, inr, ⊎_elim, ℕ, zero, suc, ◌+◌, ◌-◌, ◌^◌, ◌<◌, ◌≤◌, Bool, true, false, Option, Some, List, [], ◌∷◌, ◌++◌, refl, sym, ◌∙◌, ap, subst, arith}
+use Rattle.std.proofs.Common.{◌≡◌, ◌⊎◌, inl, inr, ⊎_elim, ℕ, zero, suc, ◌+◌, ◌-◌, ◌<◌, ◌≤◌, Bool, true, false, Option, Some, List, [], ◌∷◌, ◌++◌, refl, sym, ◌∙◌, subst, arith}
 use Rattle.std.specs.List.{AllByRecursion, list_any}
 use Rattle.std.proofs.lemmas.Bool.{cases_lt, cond-true, cond-false, or_parts}
 use Rattle.pp_terms.specs.disk.Disk.{DiskState, History}
@@ -26,7 +26,7 @@ use Rattle.pp_store.specs.Store.{StoreState, is_committed, is_held}
 use Rattle.pp_complete.specs.Shipped.{StoresShipped}
 use Rattle.pp_complete.proofs.Knowing.{announced_has}
 use Rattle.pp_peer.specs.Flushing.{IsOurs}
-use Rattle.pp_core.specs.Offering.{AsksOrHolds}
+use Rattle.pp_core.specs.Offering.{AsksOrHolds, requests_from}
 use Rattle.pp_core.specs.Keeping.{IsThere, IsKeeping}
 use Rattle.pp_core.specs.Peers.{PeerState}
 use Rattle.pp_core.specs.Storing.{StoresIn, CommitsTold}
@@ -201,6 +201,10 @@ each_read d book store reads held (r ∷ past) each = (
 pub gained_some : (old new : Option (List Record)) (added before : List Record) → GainsRecords old added new → old ≡ Some before
     → new ≡ Some (added ++ before)
 gained_some old new added before gained is = subst (λ (o : Option (List Record)). GainsRecords o added new) is gained
+
+pub event_below : (d : Descriptor) (n : ℕ) (event : Event) (bytes : List ℕ) → requests_from d n (record_of event bytes) ≡ false
+event_below d n (came.Datagram sender len at) bytes = refl
+event_below d n (came.Quiet at) bytes = refl
 
 pub event_open : (d : Descriptor) (event : Event) (bytes : List ℕ) → is_closing d (record_of event bytes) ≡ false
 event_open d (came.Datagram sender len at) bytes = refl

@@ -1,10 +1,10 @@
 -- Turns, one after the other.
-use Rattle.std.proofs.Common.{◌≡◌, ◌⊎◌, inl, inr, ⊎_elim, ℕ, zero, suc, ◌+◌, ◌<◌, ◌≤◌, Bool, true, false, ◌||◌, Some, List, [], ◌∷◌, ◌++◌, length, take, Result, Ok, Err, OnOk, refl, sym, ◌∙◌, ap, subst, arith}
+use Rattle.std.proofs.Common.{◌≡◌, ◌⊎◌, inl, inr, ⊎_elim, ℕ, zero, suc, ◌+◌, ◌<◌, ◌≤◌, Bool, true, false, ◌||◌, Some, List, [], ◌∷◌, ◌++◌, length, take, refl, sym, ◌∙◌, ap, subst, arith}
 use Rattle.std.specs.Prelude.{is_some}
 use Rattle.std.specs.List.{AllByRecursion, list_any}
 use Rattle.std.proofs.lemmas.List.{length-take-le, take-take}
 use Rattle.std.proofs.lemmas.List.Folds.{list_any-append}
-use Rattle.pp_terms.specs.Count.{HasRisen, HasCause, capped, one_more}
+use Rattle.pp_terms.specs.Count.{HasRisen, capped, one_more}
 use Rattle.pp_terms.specs.disk.Disk.{DiskState, History, moment_of}
 use Rattle.pp_terms.specs.format.Descriptor.{Descriptor}
 use Rattle.pp_terms.specs.format.Messages.{Datagram}
@@ -19,7 +19,6 @@ use Rattle.pp_promises.specs.Datagrams as promised
 use Rattle.pp_counts.specs.declared.counts.Counts.{Counts}
 use Rattle.pp_outside.specs.Outside.{address_of, record_of, size_of, FitsIn}
 use Rattle.pp_outside.specs.Arrivals.{IsEvent}
-use Rattle.pp_outside.specs.declared.disk.DiskFault.{DiskFault}
 use Rattle.pp_outside.specs.declared.link.Event.{Event}
 use Rattle.pp_outside.specs.declared.link.Event.TheVariants as came
 use Rattle.pp_complete.specs.Shipped.{StoresShipped}
@@ -258,6 +257,14 @@ stops_event event bytes n b first old new k hard q closes_none = record {
   hard = risen_less first.disk.hard old.disk.hard new.disk.hard q.went.advances.disk.hard hard;
   closes_none = λ before is. ap (λ (x : Bool). x || list_any (is_closing b.d) q.went.added) (event_open b.d event bytes) ∙ closes_none before is;
 }
+
+pub event_stopped : (event : Event) (bytes : List ℕ) (n : ℕ) (b : Beginning) (first old new : Post)
+    → (k : Kept (record_of event bytes) (with_event event bytes old.peer.parts.counts) old new) → (hard : HasRisen old.disk.hard new.disk.hard)
+    → (q : TakesTurns b n first old)
+    → (closes_none : (before : List Record) → first.link.traffic ≡ Some before → list_any (is_closing b.d) q.went.added ≡ false)
+    → (stops_event event bytes n b first old new k hard q closes_none).went.added ≡ record_of event bytes ∷ q.went.added
+unfolding stops_event went_event
+event_stopped event bytes n b first old new k hard q closes_none = refl
 
 -- a wait that gave an event, which lies at the front of the buffer
 module _ (event : Event) (buffer : List ℕ) (n : ℕ) (old new : Post) (is : n ≡ size_of event) (whole : length buffer ≡ 65536) (fits : FitsIn event buffer) where

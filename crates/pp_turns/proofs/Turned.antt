@@ -32,7 +32,7 @@ use Rattle.pp_peer.specs.Flushing.{IsOurs}
 use Rattle.pp_peer.specs.Standing.{Beginning, StandsFor}
 use Rattle.pp_complete.specs.Shipped.{StoresShipped}
 use Rattle.pp_store.specs.Store.{StoreState, is_committed, is_held}
-use Rattle.pp_core.specs.Offering.{FetchesAll, KeepsOffers, AsksOrHolds}
+use Rattle.pp_core.specs.Offering.{limit_of, FetchesAll, KeepsOffers, AsksOrHolds, requests_from, RequestsBelow}
 use Rattle.pp_core.specs.Peers.{PeerState}
 use Rattle.pp_core.specs.Promising.{IsFoundIn, Promises}
 use Rattle.pp_core.specs.Remembering.{KeepsWrote, StaysUnchoked, KeepsTold, HasNoTicket, AwaitsAck, KeepsAcks, HasNoRepeat}
@@ -42,6 +42,7 @@ use Rattle.pp_core.specs.Turning.{Sends, after_refusal}
 use Rattle.pp_core.proofs.Dialled.{misses_more}
 use Rattle.pp_core.proofs.FirstTurn.{events_few}
 use Rattle.pp_core.proofs.LatelySent.{refused_wrote}
+use Rattle.pp_core.proofs.Limits.{absorbs_limit}
 use Rattle.pp_core.proofs.Offered.{begun_offers, refused_offers}
 use Rattle.pp_core.proofs.Promising.{keeping_reads}
 use Rattle.pp_core.proofs.Remembered.{refused_keeps}
@@ -49,8 +50,8 @@ use Rattle.pp_core.proofs.Unchoked.{refusal_unchokes}
 use Rattle.pp_turns.specs.Promising.{Stage, Ended, Came, Refused, faults_of, Tells, FailsFew, IsTelling, IsCalmLink, EndsAll, HasCome, Keeps, open_of, HasDialled, DialsIn, HasTurned}
 use Rattle.pp_turns.specs.Taking.{TakesTurn, Waits, Finishes}
 use Rattle.pp_turns.specs.Turning.{Post, IsBegun, TakesTurns}
-use Rattle.pp_turns.proofs.Promising.{each_grows, each_ships, each_sent, commits_told, fails_event, fails_refused, fails_sent, fails_sent_late, fails_none, owes_none, keeps_none, tells_none, acknowledges_none, asks_none, ends_before, ends_sent, event_last, gained_some, event_open}
-use Rattle.pp_turns.proofs.Steps.{Kept, Absorbed, turns_none, none_turned, turns_event, event_turned, sent_none, stops_event, turns_refused, refused_turned, turns_flushed, flushed_turned}
+use Rattle.pp_turns.proofs.Promising.{each_grows, each_ships, each_sent, commits_told, fails_event, fails_refused, fails_sent, fails_sent_late, fails_none, owes_none, keeps_none, tells_none, acknowledges_none, asks_none, ends_before, ends_sent, event_last, gained_some, event_open, event_below}
+use Rattle.pp_turns.proofs.Steps.{Kept, Absorbed, turns_none, none_turned, turns_event, event_turned, sent_none, stops_event, event_stopped, turns_refused, refused_turned, turns_flushed, flushed_turned}
 
 -- ---- what was refused
 
@@ -127,14 +128,22 @@ turned_none b p begun = turned_as Ended 0 b p p (turns_none b p begun) [] 0 (non
       acknowledges = λ before is calm book keeps. inl (acknowledges_none b.d book, tt);
       came = tt;
       lets_in = λ before is tells. fails_none p (LetsIn b.d) refl;
-      offers = λ fetches. begun_offers b.d p.peer.parts fetches begun.held;
+      offers = begun_offers b.d p.peer.parts begun.held;
+      fetches = λ fetches. fetches;
+      asked = λ calm m limit inside others contains. asks_none b.d m others;
       asks = λ fetches tells others contains. fails_none p (AsksOrHolds b.d (chunks_of b.d) others) (asks_none b.d (chunks_of b.d) others);
+      below = λ before is n limit. refl;
     })
     (λ telling. omega arith) (omega arith) dials
   where
     dials : DialsOn Ended 0 b p p []
     dials addresses are few before is tells zero sum = record { dials = refl; few = omega arith }
     dials addresses are few before is tells (suc n) sum = absurd (omega (arith, sum))
+
+-- no record was added
+pub none_yet : (b : Beginning) (p : Post) → (begun : IsBegun b p) → (turned_none b p begun).turns.went.added ≡ []
+unfolding turned_none turned_as
+none_yet b p begun = (none_turned b p begun).0
 
 -- ---- an event came
 
@@ -187,9 +196,13 @@ turned_event event bytes n b first old new k a q =
       };
       lets_in = λ traffic is tells. fails_event first old new (LetsIn b.d) event bytes q.turns.went.added later
           (q.keeps.lets_in traffic is (told_before old new k.later disk tells));
-      offers = λ fetches. a.offers b q.turns.refused q.turns.went.added q.turns.stands (q.keeps.offers fetches);
+      offers = a.offers b q.turns.refused q.turns.went.added q.turns.stands q.keeps.offers;
+      fetches = λ fetches. absorbs_limit event bytes old.peer.parts new.peer.parts a.exact ∙ q.keeps.fetches fetches;
+      asked = tt;
       asks = λ fetches tells others contains. fails_event first old new (AsksOrHolds b.d (chunks_of b.d) others) event bytes q.turns.went.added later
           (q.keeps.asks fetches (told_before old new k.later disk tells) others (λ i is. contains i (k.advanced.advances.held i is)));
+      below = λ traffic is m limit. λ i. event_below b.d m event bytes i
+          || q.keeps.below traffic is m (sym (absorbs_limit event bytes old.peer.parts new.peer.parts a.exact) ∙ limit) i;
     })
     (λ telling. let lost = q.lost (before telling) in omega (arith, lost, later)) (omega arith) dials
   where
@@ -241,7 +254,13 @@ pub waits_event : (event : Event) (bytes : List ℕ) (old new : Post) (result : 
 waits_event event bytes old new (Ok u) fits dials k exact stands proves ships wrote unchoked told acks offers live cause b taken first q = inl
     (turned_event event bytes taken b first old new k (record { fits = fits; dials = dials; exact = exact; stands = stands; proves = proves; ships = ships; wrote = wrote; unchoked = unchoked; told = told; acks = acks; offers = offers; live = live q.turns.live }) q)
 waits_event event bytes old new (Err fault) fits dials k exact stands proves ships wrote unchoked told acks offers live cause b taken first q =
-    stops_event event bytes taken b first old new k ((cause q.turns.live).risen refl) q.turns q.keeps.closes_none
+    let hard = (cause q.turns.live).risen refl in
+    record {
+      stops = stops_event event bytes taken b first old new k hard q.turns q.keeps.closes_none;
+      below = λ traffic is m limit. subst (λ (rs : List Record). RequestsBelow b.d m rs)
+          (sym (event_stopped event bytes taken b first old new k hard q.turns q.keeps.closes_none))
+          (λ i. event_below b.d m event bytes i || q.keeps.below traffic is m limit i);
+    }
 
 -- ---- the wait was refused
 
@@ -283,11 +302,14 @@ waits_refused old new u peer disk traffic nexts bound later risen stands b taken
       came = tt;
       lets_in = λ traffic is tells. fails_refused first old new (LetsIn b.d) q.turns.went.added (rises tells)
           (q.keeps.lets_in traffic is (told_before old new later (omega (arith, same)) tells));
-      offers = λ fetches. subst (λ (p : PeerState). KeepsOffers b.d p.parts q.turns.went.added) (sym peer)
-          (refused_offers b.d old.peer q.turns.went.added (q.keeps.offers fetches));
+      offers = subst (λ (p : PeerState). KeepsOffers b.d p.parts q.turns.went.added) (sym peer)
+          (refused_offers b.d old.peer q.turns.went.added q.keeps.offers);
+      fetches = λ fetches. ap (λ (p : PeerState). limit_of p.parts.fetching) peer ∙ q.keeps.fetches fetches;
+      asked = tt;
       asks = λ fetches tells others contains. fails_refused first old new (AsksOrHolds b.d (chunks_of b.d) others) q.turns.went.added (rises tells)
           (q.keeps.asks fetches (told_before old new later (omega (arith, same)) tells) others
           (λ i is. contains i (subst (λ (p : PeerState). is_held p.parts.holding.store i ≡ true) (sym peer) is)));
+      below = λ traffic is m limit. q.keeps.below traffic is m (sym (ap (λ (p : PeerState). limit_of p.parts.fetching) peer) ∙ limit);
     })
     (λ telling. let lost = q.lost (before telling) in let lt = rises telling.tells in omega (arith, lost, lt)) (omega arith) dials
     )
@@ -400,8 +422,16 @@ module _ (stage : Stage) (n : ℕ) (b : Beginning) (first old new : Post) (refus
       (subst (λ (rs : List Record). StandsFor b q.turns.refused old.peer.parts rs) came.behind q.turns.stands)
       (gained_some first.link.traffic old.link.traffic q.turns.went.added traffic q.turns.went.gained is))
 
-  offers_then : FetchesAll b.d first.peer.parts → KeepsOffers b.d new.peer.parts all
-  offers_then fetches = promises.offers b q.turns.refused q.turns.went.added q.turns.went.past q.turns.stands (q.keeps.offers fetches)
+  offers_then : KeepsOffers b.d new.peer.parts all
+  offers_then = promises.offers b q.turns.refused q.turns.went.added q.turns.went.past q.turns.stands q.keeps.offers
+
+  asked_then : IsCalmLink first new → (m : ℕ) → limit_of new.peer.parts.fetching ≡ Some m → m ≤ chunks_of b.d → (others : ℕ → Bool)
+      → ((i : ℕ) → is_held new.peer.parts.holding.store i ≡ true → others i ≡ true) → AsksOrHolds b.d m others all
+  asked_then calm m limit inside others contains = ⊎_elim
+      (λ asks. asks)
+      (λ risen. absurd (calm (risen_less first.link.faults old.link.faults new.link.faults q.turns.went.later risen)))
+      (promises.asks b q.turns.refused q.turns.went.added m q.turns.went.past q.turns.stands q.keeps.offers (sym promises.limit ∙ limit) inside
+      others contains)
 
   asks_now : FetchesAll b.d first.peer.parts → Tells new → (others : ℕ → Bool)
       → ((i : ℕ) → is_held new.peer.parts.holding.store i ≡ true → others i ≡ true)
@@ -409,7 +439,18 @@ module _ (stage : Stage) (n : ℕ) (b : Beginning) (first old new : Post) (refus
   asks_now fetches tells others contains = ⊎_elim
       (λ asks. inl asks)
       (λ risen. inr (let lt = risen tells.link in omega (arith, lt, disk)))
-      (promises.asks b q.turns.refused q.turns.went.added q.turns.went.past q.turns.stands (q.keeps.offers fetches) others contains)
+      (promises.asks b q.turns.refused q.turns.went.added (chunks_of b.d) q.turns.went.past q.turns.stands q.keeps.offers
+      (q.keeps.fetches fetches) (omega arith) others contains)
+
+  below : (traffic : List Record) → first.link.traffic ≡ Some traffic → (m : ℕ) → limit_of new.peer.parts.fetching ≡ Some m
+      → RequestsBelow b.d m all
+  below traffic is m limit =
+      let was : limit_of old.peer.parts.fetching ≡ Some m = sym promises.limit ∙ limit in
+      list_any-append (requests_from b.d m) course.flushes.added q.turns.went.added
+      ∙ ap (λ (x : Bool). x || list_any (requests_from b.d m) q.turns.went.added)
+      (promises.below b q.turns.refused q.turns.went.added (q.turns.went.added ++ traffic) m q.turns.stands
+      (gained_some first.link.traffic old.link.traffic q.turns.went.added traffic q.turns.went.gained is) was)
+      ∙ q.keeps.below traffic is m was
 
   -- what was held before is held
   held_then : (i : ℕ) → is_held old.peer.parts.holding.store i ≡ true → is_held new.peer.parts.holding.store i ≡ true
@@ -526,6 +567,9 @@ sent_as stage n b first old new refused course promises q serves keeps_up lets_i
       told = keeps_told stage n b first old new refused course promises q;
       taken = (promises.taken, promises.unrepeated);
       tells = tells;
+      below = below stage n b first old new refused course promises q;
+      asked = asked_then stage n b first old new refused course promises q;
+      fetches = λ fetches. promises.limit ∙ q.keeps.fetches fetches;
       acks = keeps_acks stage n b first old new refused course promises q;
       acknowledges = acknowledges;
       came = tt;

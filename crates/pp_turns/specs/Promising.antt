@@ -25,7 +25,7 @@ use Rattle.pp_peer.specs.Standing.{Beginning, StandsFor}
 use Rattle.pp_complete.specs.Shipped.{StoresShipped}
 use Rattle.pp_store.specs.Store.{is_committed, is_held}
 use Rattle.pp_core.specs.Keeping.{IsKeeping}
-use Rattle.pp_core.specs.Offering.{FetchesAll, KeepsOffers, AsksOrHolds}
+use Rattle.pp_core.specs.Offering.{limit_of, FetchesAll, KeepsOffers, AsksOrHolds, RequestsBelow}
 use Rattle.pp_core.specs.Promising.{IsFoundIn, MissesFew}
 use Rattle.pp_core.specs.Remembering.{KeepsWrote, StaysUnchoked, KeepsTold, HasNoTicket, KeepsAcks, HasNoRepeat}
 use Rattle.pp_core.specs.Storing.{StoresIn}
@@ -110,6 +110,15 @@ CameAt Came b new added = HasCome b new added
 CameAt Ended b new added = Unit {0}
 CameAt Refused b new added = Unit {0}
 
+-- Where the last turn ended, and the link refused nothing: a fetch asked on each channel on which it may for each chunk below the
+-- limit that it offers, but for what is held, and maybe others.
+abbrev pub AskedAt : Stage → Beginning → Post → Post → List Record → Type 0
+AskedAt Ended b first new added = IsCalmLink first new → (n : ℕ) → limit_of new.peer.parts.fetching ≡ Some n → n ≤ chunks_of b.d
+    → (others : ℕ → Bool) → ((i : ℕ) → is_held new.peer.parts.holding.store i ≡ true → others i ≡ true)
+    → AsksOrHolds b.d n others added
+AskedAt Came b first new added = Unit {0}
+AskedAt Refused b first new added = Unit {0}
+
 -- Chunks that come on a plain channel and are proved by what its peer claims are held. No channel was closed, as far as the link
 -- tells. Of the channels that may be served none is left more chunks that it was told of, and asked for, than something was
 -- refused. And on each plain channel a datagram went lately, the newcomer of a turn was let in, and nobody is choked while there
@@ -141,11 +150,16 @@ pub record Keeps (stage : Stage) (b : Beginning) (first new : Post) (added : Lis
       → KeepsEntries (entry new.peer.parts.holding.book) book → EndsAll stage (AcknowledgesFirst b.d book) added
   pub came : CameAt stage b new added
   pub lets_in : (before : List Record) → first.link.traffic ≡ Some before → Tells new → FailsFew stage first new (LetsIn b.d) added
-  -- what others offer to a peer that asks for all that it lacks
-  pub offers : FetchesAll b.d first.peer.parts → KeepsOffers b.d new.peer.parts added
+  -- what others offer
+  pub offers : KeepsOffers b.d new.peer.parts added
+  pub fetches : FetchesAll b.d first.peer.parts → FetchesAll b.d new.peer.parts
   pub asks : FetchesAll b.d first.peer.parts → Tells new → (others : ℕ → Bool)
       → ((i : ℕ) → is_held new.peer.parts.holding.store i ≡ true → others i ≡ true)
       → FailsFew stage first new (AsksOrHolds b.d (chunks_of b.d) others) added
+  pub asked : AskedAt stage b first new added
+  -- each REQUEST lies below the number below which the peer asks for chunks now
+  pub below : (before : List Record) → first.link.traffic ≡ Some before → (n : ℕ) → limit_of new.peer.parts.fetching ≡ Some n
+      → RequestsBelow b.d n added
 
 -- ---- whom it dials
 

@@ -1,9 +1,11 @@
 -- What a turn comes to, and many turns.
-use Rattle.std.specs.Prelude.{◌≡◌, ◌⊎◌, ℕ, ◌+◌, ◌<◌, ◌≤◌, Bool, true, false, length, Result, Ok, Err}
+use Rattle.std.specs.Prelude.{◌≡◌, ◌⊎◌, ℕ, ◌+◌, ◌<◌, ◌≤◌, Bool, true, false, Some, List, length, Result, Ok, Err}
 use Rattle.pp_terms.specs.format.Descriptor.{chunks_of}
+use Rattle.pp_terms.specs.format.Traffic.{Record}
 use Rattle.pp_traffic.specs.Committed.{is_in}
 use Rattle.pp_outside.specs.declared.disk.DiskFault.{DiskFault}
 use Rattle.pp_peer.specs.Standing.{Beginning}
+use Rattle.pp_core.specs.Offering.{limit_of, RequestsBelow}
 use Rattle.pp_core.specs.Peers.{PeerState}
 use Rattle.pp_core.specs.Turning.{Closes}
 use Rattle.pp_turns.specs.Turning.{Post, Stops}
@@ -19,14 +21,20 @@ abbrev pub TakesTurn : Post → Post → Result (Unit {0}) DiskFault → Type 0
 TakesTurn old new result =
     (b : Beginning) (taken : ℕ) (first : Post) → HasTurned Ended b taken first old → TurnsTo b (taken + 1) first new result
 
--- What the wait of a turn came to: an event was taken, or the link refused to wait.
-abbrev pub WaitsTo : Beginning → ℕ → Post → Post → Result (Unit {0}) DiskFault → Type 0
-WaitsTo b taken old new (Ok _) = HasTurned Came b taken old new ⊎ HasTurned Refused b taken old new
-WaitsTo b taken old new (Err _) = Stops b taken old new
+-- The disk refused something in the turn behind a post; each REQUEST lay below the number below which its peer asked for chunks.
+pub record StopsBehind (b : Beginning) (taken : ℕ) (first old new : Post) : Type 0 where
+  pub stops : Stops b taken first new
+  pub below : (before : List Record) → first.link.traffic ≡ Some before → (n : ℕ) → limit_of old.peer.parts.fetching ≡ Some n
+      → RequestsBelow b.d n stops.went.added
+
+-- What the wait of a turn behind a post came to: an event was taken, or the link refused to wait.
+abbrev pub WaitsTo : Beginning → ℕ → Post → Post → Post → Result (Unit {0}) DiskFault → Type 0
+WaitsTo b taken first old new (Ok _) = HasTurned Came b taken first new ⊎ HasTurned Refused b taken first new
+WaitsTo b taken first old new (Err _) = StopsBehind b taken first old new
 
 abbrev pub Waits : Post → Post → Result (Unit {0}) DiskFault → Type 0
 Waits old new result =
-    (b : Beginning) (taken : ℕ) (first : Post) → HasTurned Ended b taken first old → WaitsTo b (taken + 1) first new result
+    (b : Beginning) (taken : ℕ) (first : Post) → HasTurned Ended b taken first old → WaitsTo b (taken + 1) first old new result
 
 -- What was due was sent, which ends the turn, whatever its wait came to.
 abbrev pub Finishes : Post → Post → Type 0

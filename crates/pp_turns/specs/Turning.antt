@@ -1,17 +1,15 @@
 -- What a peer does in turns: each waits once for a datagram, takes what came, and sends what is due.
-use Rattle.std.specs.Prelude.{◌≡◌, ℕ, ◌+◌, ◌<◌, ◌≤◌, Bool, true, false, Some, None, List, [], length, Result, Ok, Err}
+use Rattle.std.specs.Prelude.{◌≡◌, ℕ, ◌<◌, ◌≤◌, true, false, Some, None, List, []}
 use Rattle.std.specs.List.{AllByRecursion, list_any}
 use Rattle.pp_terms.specs.Count.{HasRisen, capped}
 use Rattle.pp_terms.specs.disk.Disk.{DiskState, moment_of}
-use Rattle.pp_terms.specs.format.Descriptor.{chunks_of}
 use Rattle.pp_terms.specs.format.Traffic.{LinkState, Record, GainsRecords}
 use Rattle.pp_terms.specs.tree.Book.{LookUp}
-use Rattle.pp_traffic.specs.Committed.{is_in, RequestsNone}
+use Rattle.pp_traffic.specs.Committed.{RequestsNone}
 use Rattle.pp_traffic.specs.Tallied.{TookTurns}
 use Rattle.pp_traffic.specs.Turns.{is_closing}
 use Rattle.pp_promises.specs.Datagrams.{IsWhole}
 use Rattle.pp_counts.specs.Counts.{no_counts}
-use Rattle.pp_outside.specs.declared.disk.DiskFault.{DiskFault}
 use Rattle.pp_holding.specs.Holding.{stock_of}
 use Rattle.pp_holding.specs.Stock.{Stock, Advances}
 use Rattle.pp_peer.specs.Standing.{Beginning, Ledger, StandsFor}
@@ -19,7 +17,6 @@ use Rattle.pp_core.specs.Peers.{PeerState}
 use Rattle.pp_core.specs.Having.{HasHeld}
 use Rattle.pp_core.specs.Keeping.{IsKeeping}
 use Rattle.pp_core.specs.Remembering.{KeepsWrote, StaysUnchoked, KeepsTold, HasNoTicket, KeepsAcks, HasNoRepeat}
-use Rattle.pp_core.specs.Turning.{Closes}
 
 -- a peer with its devices, at one time
 pub record Post : Type 0 where

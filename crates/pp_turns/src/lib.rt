@@ -4,4 +4,4 @@
 
 mod turning;
 
-pub use turning::{finish_turn, hear, take_turn, take_turns};
+pub use turning::{WAIT_US, finish_turn, hear, take_turn, take_turns};

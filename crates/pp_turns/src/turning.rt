@@ -8,6 +8,7 @@ ghost use Rattle.pp_scan.specs.Look.{KeepsAll};
 ghost use Rattle.pp_holding.specs.Holding.{stock_of};
 ghost use Rattle.pp_holding.specs.Stock.{Advances};
 ghost use Rattle.pp_peer.specs.Standing.{Beginning};
+ghost use Rattle.pp_core.specs.Offering.{limit_of};
 ghost use Rattle.pp_turns.specs.Taking.{TakesTurn, Waits, Finishes, TurnsEnd, HasAll, LacksSome};
 ghost use Rattle.pp_turns.specs.Turning.{post, IsBegun};
 
@@ -15,7 +16,7 @@ use pp_core::Peer;
 use pp_outside::{Disk, DiskFault, Event, Link, LinkFault};
 
 /// How long a turn waits, in microseconds.
-const WAIT_US: u64 = 100_000;
+pub const WAIT_US: u64 = 100_000;
 
 /// Takes so many turns; a peer that fetches takes none more once all its chunks are committed. The buffer has 65,536 bytes, room for any
 /// datagram. A fault of the disk ends the turns: after it the peer isn't live, and nothing is sent.
@@ -84,6 +85,8 @@ pub fn hear<D: Disk>(
     // Only where the disk refused a write or a sync it answers a fault.
     ensures cause { peer.old.parts.holding.store.live ≡ true → HasCause (D.state disk.old).hard (D.state disk.new).hard result }
     ensures live { peer.old.parts.holding.store.live ≡ true → OnOk result (peer.new.parts.holding.store.live ≡ true) }
+    // The number below which the peer asks for chunks stays.
+    ensures limit { OnOk result (limit_of peer.new.parts.fetching ≡ limit_of peer.old.parts.fetching) }
 {
     match came {
         Ok(event) => peer.absorb(&event, &buffer[..size(&event)], disk),
@@ -102,6 +105,7 @@ pub fn finish_turn<D: Disk, L: Link>(peer: &mut Peer, disk: &mut D, link: &mut L
     ensures store { peer.new.parts.holding.store ≡ peer.old.parts.holding.store }
     ensures book { peer.new.parts.holding.book ≡ peer.old.parts.holding.book }
     ensures reads { KeepsAll (D.state disk.old) (D.state disk.new) }
+    ensures limit { limit_of peer.new.parts.fetching ≡ limit_of peer.old.parts.fetching }
 {
     peer.flush(disk, link);
 }

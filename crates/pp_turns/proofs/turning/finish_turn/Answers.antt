@@ -21,3 +21,6 @@ returns-clause-book g c =
 
 pub returns-clause-reads : goal.returns-clause-reads
 returns-clause-reads g c = c.flush.ensures.exact.1.flushes.reads
+
+pub returns-clause-limit : goal.returns-clause-limit
+returns-clause-limit g c = c.flush.ensures.exact.2.limit

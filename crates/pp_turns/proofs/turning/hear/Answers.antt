@@ -5,7 +5,9 @@ use Rattle.pp_outside.specs.declared.link.LinkFault.{LinkFault}
 use Rattle.pp_holding.specs.Holding.{stock_of}
 use Rattle.pp_holding.specs.Stock.{Advances}
 use Rattle.pp_holding.proofs.Advancing.{advances_none}
+use Rattle.pp_core.specs.Offering.{limit_of}
 use Rattle.pp_core.specs.Peers.{PeerState}
+use Rattle.pp_core.proofs.Limits.{absorbs_on}
 use Rattle.pp_turns.specs.Turning.{Post, post}
 use Rattle.pp_turns.proofs.Steps.{bytes_fit, gained_event}
 use Rattle.pp_turns.proofs.Turned.{waits_event, waits_refused}
@@ -45,3 +47,10 @@ pub returns-in-Err-clause-advances : goal.returns-in-Err-clause-advances
 returns-in-Err-clause-advances g c =
     subst (λ (p : PeerState). Advances (stock_of c.args.peer.now.parts.holding (g.D.Disk.state c.args.disk.now)) (stock_of p.parts.holding (g.D.Disk.state c.args.disk.now)))
     (sym c.refused.ensures.exact) (advances_none (stock_of c.args.peer.now.parts.holding (g.D.Disk.state c.args.disk.now)))
+
+pub returns-in-Ok-clause-limit : goal.returns-in-Ok-clause-limit
+returns-in-Ok-clause-limit g c =
+    absorbs_on c.in-Ok.event _ c.args.peer.now.parts c.absorb.new.self.parts c.absorb.result c.absorb.ensures.exact
+
+pub returns-in-Err-clause-limit : goal.returns-in-Err-clause-limit
+returns-in-Err-clause-limit g c = ap (λ (p : PeerState). limit_of p.parts.fetching) c.refused.ensures.exact
