@@ -9,6 +9,8 @@ mod lives;
 #[cfg(test)]
 mod reports;
 #[cfg(test)]
+mod stories;
+#[cfg(test)]
 mod traffic;
 #[cfg(test)]
 mod windows;

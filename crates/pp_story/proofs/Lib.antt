@@ -1,0 +1,5 @@
+pub mod Written
+pub mod Telling
+pub mod Standings
+pub mod Steps
+pub mod Messages

@@ -1,0 +1,12 @@
+pub mod Parts
+pub mod Descent
+pub mod BackedChunks
+pub mod ClimbSteps
+pub mod LastPeaks
+pub mod ClimbBooks
+pub mod LastSizes
+pub mod SizedClashes
+pub mod LearnedSizes
+pub mod Weighing
+pub mod NameForms
+pub mod TargetReadings

@@ -1,0 +1,9 @@
+pub mod Target
+pub mod Depth
+pub mod ClimbBook
+pub mod Law
+pub mod Names
+pub mod Learn
+pub mod TargetText
+pub mod TargetRead
+pub mod NameWords
