@@ -80,7 +80,9 @@ impl Ending<'_> {
     pub(crate) fn is_told(&self) -> bool {
         match self.status {
             Status::Done => self.lacks_its_store(),
-            Status::NotAStore => self.is_of("export") || self.is_of("upgrade"),
+            Status::NotAStore => self.is_of("export")
+                || self.is_of("upgrade")
+                || self.is_of("play"),
             _ => true,
         }
     }

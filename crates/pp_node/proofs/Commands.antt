@@ -2,7 +2,7 @@
 use Rattle.std.proofs.Common.{◌≡◌, ◌⊎◌, ℕ, ◌+◌, List, [], ◌∷◌, codes, refl, sym, ◌∙◌, subst}
 use Rattle.pp_terms.specs.command.Order.{Order}
 use Rattle.pp_words.specs.Commands.{Command, Import, Seed, Fetch, Check, Export, Upgrade, Replay, Rehearse, Play, Record, Audit}
-use Rattle.pp_words.specs.CommandLine.{Spells, IsImport, IsSeed, IsFetch, IsOnStore, IsRehearse, IsOneOf, IsFirstWrong}
+use Rattle.pp_words.specs.CommandLine.{Spells, IsImport, IsSeed, IsFetch, IsPlay, IsOnStore, IsRehearse, IsOneOf, IsFirstWrong}
 use Rattle.pp_terms.specs.command.Stream.{SourceState, SinkState}
 use Rattle.pp_words.specs.Usage as wrong
 use Rattle.pp_terms.specs.disk.Disk.{DiskState, IsKnown, GainsName}
@@ -17,6 +17,7 @@ use Rattle.pp_node.specs.Looking.{IsUnwritten, Lasts}
 use Rattle.pp_node.specs.Outside.{Outside, outside}
 use Rattle.pp_node.specs.Checking.{ChecksIn, CheckEnds}
 use Rattle.pp_node.specs.Exporting.{ExportsIn, ExportEnds}
+use Rattle.pp_node.specs.Playing.{PlaysIn, PlayEnds}
 use Rattle.pp_node.specs.Promising.{PeerWords, SeedsIn, SeedEnds, FetchesIn, FetchEnds}
 use Rattle.pp_world.specs.Rehearsal.{first_words, rehearsal_key, rehearsal_text}
 use Rattle.pp_world.specs.Schedule.{most_text}
@@ -91,6 +92,10 @@ module _ (words : List (List ℕ)) (command : Command) (status : Status) (result
       → FetchEnds result w peers old new
   fetch_ends w order peers spelled = ended_as (Fetch w.store w.descriptor w.listen w.turns order peers) spelled
 
+  pub play_ends : (w : PeerWords) (window : ℕ) (peers : List Address) → IsPlay words w.store w.descriptor w.listen w.turns window peers
+      → PlayEnds result w window peers old new
+  play_ends w window peers spelled = ended_as (Play w.store w.descriptor w.listen w.turns window peers) spelled
+
   pub check_ends : (store : List ℕ) (descriptor : Descriptor) → IsOnStore (codes "check") words store descriptor
       → CheckEnds result store descriptor old new
   check_ends store descriptor spelled = ended_as (Check store descriptor) spelled
@@ -144,7 +149,9 @@ never Replay number old new one end =
     (subst (λ (s : Status). ReplaysIn s old.source new.source old.sink new.sink) (usage_only end.status (sym end.number ∙ one)) end.ends).plays
 never (Rehearse n) number old new one end =
     subst (λ (s : Status). PlaysText (rehearsal_text (first_words 2002 (rehearsal_key n))) s old.sink new.sink) (usage_only end.status (sym end.is_number ∙ one)) end.ends
-never (Play store descriptor listen turns window peers) number old new one end = end
+never (Play store descriptor listen turns window peers) number old new one end =
+    subst (λ (s : Status). PlaysIn s (record { store = store; descriptor = descriptor; listen = listen; turns = turns }) window peers old new end.run.added)
+    (usage_only end.run.status (sym end.run.number ∙ one)) end.ends
 never (Record peer life) number old new one end = end
 never Audit number old new one end = end
 

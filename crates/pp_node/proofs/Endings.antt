@@ -16,11 +16,10 @@ use Rattle.pp_tree.specs.Book.{entry}
 use Rattle.pp_avail.specs.declared.ranker.Rank.{Rank}
 use Rattle.pp_core.specs.Offering.{FetchesAll}
 use Rattle.pp_core.specs.Peers.{PeerState}
-use Rattle.pp_core.proofs.Offered.{begun_fetches}
 use Rattle.pp_node.specs.Looking.{Lasts}
 use Rattle.pp_node.specs.Outside.{Outside}
 use Rattle.pp_node.specs.Preparing.{IsUnsent, HasPrepared, LeavesDisk, LeavesLink}
-use Rattle.pp_node.specs.Promising.{PeerWords, HasRun, IsIncomplete, IsStopped, IsUnturned, FaultsIn, SeedsIn, HasFetched, FetchesIn, LeavesFile, Binds, PeerEnds, SeedEnds, DialsAsTold, AsksAsOffered, FetchEnds}
+use Rattle.pp_node.specs.Promising.{PeerWords, HasRun, IsIncomplete, IsStopped, IsUnturned, FaultsIn, SeedsIn, HasFetched, FetchesIn, LeavesFile, Binds, IsKeptTo, PeerEnds, SeedEnds, DialsAsTold, AsksAsOffered, FetchEnds}
 use Rattle.pp_node.specs.Seeding.{words_of, dials_of, set_of, HasEvery, NamesBehind, Serves, ReportsSeed}
 use Rattle.pp_node.specs.Status.{number_of}
 use Rattle.pp_node.specs.Text.{Says}
@@ -79,46 +78,52 @@ pub record Leaves (w : Peering) (old new : Outside) : Type 0 where
 -- A run of either command ended by a fault.
 pub record HasFault (number : ℕ) (w : PeerWords) (old new : Outside) : Type 0 where
   pub run : PeerEnds number w old new
+  pub kept_to : IsKeptTo w.descriptor old new run.added
   pub asks_none : RequestsNone w.descriptor run.added
   pub ends : FaultsIn run.status w old new run.added
   pub dials : (dial : List Address) → DialsAsTold w.descriptor dial old new run.added
   pub asks : AsksAsOffered w.descriptor old new run.added
 
 pub seed_fault : (number : ℕ) (w : PeerWords) (old new : Outside) → HasFault number w old new → SeedEnds number w old new
-seed_fault number w old new f = record { run = f.run; asks_none = f.asks_none; ends = seeds_in f.run.status w old new f.run.added f.ends }
+seed_fault number w old new f = record { run = f.run; kept_to = f.kept_to; asks_none = f.asks_none; ends = seeds_in f.run.status w old new f.run.added f.ends }
 
 pub fetch_fault : (number : ℕ) (w : PeerWords) (dial : List Address) (old new : Outside) → HasFault number w old new
     → FetchEnds number w dial old new
-fetch_fault number w dial old new f = record { run = f.run; dials = f.dials dial; asks = f.asks; ends = fetches_in f.run.status w old new f.run.added f.ends }
+fetch_fault number w dial old new f = record { run = f.run; kept_to = f.kept_to; dials = f.dials dial; asks = f.asks; ends = fetches_in f.run.status w old new f.run.added f.ends }
 
 module _ (w : Peering) (old new : Outside) (leaves : Leaves w old new) where
+  -- what is promised of a run in which nothing was sent
+  abbrev pub unsent_run : (status : Status) → IsUnsent old.link new.link → Binds status (words_of w).listen old.link new.link → LeavesFile status old new
+      → PeerEnds (number_of status) (words_of w) old new
+  unsent_run status unsent bound file = record {
+    status = status;
+    number = refl;
+    added = [];
+    gained = gains_nothing old.link.traffic new.link.traffic unsent.traffic;
+    serves = tt;
+    plans = tt;
+    whole = tt;
+    keeps = λ known. record { held = (leaves.lasts known).stood; announced = λ sound. tt };
+    lasts = leaves.lasts;
+    named = leaves.named;
+    bound = bound;
+    leaves = file;
+    unread = leaves.unread;
+    rooted = inl leaves.unfilled;
+  }
+
   silent : (status : Status) → IsUnsent old.link new.link → FaultsIn status (words_of w) old new [] → Binds status (words_of w).listen old.link new.link
       → LeavesFile status old new → HasFault (number_of status) (words_of w) old new
   silent status unsent ends bound file = record {
-    run = record {
-      status = status;
-      number = refl;
-      added = [];
-      gained = gains_nothing old.link.traffic new.link.traffic unsent.traffic;
-      serves = tt;
-      plans = tt;
-      whole = tt;
-      keeps = λ known. record { held = (leaves.lasts known).stood; announced = λ sound. tt };
-      lasts = leaves.lasts;
-      kept_to = record {
-        stores = λ steady. tt;
-        serves_owed = λ before tells steady counts. inl (owes_none _ (words_of w).descriptor new.disk.history, tt);
-        keeps_up = λ before tells willing counts. inl (keeps_none (words_of w).descriptor, tt);
-        lets_in = λ before tells willing counts. inl (refl, tt);
-        chokes_none = λ before tells willing few. refl;
-        tells = λ before tells steady calm. inl (tells_none (words_of w).descriptor new.disk.history, tt);
-        acknowledges = λ before tells steady calm. inl (acknowledges_none (words_of w).descriptor (entry new.book), tt);
-      };
-      named = leaves.named;
-      bound = bound;
-      leaves = file;
-      unread = leaves.unread;
-      rooted = inl leaves.unfilled;
+    run = unsent_run status unsent bound file;
+    kept_to = record {
+      stores = λ steady. tt;
+      serves_owed = λ before tells steady counts. inl (owes_none _ (words_of w).descriptor new.disk.history, tt);
+      keeps_up = λ before tells willing counts. inl (keeps_none (words_of w).descriptor, tt);
+      lets_in = λ before tells willing counts. inl (refl, tt);
+      chokes_none = λ before tells willing few. refl;
+      tells = λ before tells steady calm. inl (tells_none (words_of w).descriptor new.disk.history, tt);
+      acknowledges = λ before tells steady calm. inl (acknowledges_none (words_of w).descriptor (entry new.book), tt);
     };
     asks_none = refl;
     ends = ends;
@@ -127,7 +132,7 @@ module _ (w : Peering) (old new : Outside) (leaves : Leaves w old new) where
         inl (asks_none (words_of w).descriptor _ (λ i. holds (words_of w).descriptor new.disk.history.reads i), tt);
   }
 
-  unturned : IsUnsent old.link new.link → IsUnturned old new []
+  pub unturned : IsUnsent old.link new.link → IsUnturned old new []
   unturned unsent = record { none = refl; nexts = unsent.nexts; unwritten = leaves.unwritten }
 
   ends_as : (x status : Status) → status ≡ x → HasFault (number_of x) (words_of w) old new → HasFault (number_of status) (words_of w) old new
@@ -162,110 +167,119 @@ unleft status old new other = record {
   no_memory = λ is. absurd (other (inr (inr is)));
 }
 
-left_done : (old new : Outside) → LeavesFile Done old new
+pub left_done : (old new : Outside) → LeavesFile Done old new
 left_done old new = unleft Done old new (λ is. ⊎_elim (λ e. let never : Done ≡ NotAStore = e in cc)
     (λ more. ⊎_elim (λ e. let never : Done ≡ LinkFault = e in cc) (λ e. let never : Done ≡ Memory = e in cc) more) is)
 
-left_incomplete : (old new : Outside) → LeavesFile Incomplete old new
+pub left_incomplete : (old new : Outside) → LeavesFile Incomplete old new
 left_incomplete old new = unleft Incomplete old new (λ is. ⊎_elim (λ e. let never : Incomplete ≡ NotAStore = e in cc)
     (λ more. ⊎_elim (λ e. let never : Incomplete ≡ LinkFault = e in cc) (λ e. let never : Incomplete ≡ Memory = e in cc) more) is)
 
-left_sink : (old new : Outside) → LeavesFile SinkFault old new
+pub left_sink : (old new : Outside) → LeavesFile SinkFault old new
 left_sink old new = unleft SinkFault old new (λ is. ⊎_elim (λ e. let never : SinkFault ≡ NotAStore = e in cc)
     (λ more. ⊎_elim (λ e. let never : SinkFault ≡ LinkFault = e in cc) (λ e. let never : SinkFault ≡ Memory = e in cc) more) is)
 
-left_disk : (old new : Outside) → LeavesFile DiskFault old new
+pub left_disk : (old new : Outside) → LeavesFile DiskFault old new
 left_disk old new = unleft DiskFault old new (λ is. ⊎_elim (λ e. let never : DiskFault ≡ NotAStore = e in cc)
     (λ more. ⊎_elim (λ e. let never : DiskFault ≡ LinkFault = e in cc) (λ e. let never : DiskFault ≡ Memory = e in cc) more) is)
+
+pub left_damaged : (old new : Outside) → LeavesFile Damaged old new
+left_damaged old new = unleft Damaged old new (λ is. ⊎_elim (λ e. let never : Damaged ≡ NotAStore = e in cc)
+    (λ more. ⊎_elim (λ e. let never : Damaged ≡ LinkFault = e in cc) (λ e. let never : Damaged ≡ Memory = e in cc) more) is)
 
 none_some : (o : Option Rank) → o ≡ None → is_some o ≡ true → ⊥
 none_some o is some = absurd (false≢true (ap (λ (x : Option Rank). is_some x) (sym is) ∙ some))
 
-module _ (w : Peering) (old new : Outside) (opened : DiskState) (listens : LinkState) (first : PeerState) (room : ℕ)
-    (r : WasReady w old new opened listens first room) (last : PeerState) (k : HasBook last new.book) where
+module _ (w : Peering) (old new : Outside) (opened : DiskState) (listens : LinkState) (first : PeerState)
+    (r : WasReady w old new opened listens first) (last : PeerState) (k : HasBook last new.book) where
   abbrev fetches : Bool
   fetches = is_some w.asks
 
   abbrev HasEnds : Type 0
-  HasEnds = Ends (b w old new opened listens first room r) w.turns fetches (start w old new opened listens first room r) (post last new.disk new.link)
+  HasEnds = Ends (b w old new opened listens first r) w.turns fetches (start w old new opened listens first r) (post last new.disk new.link)
 
   module _ (e : HasEnds) where
     abbrev closed_run : (status : Status) → Binds status (words_of w).listen old.link new.link → LeavesFile status old new
         → PeerEnds (number_of status) (words_of w) old new
-    closed_run status = peer_ends w old new opened listens first room r e.takes.taken last (went_closed w old new opened listens first room r w.turns fetches last e) k
-        (kept_to_now w old new opened listens first room r w.turns fetches last e k) status
+    closed_run status = peer_ends w old new opened listens first r e.takes.taken last (went_closed w old new opened listens first r w.turns fetches last e) k status
 
-    abbrev closed_has : (n : ℕ) → e.takes.taken ≡ n → HasRun (words_of w) n old new (went_closed w old new opened listens first room r w.turns fetches last e).added
-    closed_has n is = run_now w old new opened listens first room r e.takes.taken last (went_closed w old new opened listens first room r w.turns fetches last e) k
-        n is e.sized (is_closed w old new opened listens first room r w.turns fetches last e)
+    closed_kept : IsKeptTo w.descriptor.now old new (went_closed w old new opened listens first r w.turns fetches last e).added
+    closed_kept = kept_to_now w old new opened listens first r w.turns fetches last e k
+
+    abbrev closed_has : (n : ℕ) → e.takes.taken ≡ n → HasRun (words_of w) n old new (went_closed w old new opened listens first r w.turns fetches last e).added
+    closed_has n is = run_now w old new opened listens first r e.takes.taken last (went_closed w old new opened listens first r w.turns fetches last e) k
+        n is e.sized (is_closed w old new opened listens first r w.turns fetches last e)
 
     abbrev closed_bound : GainsAddress old.link.bound (words_of w).listen new.link.bound
-    closed_bound = bound_now w old new opened listens first room r e.takes.taken last (went_closed w old new opened listens first room r w.turns fetches last e) k
+    closed_bound = bound_now w old new opened listens first r e.takes.taken last (went_closed w old new opened listens first r w.turns fetches last e) k
 
-    abbrev closed_asks : w.asks ≡ None → RequestsNone w.descriptor.now (went_closed w old new opened listens first room r w.turns fetches last e).added
-    closed_asks none = asks_none_now w old new opened listens first room r e.takes.taken last (went_closed w old new opened listens first room r w.turns fetches last e) k none
+    abbrev closed_asks : w.asks ≡ None → RequestsNone w.descriptor.now (went_closed w old new opened listens first r w.turns fetches last e).added
+    closed_asks none = asks_none_now w old new opened listens first r e.takes.taken last (went_closed w old new opened listens first r w.turns fetches last e) k none
 
-    closed_dials : DialsAsTold w.descriptor.now (dials_of w) old new (went_closed w old new opened listens first room r w.turns fetches last e).added
-    closed_dials = dialled_now w old new opened listens first room r w.turns fetches last e k
+    closed_dials : DialsAsTold w.descriptor.now (dials_of w) old new (went_closed w old new opened listens first r w.turns fetches last e).added
+    closed_dials = dialled_now w old new opened listens first r w.turns fetches last e k
 
-    closed_asked : fetches ≡ true
-        → AsksAsOffered w.descriptor.now old new (went_closed w old new opened listens first room r w.turns fetches last e).added
-    closed_asked asked = asked_now w old new opened listens first room r w.turns fetches last e k
-        (subst (λ (x : Descriptor). FetchesAll x first.parts) (sym (d_is w old new opened listens first room r))
-        (begun_fetches w.descriptor.now w.random w.asks w.dial.now.items first r.ready.begun asked))
+    closed_asked : FetchesAll w.descriptor.now first.parts
+        → AsksAsOffered w.descriptor.now old new (went_closed w old new opened listens first r w.turns fetches last e).added
+    closed_asked all = asked_now w old new opened listens first r w.turns fetches last e k
+        (subst (λ (x : Descriptor). FetchesAll x first.parts) (sym (d_is w old new opened listens first r)) all)
 
     closed_early : e.takes.taken < w.turns → HasEvery (set_of last)
-    closed_early = early_now w old new opened listens first room r w.turns fetches last e
+    closed_early = early_now w old new opened listens first r w.turns fetches last e
 
     closed_complete : HasEvery (set_of last) → IsComplete w.descriptor.now (set_of last)
-    closed_complete = complete_now w old new opened listens first room r w.turns fetches last e
+    closed_complete = complete_now w old new opened listens first r w.turns fetches last e
 
     incomplete : NamesBehind last old.sink new.sink → IsIncomplete w.descriptor.now (set_of last) (tally_of last.parts.counts) old.sink new.sink
     incomplete n = record {
       first = n.names.first;
-      missing = missing_now w old new opened listens first room r w.turns fetches last e n.names.first n.names.within n.names.missing n.names.before;
+      missing = missing_now w old new opened listens first r w.turns fetches last e n.names.first n.names.within n.names.missing n.names.before;
       between = n.between;
       reported = n.reported;
       said = n.names.said;
     }
 
     closed_all : (fetches ≡ true → HasEvery (set_of last) → ⊥) → e.takes.taken ≡ w.turns
-    closed_all = all_taken w old new opened listens first room r w.turns fetches last e
+    closed_all = all_taken w old new opened listens first r w.turns fetches last e
 
-    abbrev fetched : HasFetched (words_of w) old new (went_closed w old new opened listens first room r w.turns fetches last e).added
+    abbrev fetched : HasFetched (words_of w) old new (went_closed w old new opened listens first r w.turns fetches last e).added
     fetched = record { taken = e.takes.taken; within = e.takes.within; run = closed_has e.takes.taken refl; early = λ lt. closed_complete (closed_early lt) }
 
   abbrev Stopped : Type 0
-  Stopped = StopsIn (b w old new opened listens first room r) w.turns (start w old new opened listens first room r) (post last new.disk new.link)
+  Stopped = StopsIn (b w old new opened listens first r) w.turns (start w old new opened listens first r) (post last new.disk new.link)
 
   module _ (s : Stopped) where
     abbrev stopped_run : PeerEnds (number_of DiskFault) (words_of w) old new
-    stopped_run = peer_ends w old new opened listens first room r s.taken last s.stops.went k
-        (unkept w old new opened listens first room r s.stops.went.added s.stops.hard) DiskFault
-        (inr (bound_now w old new opened listens first room r s.taken last s.stops.went k)) (left_disk old new)
+    stopped_run = peer_ends w old new opened listens first r s.taken last s.stops.went k DiskFault
+        (inr (bound_now w old new opened listens first r s.taken last s.stops.went k)) (left_disk old new)
+
+    stopped_kept : IsKeptTo w.descriptor.now old new s.stops.went.added
+    stopped_kept = unkept w old new opened listens first r s.stops.went.added s.stops.hard
 
     abbrev stopped_ends : Says disk_fault_line old.sink new.sink → IsStopped (words_of w) old new s.stops.went.added
-    stopped_ends said = stopped_now w old new opened listens first room r s.taken last s.stops.went k s.within s.stops.some s.stops.hard said
+    stopped_ends said = stopped_now w old new opened listens first r s.taken last s.stops.went k s.within s.stops.some s.stops.hard said
 
     abbrev stopped_asks : w.asks ≡ None → RequestsNone w.descriptor.now s.stops.went.added
-    stopped_asks none = asks_none_now w old new opened listens first room r s.taken last s.stops.went k none
+    stopped_asks none = asks_none_now w old new opened listens first r s.taken last s.stops.went k none
 
   abbrev Served : Status → Type 0
-  Served status = Serves status fetches w.turns (b w old new opened listens first room r) (start w old new opened listens first room r)
+  Served status = Serves status fetches w.turns (b w old new opened listens first r) (start w old new opened listens first r)
       (post last new.disk new.link) old.sink new.sink
 
   pub seed_served : (status : Status) → w.asks ≡ None → Served status → SeedEnds (number_of status) (words_of w) old new
   seed_served Done none s = record {
     run = closed_run s.0 Done (closed_bound s.0) (left_done old new);
+    kept_to = closed_kept s.0;
     asks_none = closed_asks s.0 none;
     ends = (closed_has s.0 w.turns (closed_all s.0 (λ asked all. none_some w.asks none asked)), s.1.1);
   }
   seed_served SinkFault none s = record {
     run = closed_run s.0 SinkFault (closed_bound s.0) (left_sink old new);
+    kept_to = closed_kept s.0;
     asks_none = closed_asks s.0 none;
     ends = (closed_has s.0 w.turns (closed_all s.0 (λ asked all. none_some w.asks none asked)), s.1);
   }
-  seed_served DiskFault none s = record { run = stopped_run s.0; asks_none = stopped_asks s.0 none; ends = inr (stopped_ends s.0 s.1) }
+  seed_served DiskFault none s = record { run = stopped_run s.0; kept_to = stopped_kept s.0; asks_none = stopped_asks s.0 none; ends = inr (stopped_ends s.0 s.1) }
   seed_served Incomplete none s = absurd (none_some w.asks none s.1.0)
   seed_served Usage none s = absurd s
   seed_served NotAStore none s = absurd s
@@ -277,37 +291,41 @@ module _ (w : Peering) (old new : Outside) (opened : DiskState) (listens : LinkS
   seed_served Memory none s = absurd s
   seed_served Damaged none s = absurd s
 
-  pub fetch_served : (status : Status) → fetches ≡ true → Served status → FetchEnds (number_of status) (words_of w) (dials_of w) old new
-  fetch_served Done asked s = record {
+  pub fetch_served : (status : Status) → fetches ≡ true → FetchesAll w.descriptor.now first.parts → Served status → FetchEnds (number_of status) (words_of w) (dials_of w) old new
+  fetch_served Done asked all s = record {
     run = closed_run s.0 Done (closed_bound s.0) (left_done old new);
+    kept_to = closed_kept s.0;
     dials = closed_dials s.0;
-    asks = closed_asked s.0 asked;
+    asks = closed_asked s.0 all;
     ends = (fetched s.0, closed_complete s.0 (s.1.0 asked), s.1.1);
   }
-  fetch_served Incomplete asked s = record {
+  fetch_served Incomplete asked all s = record {
     run = closed_run s.0 Incomplete (closed_bound s.0) (left_incomplete old new);
+    kept_to = closed_kept s.0;
     dials = closed_dials s.0;
-    asks = closed_asked s.0 asked;
-    ends = (closed_has s.0 w.turns (closed_all s.0 (λ asked all. absurd (false≢true (sym s.1.1.names.missing ∙ all s.1.1.names.first s.1.1.names.within)))), incomplete s.0 s.1.1);
+    asks = closed_asked s.0 all;
+    ends = (closed_has s.0 w.turns (closed_all s.0 (λ asked every. absurd (false≢true (sym s.1.1.names.missing ∙ every s.1.1.names.first s.1.1.names.within)))), incomplete s.0 s.1.1);
   }
-  fetch_served SinkFault asked s = record {
+  fetch_served SinkFault asked all s = record {
     run = closed_run s.0 SinkFault (closed_bound s.0) (left_sink old new);
+    kept_to = closed_kept s.0;
     dials = closed_dials s.0;
-    asks = closed_asked s.0 asked;
+    asks = closed_asked s.0 all;
     ends = (fetched s.0, s.1);
   }
-  fetch_served DiskFault asked s = record {
+  fetch_served DiskFault asked all s = record {
     run = stopped_run s.0;
-    dials = λ few some before tells willing. absurd (unwilling w old new opened listens first room r s.0.stops.hard willing);
-    asks = λ before tells steady. absurd (unwilling w old new opened listens first room r s.0.stops.hard steady.willing);
+    kept_to = stopped_kept s.0;
+    dials = λ few some before tells willing. absurd (unwilling w old new opened listens first r s.0.stops.hard willing);
+    asks = λ before tells steady. absurd (unwilling w old new opened listens first r s.0.stops.hard steady.willing);
     ends = inr (stopped_ends s.0 s.1);
   }
-  fetch_served Usage asked s = absurd s
-  fetch_served NotAStore asked s = absurd s
-  fetch_served LinkFault asked s = absurd s
-  fetch_served SourceFault asked s = absurd s
-  fetch_served NotEmpty asked s = absurd s
-  fetch_served ContentSize asked s = absurd s
-  fetch_served Schedule asked s = absurd s
-  fetch_served Memory asked s = absurd s
-  fetch_served Damaged asked s = absurd s
+  fetch_served Usage asked all s = absurd s
+  fetch_served NotAStore asked all s = absurd s
+  fetch_served LinkFault asked all s = absurd s
+  fetch_served SourceFault asked all s = absurd s
+  fetch_served NotEmpty asked all s = absurd s
+  fetch_served ContentSize asked all s = absurd s
+  fetch_served Schedule asked all s = absurd s
+  fetch_served Memory asked all s = absurd s
+  fetch_served Damaged asked all s = absurd s

@@ -13,3 +13,4 @@ pub mod Seeds
 pub mod Exports
 pub mod Replays
 pub mod Untroubled
+pub mod Plays

@@ -37,6 +37,8 @@ use Rattle.pp_lives.specs.declared.lives.Far.{Far}
 use Rattle.pp_paths.specs.Judge.{KeepsEntries}
 use Rattle.pp_store.specs.Store.{StoreState, is_committed, is_held}
 use Rattle.pp_holding.specs.Holding.{HoldingState}
+use Rattle.pp_holding.proofs.Advancing.{advances_none}
+use Rattle.pp_peer.specs.Dialling.{undialled}
 use Rattle.pp_peer.specs.Greeting.{IsFarewell, fars_of}
 use Rattle.pp_peer.specs.Greeting as farewells
 use Rattle.pp_peer.specs.Standing.{Beginning}
@@ -46,36 +48,111 @@ use Rattle.pp_core.specs.Opening.{WantsIf, beginning}
 use Rattle.pp_core.specs.Peers.{PeerState}
 use Rattle.pp_core.specs.Promising.{IsFoundIn}
 use Rattle.pp_core.specs.Storing.{StoresIn}
+use Rattle.pp_core.specs.Turning.{limited, with_limit}
 use Rattle.pp_core.proofs.Dialled.{misses_more, dials_but}
+use Rattle.pp_core.proofs.Keeping.{kept_on}
 use Rattle.pp_core.proofs.Firsts.{begun_acks, begun_unrepeated}
 use Rattle.pp_core.proofs.LatelySent.{begun_wrote}
 use Rattle.pp_core.proofs.Remembered.{begun_keeps, begun_taken}
 use Rattle.pp_core.proofs.Unchoked.{begun_unchoked, chokes_none, close_chokes_none}
 use Rattle.pp_node.specs.Looking.{IsOf, Lasts}
 use Rattle.pp_node.specs.Outside.{Outside}
-use Rattle.pp_node.specs.Preparing.{IsUnsent, IsReady}
+use Rattle.pp_node.specs.Preparing.{IsUnsent, IsFresh, IsReady}
 use Rattle.pp_node.specs.Promising.{IsClosed, HasRun, IsStopped, LeavesFile, Binds, devices_of, IsKeptTo, PeerEnds, DialsAsTold, AsksAsOffered}
 use Rattle.pp_node.specs.Seeding.{words_of, dials_of, set_of, HasEvery}
 use Rattle.pp_node.specs.Status.{number_of}
 use Rattle.pp_node.specs.Text.{Says}
 use Rattle.pp_turns.specs.Taking.{Ends}
-use Rattle.pp_turns.specs.Turning.{Post, post, IsBegun, Went, TakesTurns}
+use Rattle.pp_turns.specs.Turning.{Post, post, stock_in, IsBegun, Went, TakesTurns}
 use Rattle.pp_node.specs.declared.preparing.Peering.{Peering}
 use Rattle.pp_node.specs.declared.status.Status.{Status}
 use Rattle.pp_turns.specs.Promising.{Ended, faults_of, Tells, FailsFew, IsTelling, IsCalmLink, HasDialled}
+use Rattle.pp_turns.proofs.Between.{begun_limited}
 use Rattle.pp_turns.proofs.Promising.{each_read, fails_at_most, in_turns_closed}
 use Rattle.pp_turns.proofs.Steps.{each_announced, turns_closed}
 
 -- ---- a peer that was made ready
 
--- What holds once it was.
-pub record WasReady (w : Peering) (old new : Outside) (opened : DiskState) (listens : LinkState) (first : PeerState) (room : ℕ) : Type 0 where
-  pub ready : IsReady w old.disk opened first room
+-- What holds once it was: it has begun, and stands for no traffic yet.
+pub record WasReady (w : Peering) (old new : Outside) (opened : DiskState) (listens : LinkState) (first : PeerState) : Type 0 where
+  pub begun : IsBegun (beginning first (moment_of opened.history)) (post first opened listens)
+  pub swarm : first.parts.holding.store.descriptor ≡ w.descriptor.now
+  pub idle : w.asks ≡ None → first.parts.fetching ≡ None
+  pub dials : first.dials ≡ map undialled w.dial.now.items
+  pub fresh : IsFresh w.descriptor.now old.disk opened first
+  pub tells : opened.tells ≡ old.disk.tells
+  pub honest : opened.honest ≡ old.disk.honest
+  pub faults : old.disk.faults ≤ opened.faults
+  pub hard : old.disk.hard ≤ opened.hard
   pub unsent : IsUnsent old.link listens
   pub bound : GainsAddress old.link.bound (words_of w).listen listens.bound
   pub lasts : IsKnown old.disk → Lasts w.descriptor.now opened.history
   pub named : IsKnown old.disk → GainsName old.disk.history.names w.store.now opened.history.names
   pub unread : new.source ≡ old.source
+
+module _ (w : Peering) (old new : Outside) (opened : DiskState) (listens : LinkState) (first : PeerState) where
+  pub was_ready : (len : ℕ) → IsReady w old.disk opened first len → IsUnsent old.link listens
+      → GainsAddress old.link.bound (words_of w).listen listens.bound → (IsKnown old.disk → Lasts w.descriptor.now opened.history)
+      → (IsKnown old.disk → GainsName old.disk.history.names w.store.now opened.history.names) → new.source ≡ old.source
+      → WasReady w old new opened listens first
+  was_ready len ready unsent bound lasts named unread =
+      let d = w.descriptor.now in
+      record {
+        begun = record {
+          past = omega arith;
+          stands = ready.stands;
+          counts = ready.begun.counts;
+          live = ready.begun.holding.live;
+          wrote = begun_wrote (beginning first (moment_of opened.history)).d d w.random w.asks w.dial.now.items first ready.begun;
+          unchoked = begun_unchoked (beginning first (moment_of opened.history)).d d w.random w.asks w.dial.now.items first ready.begun;
+          told = begun_keeps (beginning first (moment_of opened.history)).d d w.random w.asks w.dial.now.items first ready.begun;
+          taken = begun_taken d w.random w.asks w.dial.now.items first ready.begun;
+          unrepeated = begun_unrepeated d w.random w.asks w.dial.now.items first ready.begun;
+          acks = begun_acks (beginning first (moment_of opened.history)).d d w.random w.asks w.dial.now.items first ready.begun;
+          held = ready.held;
+        };
+        swarm = ready.begun.holding.descriptor;
+        idle = λ none. subst (λ (o : Option Rank). WantsIf (chunks_of d) (is_committed first.parts.holding.store) o first.parts.fetching) none ready.begun.fetching;
+        dials = ready.begun.dials;
+        fresh = ready.fresh;
+        tells = ready.tells;
+        honest = ready.honest;
+        faults = ready.faults;
+        hard = ready.hard;
+        unsent = unsent;
+        bound = bound;
+        lasts = lasts;
+        named = named;
+        unread = unread;
+      }
+
+  -- A peer that asks for chunks below a number alone was made ready, too.
+  pub was_limited : (limit : ℕ) → WasReady w old new opened listens first
+      → WasReady w old new opened listens (record first { parts = with_limit limit first.parts })
+  was_limited limit r = record {
+    begun = begun_limited limit (beginning first (moment_of opened.history)) (post first opened listens) r.begun;
+    swarm = r.swarm;
+    idle = λ none. ap (limited limit) (r.idle none);
+    dials = r.dials;
+    fresh = record {
+      count = r.fresh.count;
+      started = r.fresh.started;
+      begins = r.fresh.begins;
+      held = r.fresh.held;
+      taken = r.fresh.taken;
+      kept = λ known began. kept_on (moment_of opened.history) first (record first { parts = with_limit limit first.parts }) opened opened []
+          (advances_none (stock_in (post first opened listens))) (r.fresh.kept known began);
+    };
+    tells = r.tells;
+    honest = r.honest;
+    faults = r.faults;
+    hard = r.hard;
+    unsent = r.unsent;
+    bound = r.bound;
+    lasts = r.lasts;
+    named = r.named;
+    unread = r.unread;
+  }
 
 -- A peer's book at the end.
 pub record HasBook (last : PeerState) (book : BookState) : Type 0 where
@@ -91,8 +168,8 @@ farewells_close : (d : Descriptor) (moment : ℕ) (fars : ℕ → Option Far) (x
 farewells_close d moment fars [] all = tt
 farewells_close d moment fars (r ∷ xs) all = (farewell_closes d moment fars r all.0, farewells_close d moment fars xs all.1)
 
-module _ (w : Peering) (old new : Outside) (opened : DiskState) (listens : LinkState) (first : PeerState) (room : ℕ)
-    (r : WasReady w old new opened listens first room) where
+module _ (w : Peering) (old new : Outside) (opened : DiskState) (listens : LinkState) (first : PeerState)
+    (r : WasReady w old new opened listens first) where
   abbrev pub d : Descriptor
   d = w.descriptor.now
 
@@ -103,30 +180,18 @@ module _ (w : Peering) (old new : Outside) (opened : DiskState) (listens : LinkS
   start = post first opened listens
 
   pub has_begun : IsBegun b start
-  has_begun = record {
-    past = omega arith;
-    stands = r.ready.stands;
-    counts = r.ready.begun.counts;
-    live = r.ready.begun.holding.live;
-    wrote = begun_wrote b.d d w.random w.asks w.dial.now.items first r.ready.begun;
-    unchoked = begun_unchoked b.d d w.random w.asks w.dial.now.items first r.ready.begun;
-    told = begun_keeps b.d d w.random w.asks w.dial.now.items first r.ready.begun;
-    taken = begun_taken d w.random w.asks w.dial.now.items first r.ready.begun;
-    unrepeated = begun_unrepeated d w.random w.asks w.dial.now.items first r.ready.begun;
-    acks = begun_acks b.d d w.random w.asks w.dial.now.items first r.ready.begun;
-    held = r.ready.held;
-  }
+  has_begun = r.begun
 
   pub d_is : b.d ≡ d
-  d_is = r.ready.begun.holding.descriptor
+  d_is = r.swarm
 
   pub known_then : IsKnown old.disk → IsKnown opened
-  known_then = known_on old.disk opened r.ready.tells r.ready.honest
+  known_then = known_on old.disk opened r.tells r.honest
 
   module _ (taken : ℕ) (last : PeerState) (t : Went b taken start (post last new.disk new.link)) (k : HasBook last new.book) where
     pub known_before : IsKnown new.disk → IsKnown old.disk
     known_before known =
-        known_on opened old.disk (sym r.ready.tells) (sym r.ready.honest) (known_on new.disk opened (sym t.advances.disk.tells) (sym t.advances.disk.honest) known)
+        known_on opened old.disk (sym r.tells) (sym r.honest) (known_on new.disk opened (sym t.advances.disk.tells) (sym t.advances.disk.honest) known)
 
     pub last_d : last.parts.holding.store.descriptor ≡ d
     last_d = t.advances.descriptor ∙ d_is
@@ -147,20 +212,20 @@ module _ (w : Peering) (old new : Outside) (opened : DiskState) (listens : LinkS
     stood_then known i stood = subst (λ (e : Epoch). (image : List ℕ) → IsImage e image → StandsIn d image i) (first_same known) stood
 
     pub keeping : IsKnown old.disk → BeganSound d new.disk.history → IsKeeping b.since last new.disk t.added
-    keeping known began = t.keeps (r.ready.fresh.kept known (began_then known began))
+    keeping known began = t.keeps (r.fresh.kept known (began_then known began))
 
     pub lasts_now : IsKnown old.disk → Lasts d new.disk.history
     lasts_now known = record {
       stood = λ i stood. subst (λ (m : ℕ). StandsSince d new.disk.history m i) (sym (start_same known))
           (subst (λ (x : Descriptor). (moment : ℕ) → moment ≤ moment_of opened.history → Throughout opened.history moment (λ image. StandsIn x image i)
           → Throughout new.disk.history moment (λ image. StandsIn x image i)) d_is
-          (t.advances.goes_on (known_then known) i (r.ready.fresh.taken known i (stood_then known i stood)))
-          opened.history.start (r.ready.fresh.started known) ((r.lasts known).stood i (stood_then known i stood)));
+          (t.advances.goes_on (known_then known) i (r.fresh.taken known i (stood_then known i stood)))
+          opened.history.start (r.fresh.started known) ((r.lasts known).stood i (stood_then known i stood)));
       sound = λ began. subst (λ (m : ℕ). Throughout new.disk.history m (IsSound d)) (sym (start_same known))
           (subst (λ (x : Descriptor). (moment : ℕ) → moment ≤ moment_of opened.history → Throughout opened.history moment (IsSound x)
           → Throughout new.disk.history moment (IsSound x)) d_is
-          (t.advances.sound b.since (r.ready.fresh.kept known (began_then known began)).kept)
-          opened.history.start (r.ready.fresh.started known) ((r.lasts known).sound (began_then known began)));
+          (t.advances.sound b.since (r.fresh.kept known (began_then known began)).kept)
+          opened.history.start (r.fresh.started known) ((r.lasts known).sound (began_then known began)));
     }
 
     pub announced_now : IsKnown old.disk → BeganSound d new.disk.history → EachAnnounced d (StandsSince d new.disk.history) t.added
@@ -183,13 +248,13 @@ module _ (w : Peering) (old new : Outside) (opened : DiskState) (listens : LinkS
 
     pub asks_none_now : w.asks ≡ None → RequestsNone d t.added
     asks_none_now none = subst (λ (x : Descriptor). RequestsNone x t.added) d_is
-        (t.asks_none (subst (λ (o : Option Rank). WantsIf (chunks_of d) (is_committed first.parts.holding.store) o first.parts.fetching) none r.ready.begun.fetching))
+        (t.asks_none (r.idle none))
 
     pub begins_now : IsKnown old.disk → IsOf d new.disk.history.found
-    begins_now known = subst (IsOf d) (sym (found_same known)) (r.ready.fresh.begins known)
+    begins_now known = subst (IsOf d) (sym (found_same known)) (r.fresh.begins known)
 
-    abbrev pub peer_ends : IsKeptTo d old new t.added → (status : Status) → Binds status (words_of w).listen old.link new.link → LeavesFile status old new → PeerEnds (number_of status) (words_of w) old new
-    peer_ends kept_to status bound leaves = record {
+    abbrev pub peer_ends : (status : Status) → Binds status (words_of w).listen old.link new.link → LeavesFile status old new → PeerEnds (number_of status) (words_of w) old new
+    peer_ends status bound leaves = record {
       status = status;
       number = refl;
       added = t.added;
@@ -200,7 +265,6 @@ module _ (w : Peering) (old new : Outside) (opened : DiskState) (listens : LinkS
       whole = subst (λ (x : Descriptor). AllByRecursion (IsWhole x) t.added) d_is t.whole;
       keeps = λ known. record { held = (lasts_now known).stood; announced = announced_now known };
       lasts = lasts_now;
-      kept_to = kept_to;
       named = λ known. subst (λ (o : Option (List (List ℕ))). GainsName old.disk.history.names w.store.now o)
           (sym (t.advances.disk.attachment (known_then known)).names) (r.named known);
       bound = bound;
@@ -225,7 +289,7 @@ module _ (w : Peering) (old new : Outside) (opened : DiskState) (listens : LinkS
           (λ moment i of_it. of_it.0) t.added t.ledger.announced);
       stand = λ known began i at. subst (λ (x : Descriptor). StandsSince x new.disk.history (moment_of new.disk.history) i) last_d
           ((keeping (known_before known) began).kept.stands i at);
-      kept = λ known i stood. committed_now i (r.ready.fresh.taken (known_before known) i (stood_then (known_before known) i stood));
+      kept = λ known i stood. committed_now i (r.fresh.taken (known_before known) i (stood_then (known_before known) i stood));
     }
 
     pub tallied_now : IsTallied (tally_of last.parts.counts) taken t.added
@@ -243,7 +307,7 @@ module _ (w : Peering) (old new : Outside) (opened : DiskState) (listens : LinkS
       committed = set_of last;
       tally = tally_of last.parts.counts;
       are = are_now sized;
-      found = λ known i within at. committed_now i (r.ready.fresh.held known i within
+      found = λ known i within at. committed_now i (r.fresh.held known i within
           ∙ subst (λ (bytes : List ℕ). is_found d bytes i ≡ true) (found_same known) at);
       begins = begins_now;
       took = subst (λ (m : ℕ). TookTurns m old.link new.link t.added) is took_now;
@@ -259,7 +323,7 @@ module _ (w : Peering) (old new : Outside) (opened : DiskState) (listens : LinkS
       some = some;
       within = within;
       took = took_now;
-      hard = risen_less old.disk.hard opened.hard new.disk.hard r.ready.hard hard;
+      hard = risen_less old.disk.hard opened.hard new.disk.hard r.hard hard;
       begins = begins_now;
       said = said;
       rooted = rooted_now;
@@ -267,7 +331,7 @@ module _ (w : Peering) (old new : Outside) (opened : DiskState) (listens : LinkS
 
   -- where the disk refused something that was to be kept nothing is promised
   pub unwilling : HasRisen opened.hard new.disk.hard → IsWilling old.disk new.disk → ⊥
-  unwilling hard willing = willing.hard (risen_less old.disk.hard opened.hard new.disk.hard r.ready.hard hard)
+  unwilling hard willing = willing.hard (risen_less old.disk.hard opened.hard new.disk.hard r.hard hard)
 
   pub unkept : (added : List Record) → HasRisen opened.hard new.disk.hard → IsKeptTo d old new added
   unkept added hard = record {
@@ -286,10 +350,10 @@ module _ (w : Peering) (old new : Outside) (opened : DiskState) (listens : LinkS
     abbrev pub taken_in : ℕ
     taken_in = e.takes.taken
 
-    closed_turns : (t : TakesTurns b taken_in start (post last new.disk new.link)) × (t.went.added ≡ e.closes.parting.flushes.added ++ e.takes.some.turns.turns.went.added)
+    pub closed_turns : (t : TakesTurns b taken_in start (post last new.disk new.link)) × (t.went.added ≡ e.closes.parting.flushes.added ++ e.takes.some.turns.turns.went.added)
     closed_turns = turns_closed taken_in b start e.mid (post last new.disk new.link) e.disk e.closes e.takes.some.turns.turns
 
-    pub went_closed : Went b taken_in start (post last new.disk new.link)
+    unfoldable pub went_closed : Went b taken_in start (post last new.disk new.link)
     went_closed = closed_turns.0.went
 
     mid_d : e.mid.peer.parts.seats.descriptor ≡ d
@@ -317,8 +381,12 @@ module _ (w : Peering) (old new : Outside) (opened : DiskState) (listens : LinkS
           (e.closes.parting.each seat far within is_far proven);
     }
 
+    pub turned_is : is_closed.turned ≡ e.takes.some.turns.turns.went.added
+    unfolding is_closed
+    turned_is = refl
+
     -- what was committed when the turns ended is committed
-    store_same : last.parts.holding.store ≡ e.mid.peer.parts.holding.store
+    pub store_same : last.parts.holding.store ≡ e.mid.peer.parts.holding.store
     store_same = ap (λ (h : HoldingState). h.store) e.closes.parting.flushes.holding
 
     pub early_now : taken_in < most → HasEvery (set_of last)
@@ -371,7 +439,7 @@ module _ (w : Peering) (old new : Outside) (opened : DiskState) (listens : LinkS
 
     module _ (k : HasBook last new.book) where
       -- what is held in the store is in what the disk reads
-      held_now : IsSteady d old.disk new.disk → (i : ℕ) → is_held last.parts.holding.store i ≡ true → holds d new.disk.history.reads i ≡ true
+      pub held_now : IsSteady d old.disk new.disk → (i : ℕ) → is_held last.parts.holding.store i ≡ true → holds d new.disk.history.reads i ≡ true
       held_now steady i is = subst (λ (x : Descriptor). holds x new.disk.history.reads i ≡ true)
           (went_closed.advances.descriptor ∙ d_is)
           ((keeping taken_in last went_closed k steady.willing.known steady.began).kept.holds closed_turns.0.live i is).held
@@ -401,7 +469,7 @@ module _ (w : Peering) (old new : Outside) (opened : DiskState) (listens : LinkS
       within_refusals : faults_of e.mid ≤ faults_of start + most_failed
       within_refusals =
           let listened = r.unsent.later in
-          let opened_later = r.ready.faults in
+          let opened_later = r.faults in
           omega (arith, disk_same, link_later, listened, opened_later)
 
       mid_tells : CountsTell (devices_of new) → Tells e.mid
@@ -422,7 +490,7 @@ module _ (w : Peering) (old new : Outside) (opened : DiskState) (listens : LinkS
           (let sum = few.1 in let within = within_refusals in omega (arith, sum, within)) few.2))
 
       found_now : IsSteady d old.disk new.disk → IsFoundIn b new.disk.history
-      found_now steady i stood = r.ready.fresh.taken steady.willing.known i
+      found_now steady i stood = r.fresh.taken steady.willing.known i
           (stood_then taken_in last went_closed k steady.willing.known i
           (subst (λ (x : Descriptor). StoodThroughout x new.disk.history i) d_is stood))
 
@@ -435,7 +503,7 @@ module _ (w : Peering) (old new : Outside) (opened : DiskState) (listens : LinkS
         where
           telling : IsTelling b start e.mid
           telling = record {
-            keeping = r.ready.fresh.kept steady.willing.known (began_then taken_in last went_closed k steady.willing.known steady.began);
+            keeping = r.fresh.kept steady.willing.known (began_then taken_in last went_closed k steady.willing.known steady.began);
             tells = mid_tells counts;
           }
 
@@ -513,7 +581,7 @@ module _ (w : Peering) (old new : Outside) (opened : DiskState) (listens : LinkS
           length_is = length-map w.dial.now.items address_of
 
           dialled : (n : ℕ) → taken_in ≡ suc n → HasDialled b w.dial.now.items start e.mid turned
-          dialled n is = e.takes.some.turns.dials w.dial.now.items r.ready.begun.dials (omega (arith, length_is, few)) before (r.unsent.traffic ∙ tells)
+          dialled n is = e.takes.some.turns.dials w.dial.now.items r.dials (omega (arith, length_is, few)) before (r.unsent.traffic ∙ tells)
               (mid_tells counts) (suc n) (omega (arith, is))
 
           dials : HasDialled b w.dial.now.items start e.mid turned → DialsBut most_failed b.d (dials_of w) (closing ++ turned)

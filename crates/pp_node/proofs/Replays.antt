@@ -5,7 +5,7 @@ use Rattle.std.proofs.lemmas.Bool.{cases_lt, lt-leb}
 use Rattle.std.proofs.lemmas.List.{append-nil, append_assoc, length-take-le, map-append, take_all}
 use Rattle.std.specs.Prelude.{Result, Ok, Err, OnOk, min, take}
 use Rattle.std.specs.List.{AllByRecursion}
-use Rattle.pp_terms.specs.command.Report.{AreRanges, line, ranges_text}
+use Rattle.pp_terms.specs.command.Report.{AreRanges, ranges_text}
 use Rattle.pp_terms.specs.command.Stream.{SourceState, SinkState, Gains}
 use Rattle.pp_terms.specs.format.Descriptor.{chunks_of}
 use Rattle.pp_terms.specs.tree.Range.{Span}

@@ -1,5 +1,5 @@
 -- Where no device refused a call, a command that has what it is for is done, but for want of memory and chunks that are missing.
-use Rattle.std.proofs.Common.{◌≡◌, ◌⊎◌, inl, inr, ℕ, zero, suc, ◌+◌, ◌*◌, ◌^◌, ◌<◌, ◌≤◌, List, [], ◌∷◌, length, Result, Ok, Err, refl, sym, ◌∙◌, ap, subst, arith}
+use Rattle.std.proofs.Common.{◌≡◌, ◌⊎◌, inl, inr, ℕ, zero, suc, ◌+◌, ◌*◌, ◌^◌, ◌≤◌, List, length, Ok, Err, refl, sym, ◌∙◌, ap, subst, arith}
 use Rattle.std.specs.Prelude.{min, Some}
 use Rattle.rand_core.specs.Steps as steps
 use Rattle.rand_chacha.specs.ChaCha.{of_seed, next_word}
@@ -9,29 +9,27 @@ use Rattle.pp_words.specs.Commands as commands
 use Rattle.pp_terms.specs.disk.Disk.{DiskState, IsKnown}
 use Rattle.pp_terms.specs.disk.Sound.{BeganSound}
 use Rattle.pp_terms.specs.format.Descriptor.{Descriptor}
-use Rattle.pp_terms.specs.format.Traffic.{Record}
+use Rattle.pp_terms.specs.format.Traffic.{Address, Record}
 use Rattle.pp_terms.specs.tree.Content.{IsContentSize}
-use Rattle.pp_scan.specs.Header.{IsDifference}
-use Rattle.pp_store.specs.Old.{HasOldHeader, old_header}
-use Rattle.pp_store.specs.Upgrade.{IsOtherHeader}
+use Rattle.pp_store.specs.Old.{HasOldHeader}
 use Rattle.pp_world.specs.Rehearsal.{first_words, rehearsal_key, rehearsal_of, rehearsal_text}
 use Rattle.pp_world.specs.Schedule.{Schedule}
-use Rattle.pp_world.specs.ScheduleFault.{ScheduleFault}
 use Rattle.pp_world.specs.ScheduleRead.{read_schedule}
 use Rattle.pp_world.proofs.Rehearsals.{rehearsals_read}
 use Rattle.pp_node.proofs.Commands.{ended_as}
 use Rattle.pp_node.specs.Built.{built}
-use Rattle.pp_node.specs.Checking.{ChecksIn, CheckEnds}
+use Rattle.pp_node.specs.Checking.{ChecksIn}
 use Rattle.pp_node.specs.Commanding.{HasEnded}
-use Rattle.pp_node.specs.Exporting.{ExportsIn, ExportEnds}
+use Rattle.pp_node.specs.Exporting.{ExportsIn}
 use Rattle.pp_node.specs.Looking.{IsOf, IsOther}
 use Rattle.pp_node.specs.Outside.{Outside}
-use Rattle.pp_node.specs.Promising.{PeerWords, SeedsIn, FetchesIn, SeedEnds, FetchEnds}
-use Rattle.pp_node.specs.Replaying.{PlaysText, ReplaysIn, ReplayEnds, RehearseEnds}
-use Rattle.pp_node.specs.Run.{ImportsIn, ImportEnds}
+use Rattle.pp_node.specs.Playing.{PlaysIn}
+use Rattle.pp_node.specs.Promising.{PeerWords, SeedsIn, FetchesIn}
+use Rattle.pp_node.specs.Replaying.{PlaysText, ReplaysIn}
+use Rattle.pp_node.specs.Run.{ImportsIn}
 use Rattle.pp_node.specs.Status.{number_of}
 use Rattle.pp_node.specs.Untroubled.{IsUntroubled, FindsOwn, FindsEmpty, IsDoneOrShort, IsDoneOrMissing, AnswersWell}
-use Rattle.pp_node.specs.Upgrading.{UpgradesIn, UpgradeEnds}
+use Rattle.pp_node.specs.Upgrading.{UpgradesIn}
 use Rattle.pp_node.specs.declared.status.Status.{Status}
 use Rattle.pp_node.specs.declared.status.Status.TheVariants.{Done, Usage, NotAStore, Incomplete, DiskFault, LinkFault, SourceFault, SinkFault, NotEmpty, ContentSize, Schedule as NoSchedule, Memory, Damaged}
 
@@ -194,6 +192,27 @@ module _ (old new : Outside) (u : IsUntroubled old new) where
   replayed content schedule ContentSize left read ends = played ends.text schedule ContentSize (sym (ends.same content left) ∙ read) ends.plays
   replayed content schedule Damaged left read ends = played ends.text schedule Damaged (sym (ends.same content left) ∙ read) ends.plays
 
+  -- a content was written while it came
+  shown : (w : PeerWords) (window : ℕ) (peers : List Address) (added : List Record) (s : Status) → FindsOwn w.descriptor old new
+      → PlaysIn s w window peers old new added
+      → IsDoneOrMissing (number_of s) ⊎ ((number_of s ≡ number_of Damaged) × (BeganSound w.descriptor new.disk.history → ⊥))
+  shown w window peers added Done own ends = inl (inl (inl refl))
+  shown w window peers added Incomplete own ends = inl (inr refl)
+  shown w window peers added Memory own ends = inl (inl (inr refl))
+  shown w window peers added Damaged own ends = inr (refl, ends.never own.known)
+  shown w window peers added NotAStore own ends =
+      absurd (none_differs w.descriptor ends.0.at ends.0.found ends.0.want old.disk new.disk own.known own.begins ends.0.other)
+  shown w window peers added DiskFault own (inl ends) = absurd (u.disk ends.0.refused.risen)
+  shown w window peers added DiskFault own (inr (inl ends)) = absurd (u.hard ends.hard)
+  shown w window peers added DiskFault own (inr (inr ends)) = absurd (u.disk ends.risen)
+  shown w window peers added LinkFault own ends = absurd (u.link ends.0.risen)
+  shown w window peers added SinkFault own ends = absurd (u.sink ends.risen)
+  shown w window peers added Usage own ends = absurd ends
+  shown w window peers added SourceFault own ends = absurd ends
+  shown w window peers added NotEmpty own ends = absurd ends
+  shown w window peers added ContentSize own ends = absurd ends
+  shown w window peers added NoSchedule own ends = absurd ends
+
   -- what each command answers
   answers : (c : Command) (result : ℕ) → HasEnded c result old new → AnswersWell c result old new
   answers (Import store chunk) result end = λ own content left fits. end.number ∙ imported chunk end.status own content left fits end.ends
@@ -208,7 +227,9 @@ module _ (old new : Outside) (u : IsUntroubled old new) where
   answers Replay result end = λ content schedule left read. subst IsDoneOrShort (sym end.number) (replayed content schedule end.status left read end.ends)
   answers (Rehearse number) result end = subst IsDoneOrShort (sym end.is_number)
       (played (rehearsal_text (drawn number)) (rehearsal_of (drawn number)) end.status (rehearsals_read.read (drawn number) (drawn_few number)) end.ends)
-  answers (Play store d listen turns window peers) result end = absurd end
+  answers (Play store d listen turns window peers) result end = λ own. subst
+      (λ (n : ℕ). IsDoneOrMissing n ⊎ ((n ≡ number_of Damaged) × (BeganSound d new.disk.history → ⊥))) (sym end.run.number)
+      (shown (record { store = store; descriptor = d; listen = listen; turns = turns }) window peers end.run.added end.run.status own end.ends)
   answers (commands.Record peer life) result end = absurd end
   answers Audit result end = absurd end
 

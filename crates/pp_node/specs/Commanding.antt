@@ -1,9 +1,10 @@
 -- The commands that words may ask for, and how each of them ends.
 use Rattle.std.specs.Prelude.{ℕ}
-use Rattle.pp_words.specs.Commands.{Command, Import, Seed, Fetch, Check, Export, Upgrade, Replay, Rehearse}
+use Rattle.pp_words.specs.Commands.{Command, Import, Seed, Fetch, Check, Export, Upgrade, Replay, Rehearse, Play}
 use Rattle.pp_node.specs.Checking.{CheckEnds}
 use Rattle.pp_node.specs.Exporting.{ExportEnds}
 use Rattle.pp_node.specs.Outside.{Outside}
+use Rattle.pp_node.specs.Playing.{PlayEnds}
 use Rattle.pp_node.specs.Promising.{SeedEnds, FetchEnds}
 use Rattle.pp_node.specs.Replaying.{ReplayEnds, RehearseEnds}
 use Rattle.pp_node.specs.Run.{ImportEnds}
@@ -16,11 +17,13 @@ FillsBook (Export store descriptor) = Unit {0}
 FillsBook (Upgrade store descriptor) = Unit {0}
 FillsBook (Seed store descriptor listen turns) = Unit {0}
 FillsBook (Fetch store descriptor listen turns order peers) = Unit {0}
+FillsBook (Play store descriptor listen turns window peers) = Unit {0}
 FillsBook _ = ⊥
 
 abbrev pub UsesLink : Command → Type 0
 UsesLink (Seed store descriptor listen turns) = Unit {0}
 UsesLink (Fetch store descriptor listen turns order peers) = Unit {0}
+UsesLink (Play store descriptor listen turns window peers) = Unit {0}
 UsesLink _ = ⊥
 
 -- How a command ended, by the number that it answered; one that isn't built never does.
@@ -35,4 +38,6 @@ HasEnded (Export store descriptor) number old new = ExportEnds number store desc
 HasEnded (Upgrade store descriptor) number old new = UpgradeEnds number store descriptor old new
 HasEnded Replay number old new = ReplayEnds number old new
 HasEnded (Rehearse n) number old new = RehearseEnds number n old new
+HasEnded (Play store descriptor listen turns window peers) number old new =
+    PlayEnds number (record { store = store; descriptor = descriptor; listen = listen; turns = turns }) window peers old new
 HasEnded _ number old new = ⊥

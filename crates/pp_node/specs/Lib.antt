@@ -10,6 +10,7 @@ pub mod Held
 pub mod Checking
 pub mod Seeding
 pub mod Promising
+pub mod Playing
 pub mod Exporting
 pub mod Upgrading
 pub mod Commanding

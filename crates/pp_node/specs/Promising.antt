@@ -172,7 +172,7 @@ pub record IsKeptTo (d : Descriptor) (old new : Outside) (added : List Record) :
   pub acknowledges : (before : List Record) → old.link.traffic ≡ Some before → IsSteady d old.disk new.disk
       → IsCalm old.link.faults new.link.faults → AcknowledgesAll d (entry new.book) added
 
--- What both commands promise, whatever the status. Of a link that tells its traffic, every chunk that was sent has its hash path in
+-- What each of them promises, whatever the status. Of a link that tells its traffic, every chunk that was sent has its hash path in
 -- the book, answers an outstanding request of an unchoked peer, brings the hashes that the peer lacks, exactly those of its plan, and
 -- fits its LEDBAT window (RFC 6817); every datagram that was sent is read to its end. Of a disk that is honest and tells, every
 -- announced chunk, and each that stood in every image at the attachment, stands in each image that a crash at any later moment leaves:
@@ -188,7 +188,6 @@ pub record PeerEnds (result : ℕ) (w : PeerWords) (old new : Outside) : Type 0 
   pub whole : AllByRecursion (IsWhole w.descriptor) added
   pub keeps : IsKnown old.disk → Keeps w.descriptor new.disk.history added
   pub lasts : IsKnown old.disk → Lasts w.descriptor new.disk.history
-  pub kept_to : IsKeptTo w.descriptor old new added
   -- the store was attached by its name and the link bound to its address; the source isn't read
   pub named : IsKnown old.disk → GainsName old.disk.history.names w.store new.disk.history.names
   pub bound : Binds status w.listen old.link new.link
@@ -199,6 +198,7 @@ pub record PeerEnds (result : ℕ) (w : PeerWords) (old new : Outside) : Type 0 
 -- A run of `seed`, by the number that it answers: why it ended so, and what was said. No chunk is asked for.
 pub record SeedEnds (result : ℕ) (w : PeerWords) (old new : Outside) : Type 0 where
   pub run : PeerEnds result w old new
+  pub kept_to : IsKeptTo w.descriptor old new run.added
   pub asks_none : RequestsNone w.descriptor run.added
   pub ends : SeedsIn run.status w old new run.added
 
@@ -220,6 +220,7 @@ AsksAsOffered d old new added = (before : List Record) → old.link.traffic ≡ 
 -- A run of `fetch`, which is to dial these addresses.
 pub record FetchEnds (result : ℕ) (w : PeerWords) (dial : List Address) (old new : Outside) : Type 0 where
   pub run : PeerEnds result w old new
+  pub kept_to : IsKeptTo w.descriptor old new run.added
   pub dials : DialsAsTold w.descriptor dial old new run.added
   pub asks : AsksAsOffered w.descriptor old new run.added
   pub ends : FetchesIn run.status w old new run.added

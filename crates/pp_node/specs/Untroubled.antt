@@ -1,6 +1,6 @@
 -- Which answers may come where no device refused anything.
 use Rattle.std.specs.Prelude.{◌≡◌, ◌⊎◌, ℕ, Some, List, [], length, Ok}
-use Rattle.pp_words.specs.Commands.{Command, Import, Seed, Fetch, Check, Export, Upgrade, Replay, Rehearse}
+use Rattle.pp_words.specs.Commands.{Command, Import, Seed, Fetch, Check, Export, Upgrade, Replay, Rehearse, Play}
 use Rattle.pp_terms.specs.disk.Disk.{IsKnown}
 use Rattle.pp_terms.specs.disk.Sound.{BeganSound}
 use Rattle.pp_terms.specs.format.Descriptor.{Descriptor}
@@ -57,4 +57,6 @@ AnswersWell (Upgrade store d) result old new =
 AnswersWell Replay result old new =
     (content : List ℕ) (schedule : Schedule) → old.source.left ≡ Some content → read_schedule content ≡ Ok schedule → IsDoneOrShort result
 AnswersWell (Rehearse number) result old new = IsDoneOrShort result
+AnswersWell (Play store d listen turns window peers) result old new =
+    FindsOwn d old new → IsDoneOrMissing result ⊎ ((result ≡ number_of Damaged) × (BeganSound d new.disk.history → ⊥))
 AnswersWell _ result old new = Unit {0}

@@ -11,7 +11,15 @@ fn is_built(name: &str) -> bool
 {
     matches!(
         name,
-        "import" | "seed" | "fetch" | "check" | "export" | "upgrade" | "replay" | "rehearse"
+        "import"
+            | "seed"
+            | "fetch"
+            | "check"
+            | "export"
+            | "upgrade"
+            | "replay"
+            | "rehearse"
+            | "play"
     )
 }
 

@@ -7,6 +7,7 @@ mod counting;
 mod exporting;
 mod importing;
 mod looking;
+mod playing;
 mod preparing;
 mod printing;
 mod ranges;

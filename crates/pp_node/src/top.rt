@@ -1,7 +1,7 @@
 // The top call.
 ghost use Rattle.std.specs.Prelude.{◌≡◌, ◌↔◌, ℕ, List, [], ◌∷◌, codes};
 ghost use Rattle.pp_terms.specs.command.Order as orders;
-ghost use Rattle.pp_words.specs.CommandLine.{Spells, IsImport, IsSeed, IsFetch, IsOnStore, IsRehearse, IsOneOf, IsFirstWrong};
+ghost use Rattle.pp_words.specs.CommandLine.{Spells, IsImport, IsSeed, IsFetch, IsPlay, IsOnStore, IsRehearse, IsOneOf, IsFirstWrong};
 ghost use Rattle.pp_terms.specs.format.Descriptor.{Descriptor};
 ghost use Rattle.pp_terms.specs.format.Traffic.{Address};
 ghost use Rattle.pp_words.specs.Usage as wrong;
@@ -16,6 +16,7 @@ ghost use Rattle.pp_node.specs.Run.{ImportEnds};
 ghost use Rattle.pp_node.specs.Checking.{CheckEnds};
 ghost use Rattle.pp_node.specs.Exporting.{ExportEnds};
 ghost use Rattle.pp_node.specs.Upgrading.{UpgradeEnds};
+ghost use Rattle.pp_node.specs.Playing.{PlayEnds};
 ghost use Rattle.pp_node.specs.Promising.{PeerWords, SeedEnds, FetchEnds};
 ghost use Rattle.pp_node.specs.Outside.{outside};
 ghost use Rattle.pp_node.specs.Status.{number_of};
@@ -26,6 +27,7 @@ use crate::built::read_built;
 use crate::checking::check;
 use crate::exporting::export;
 use crate::importing::import;
+use crate::playing::play;
 use crate::preparing::Peering;
 use crate::refusing::refuse;
 use crate::replaying::{rehearse, replay};
@@ -79,6 +81,11 @@ pub fn run<D: Disk, L: Link, S: Source, K: Sink>(
         → FetchEnds result w peers (outside (D.state disk.old) (L.seen link.old) (S.state source.old) (K.state sink.old) book.old)
         (outside (D.state disk.new) (L.seen link.new) (S.state source.new) (K.state sink.new) book.new) }
 
+    ensures play { (w : PeerWords) (window : ℕ) (peers : List Address)
+        → IsPlay (texts words.now) w.store w.descriptor w.listen w.turns window peers
+        → PlayEnds result w window peers (outside (D.state disk.old) (L.seen link.old) (S.state source.old) (K.state sink.old) book.old)
+        (outside (D.state disk.new) (L.seen link.new) (S.state source.new) (K.state sink.new) book.new) }
+
     ensures check { (store : List ℕ) (descriptor : Descriptor) → IsOnStore (codes "check") (texts words.now) store descriptor
         → CheckEnds result store descriptor (outside (D.state disk.old) (L.seen link.old) (S.state source.old) (K.state sink.old) book.old)
         (outside (D.state disk.new) (L.seen link.new) (S.state source.new) (K.state sink.new) book.new) }
@@ -106,7 +113,7 @@ pub fn run<D: Disk, L: Link, S: Source, K: Sink>(
         → IsOneOf built c → AnswersWell c result (outside (D.state disk.old) (L.seen link.old) (S.state source.old) (K.state sink.old) book.old)
         (outside (D.state disk.new) (L.seen link.new) (S.state source.new) (K.state sink.new) book.new) }
 
-    // Only `seed` and `fetch` use the link, and only they, `check`, `export` and `upgrade` fill the book.
+    // Only `seed`, `fetch` and `play` use the link, and only they, `check`, `export` and `upgrade` fill the book.
     ensures link { ((c : terms.Command) → Spells (texts words.now) c → UsesLink c → ⊥) → L.seen link.new ≡ L.seen link.old }
     ensures book { ((c : terms.Command) → Spells (texts words.now) c → FillsBook c → ⊥) → book.new ≡ book.old }
 {
@@ -183,8 +190,27 @@ fn obey<D: Disk, L: Link, S: Source, K: Sink>(
         }
         Command::Replay => replay(alloc, source, sink),
         Command::Rehearse { number } => rehearse(alloc, *number, sink),
+        Command::Play {
+            store,
+            descriptor,
+            listen,
+            turns,
+            window,
+            peers,
+        } => {
+            let words = Peering {
+                store,
+                descriptor,
+                listen,
+                turns: *turns,
+                asks: Some(Rank::Blocks),
+                dial: peers,
+                random,
+            };
+            play(alloc, &words, *window, disk, link, sink, book)
+        }
         // These are not built, so they are never asked for.
-        Command::Play { .. } | Command::Record { .. } | Command::Audit => unreachable!(),
+        Command::Record { .. } | Command::Audit => unreachable!(),
     }
 }
 

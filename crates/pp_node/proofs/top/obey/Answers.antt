@@ -25,3 +25,6 @@ pub returns-in-Rehearse-clause-ended : goal.returns-in-Rehearse-clause-ended
 returns-in-Rehearse-clause-ended g c =
     rw c.in-Rehearse.is (rehearse_ended c.rehearse.result c.in-Rehearse.number (g.L.Link.seen c.args.link.now) (g.D.Disk.state c.args.disk.now) (g.S.Source.state c.args.source.now)
     (g.K.Sink.state c.args.sink.now) (g.K.Sink.state c.rehearse.new.sink) c.args.book.now c.rehearse.ensures)
+
+pub returns-in-Play-clause-ended : goal.returns-in-Play-clause-ended
+returns-in-Play-clause-ended g c = rw c.in-Play.is (c.play.ensures (g.S.Source.state c.args.source.now))

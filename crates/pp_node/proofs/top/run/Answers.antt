@@ -1,8 +1,8 @@
 use Rattle.std.proofs.Common.{rules, refl}
-use Rattle.pp_words.specs.Commands.{Check, Export, Fetch, Seed, Upgrade, Replay, Rehearse}
+use Rattle.pp_words.specs.Commands.{Check, Export, Fetch, Seed, Upgrade, Replay, Rehearse, Play}
 use Rattle.pp_words.specs.Views.{texts, command_of, usage_of}
 use Rattle.pp_node.specs.Outside.{outside}
-use Rattle.pp_node.proofs.Commands.{none_spelled, import_ends, seed_ends, fetch_ends, check_ends, export_ends, upgrade_ends, replay_ends, rehearse_ends}
+use Rattle.pp_node.proofs.Commands.{none_spelled, import_ends, seed_ends, fetch_ends, play_ends, check_ends, export_ends, upgrade_ends, replay_ends, rehearse_ends}
 use Rattle.pp_node.proofs.Untroubled.{answers_well}
 use Rattle.pp_node.proofs.top.run.Goals as goal
 
@@ -23,6 +23,13 @@ returns-in-Ok-clause-seed g c =
 pub returns-in-Ok-clause-fetch : goal.returns-in-Ok-clause-fetch
 returns-in-Ok-clause-fetch g c =
     fetch_ends (texts c.args.words.now) (command_of c.in-Ok.command) c.obey.result c.number.result
+    (outside (g.D.Disk.state c.args.disk.now) (g.L.Link.seen c.args.link.now) (g.S.Source.state c.args.source.now) (g.K.Sink.state c.args.sink.now) c.args.book.now)
+    (outside (g.D.Disk.state c.obey.new.disk) (g.L.Link.seen c.obey.new.link) (g.S.Source.state c.obey.new.source) (g.K.Sink.state c.obey.new.sink) c.obey.new.book)
+    c.in-Ok.ensures.ok.0 c.number.ensures c.obey.ensures.ended
+
+pub returns-in-Ok-clause-play : goal.returns-in-Ok-clause-play
+returns-in-Ok-clause-play g c =
+    play_ends (texts c.args.words.now) (command_of c.in-Ok.command) c.obey.result c.number.result
     (outside (g.D.Disk.state c.args.disk.now) (g.L.Link.seen c.args.link.now) (g.S.Source.state c.args.source.now) (g.K.Sink.state c.args.sink.now) c.args.book.now)
     (outside (g.D.Disk.state c.obey.new.disk) (g.L.Link.seen c.obey.new.link) (g.S.Source.state c.obey.new.source) (g.K.Sink.state c.obey.new.sink) c.obey.new.book)
     c.in-Ok.ensures.ok.0 c.number.ensures c.obey.ensures.ended
@@ -83,6 +90,10 @@ returns-in-Err-clause-seed g c = λ w spelled.
 pub returns-in-Err-clause-fetch : goal.returns-in-Err-clause-fetch
 returns-in-Err-clause-fetch g c = λ w order peers spelled.
     absurd (none_spelled (texts c.args.words.now) (usage_of c.in-Err.usage) c.in-Err.ensures.err (Fetch w.store w.descriptor w.listen w.turns order peers) refl spelled)
+
+pub returns-in-Err-clause-play : goal.returns-in-Err-clause-play
+returns-in-Err-clause-play g c = λ w window peers spelled.
+    absurd (none_spelled (texts c.args.words.now) (usage_of c.in-Err.usage) c.in-Err.ensures.err (Play w.store w.descriptor w.listen w.turns window peers) refl spelled)
 
 pub returns-in-Err-clause-check : goal.returns-in-Err-clause-check
 returns-in-Err-clause-check g c = λ store descriptor spelled.
