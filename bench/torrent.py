@@ -1,8 +1,9 @@
 #!/usr/bin/env python3
 """How fast libtorrent moves a content over loopback, to compare a fetch with: one seeder and one downloader, two processes.
 
-Usage: bench/torrent.py [MEBIBYTES [tcp|utp [PIECE]]]; 64, tcp and 16384 bytes unless given. Wants Debian's python3-libtorrent
-(so /usr/bin/python3). Prints megabytes a second from the downloader's connecting to its last piece, and the processor seconds of
+Usage: bench/torrent.py [MEBIBYTES [tcp|utp [PIECE [VIA]]]]; 64, tcp and 16384 bytes unless given. VIA is the port that the downloader names
+in place of the seeder's, 17201: that of a relay (bench/relay.py VIA 17201 ..), for uTP. Wants Debian's python3-libtorrent (so
+/usr/bin/python3). Prints megabytes a second from the downloader's connecting to its last piece, and the processor seconds of
 both. TMPDIR names where the files lie.
 """
 import os
@@ -42,6 +43,7 @@ def main():
     size = (int(sys.argv[1]) if len(sys.argv) > 1 else 64) << 20
     kind = sys.argv[2] if len(sys.argv) > 2 else "tcp"
     piece = int(sys.argv[3]) if len(sys.argv) > 3 else 16384
+    named = int(sys.argv[4]) if len(sys.argv) > 4 else PORT
     with tempfile.TemporaryDirectory() as folder:
         source, target = f"{folder}/source", f"{folder}/target"
         os.mkdir(source)
@@ -65,10 +67,12 @@ def main():
             while handle.status().state == libtorrent.torrent_status.checking_files:
                 time.sleep(0.01)
             begun = time.monotonic()
-            handle.connect_peer(("127.0.0.1", PORT))
-            while not handle.status().is_seeding and time.monotonic() < begun + 300:
+            handle.connect_peer(("127.0.0.1", named))
+            while not handle.status().is_seeding and time.monotonic() < begun + 900:
                 time.sleep(0.005)
             took = time.monotonic() - begun
+            if not handle.status().is_seeding:
+                sys.exit(f"{handle.status().progress:.0%} after {took:.0f} s")
             busy = os.times()
             with open(f"/proc/{child}/stat") as stat:
                 fields = stat.read().rsplit(")", 1)[1].split()
