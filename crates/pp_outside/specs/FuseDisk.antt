@@ -16,7 +16,7 @@ inner_of disk = disk.inner
 abbrev pub calls_of : FuseDisk → ℕ
 calls_of disk = disk.calls
 
--- It is honest and tells: its history is that of the disk behind it, and its counts have its own refusals too.
+-- The disk is honest and tells: its history is that of the disk behind it, and its counts have its own refusals too.
 abbrev pub state_of : FuseDisk → DiskState
 state_of disk = record {
   tells = true;
@@ -26,8 +26,8 @@ state_of disk = record {
   hard = disk.hard;
 }
 
--- One call fewer is left, where one was, and where none was the call is refused. Each refusal is counted, its own or
--- that of the disk behind it, by one count only where it is a read's.
+-- One call fewer is left, where one was, and where none was the call is refused. Each refusal is counted, whether its own
+-- or that of the disk behind it, by one count only where it is a read's.
 pub record Burns {T E : Type 0} (old : FuseDisk) (call : Call) (result : Result T E) (new : FuseDisk) : Type 0 where
   pub calls : calls_of new ≡ calls_of old - 1
   pub spent : calls_of old ≡ 0 → IsErr result

@@ -13,7 +13,7 @@ abbrev pub is_read : Call → Bool
 is_read Read = true
 is_read _ = false
 
--- It is honest and tells its contents, which are those of all its calls.
+-- The disk is honest and tells its contents, which are those of all its calls.
 abbrev pub state_of : MemoryDisk → DiskState
 state_of disk = record {
   tells = true;
@@ -80,14 +80,16 @@ pub record Measures {E : Type 0} (old : MemoryDisk) (result : Result ℕ E) (new
   pub length : IfOk result (λ n. n ≡ length (state_of old).history.reads)
   pub fails : FailsOnOrder old Len result new
 
-pub record Reads {E : Type 0} (old : MemoryDisk) (place : ℕ) (before : List ℕ) (result : Result (Unit {0}) E) (into : List ℕ) (new : MemoryDisk) : Type 0 where
+pub record Reads {E : Type 0} (old : MemoryDisk) (place : ℕ) (before : List ℕ) (result : Result (Unit {0}) E) (into : List ℕ)
+    (new : MemoryDisk) : Type 0 where
   pub history : (state_of new).history ≡ (state_of old).history
   pub filled : OnOk result (IsRead (state_of old).history.reads place into)
   pub refused : OnErr result (into ≡ before)
   pub fails : FailsOnOrder old Read result new
 
 -- On order the write is pending and not done, so that a crash may do it.
-pub record Writes {E : Type 0} (old : MemoryDisk) (place : ℕ) (bytes : List ℕ) (result : Result (Unit {0}) E) (new : MemoryDisk) : Type 0 where
+pub record Writes {E : Type 0} (old : MemoryDisk) (place : ℕ) (bytes : List ℕ) (result : Result (Unit {0}) E)
+    (new : MemoryDisk) : Type 0 where
   pub done : OnOk result ((state_of new).history ≡ after_write (state_of old).history place bytes)
   pub ordered : IsTrue (is_ordered old Write) → IsErr result
       × ((((state_of new).history ≡ after_refused_write (state_of old).history place bytes) × (is_short new ≡ is_short old))

@@ -48,7 +48,8 @@ pub record DoesNext {E : Type 0} (old : LinkState) (buffer : List ℕ) (result :
   pub cause : HasCause old.faults new.faults result
 
 -- The record carries the disk's moment when the call was made.
-pub record DoesSend {E : Type 0} (old : LinkState) (moment : ℕ) (receiver : Address) (bytes : List ℕ) (result : Result (Unit {0}) E) (new : LinkState) : Type 0 where
+pub record DoesSend {E : Type 0} (old : LinkState) (moment : ℕ) (receiver : Address) (bytes : List ℕ)
+    (result : Result (Unit {0}) E) (new : LinkState) : Type 0 where
   pub gained : OnOk result (GainsRecords old.traffic (Sent moment (address_of receiver) bytes ∷ []) new.traffic)
   pub refused : OnErr result (new.traffic ≡ old.traffic)
   pub nexts : new.nexts ≡ old.nexts

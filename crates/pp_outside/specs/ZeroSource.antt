@@ -7,7 +7,7 @@ use Rattle.pp_outside.specs.declared.zero_source.ZeroSource.{ZeroSource}
 abbrev pub count_of : ZeroSource → ℕ
 count_of source = source.left
 
--- that many zeros (never computed: there may be 2^64 of them)
+-- zeros, as many as the number says (never computed: there may be 2^64 of them)
 unfoldable pub zeros : ℕ → List ℕ
 zeros n = replicate n 0
 

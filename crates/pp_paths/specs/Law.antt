@@ -42,7 +42,7 @@ ProvenIsSettled = (d : Descriptor) (book claims : LookUp) (i : ℕ) (bytes : Lis
     → IsDescriptor d → IsRooted d book → (Contradicts book (met d claims i bytes) → ⊥)
     → settled (chunks_of d) book claims ≡ Known
 
--- And then, in the book with the settled peaks, the chunk fits.
+-- Where the peaks are settled so, the chunk fits in the book with them.
 abbrev pub ProvenFits : Type 0
 ProvenFits = (d : Descriptor) (book peaked claims : LookUp) (i : ℕ) (bytes : List ℕ) (proof : Proves d claims i bytes)
     → IsDescriptor d → IsRooted d book → (Contradicts book (met d claims i bytes) → ⊥)

@@ -50,7 +50,7 @@ pub record Hears (old : List Contact) (a : Address) (now : ℕ) (new : List Cont
   pub full : place_of old a ≡ None → 64 ≤ length old
       → (place : ℕ) × IsOldest old place × (new ≡ slice_set old place (contact_of a now))
 
--- It was heard in the last 60 seconds, and is not the asker.
+-- The contact was heard in the last 60 seconds, and is not the asker.
 abbrev pub is_told : Address → ℕ → Contact → Bool
 is_told asker now contact = nat_lt (now - contact.moment) 60_000_000 && not (is_same contact.address asker)
 

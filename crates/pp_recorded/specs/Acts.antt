@@ -61,7 +61,7 @@ acts_since d life place before (x ∷ xs) =
 abbrev pub acts_of_life : Descriptor → Life → List Entry → List Act
 acts_of_life d life xs = acts_since d life life.opening (now (past (take life.opening xs))) (drop life.opening xs)
 
--- those from a spot on
+-- a life's acts from a spot on
 abbrev pub ahead_in : Descriptor → Life → Spot → List Entry → List Act
 ahead_in d life c [] = []
 ahead_in d life c (x ∷ xs) =

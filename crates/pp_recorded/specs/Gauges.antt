@@ -42,7 +42,7 @@ departed is_flying now m = record {
 abbrev pub alone : ℕ → Option ℕ → Option ℕ
 alone hits sent_at = if hits == 1 then sent_at else None
 
--- so many of those that fly are acknowledged, the oldest of which was sent then, and something is lost or not
+-- the round trips after an acknowledgement of so many chunks that fly, the oldest of which was sent then
 abbrev pub trips_after : (hits : ℕ) → Option ℕ → ℕ → Meter → Trips
 trips_after hits sent_at now m = timed_by now (alone hits sent_at) m.trips
 

@@ -42,8 +42,13 @@ pub fn some_since<'m>(
     found
 }
 
-// Whether the entry at a place is one of the channel's two first handshakes, and that place its opening.
-fn is_opening<'m>(descriptor: &Descriptor, life: Life, place: usize, entry: &'m Entry<'m>) -> bool
+/// Whether the entry at a place is one of the channel's two first handshakes, and that place its opening.
+pub fn is_opening<'m>(
+    descriptor: &Descriptor,
+    life: Life,
+    place: usize,
+    entry: &'m Entry<'m>,
+) -> bool
     ensures { result ≡ (life.opening == place && (lives.greets descriptor.now (life_of life) (record_of entry.now)
         || lives.answers descriptor.now (life_of life) (record_of entry.now))) }
 {
@@ -62,8 +67,8 @@ fn is_opened<'m>(descriptor: &Descriptor, life: Life, entries: &'m [Entry<'m>]) 
     opened
 }
 
-// Whether the entry at a place closes the channel, by whether a handshake of the peer came on it before.
-fn is_closing<'m>(
+/// Whether the entry at a place closes the channel, by whether a handshake of the peer came on it before.
+pub fn is_closing<'m>(
     descriptor: &Descriptor,
     life: Life,
     place: usize,

@@ -40,8 +40,8 @@ fn brings_node<'m>(node: Node, message: &'m Message<'m>) -> bool
     }
 }
 
-// Whether the first messages of a datagram, so many, bring the node.
-fn is_brought(descriptor: &Descriptor, bytes: &[u8], count: usize, node: Node) -> bool
+/// Whether the first messages of a datagram, so many, bring the node.
+pub fn is_brought(descriptor: &Descriptor, bytes: &[u8], count: usize, node: Node) -> bool
     requires { node.layer < 21 }
     ensures { result ≡ brought descriptor.now bytes.now count (node_of node) }
 {

@@ -28,8 +28,10 @@ listed (Drops i ∷ before) = without_below i (listed before)
 -- What calls leave stands for these calls: `new` for none, and each other call for one more.
 pub record CallsStand : Type 0 where
   pub new : [] ≡ listed []
-  pub requests : (range : Span) (list : List Span) (calls : List Call) → list ≡ listed calls → requested range list ≡ listed (Requests range ∷ calls)
-  pub cancels : (range : Span) (list : List Span) (calls : List Call) → list ≡ listed calls → cancelled range list ≡ listed (Cancels range ∷ calls)
+  pub requests : (range : Span) (list : List Span) (calls : List Call) → list ≡ listed calls
+      → requested range list ≡ listed (Requests range ∷ calls)
+  pub cancels : (range : Span) (list : List Span) (calls : List Call) → list ≡ listed calls
+      → cancelled range list ≡ listed (Cancels range ∷ calls)
   pub clears : (calls : List Call) → [] ≡ listed (Clears ∷ calls)
   pub takes : (least : ℕ) (list : List Span) (calls : List Call) → IsRunsFrom 0 list → IsLeast list least → list ≡ listed calls
       → without least list ≡ listed (Takes ∷ calls)

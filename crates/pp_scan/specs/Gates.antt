@@ -13,6 +13,6 @@ pub record IsSlotUnder (k i s : ℕ) : Type 0 where
 abbrev pub ShowsGate : Descriptor → List ℕ → LookUp → List Bool → ℕ → Type 0
 ShowsGate d reads book set s = s < chunks_of d → is_some (book 0 s) ≡ true → slice_index_or set s false ≡ is_open d reads s
 
--- and so of each chunk whose slot lies under a node
+-- the same of each chunk whose slot lies under a node
 abbrev pub ShowsGates : Descriptor → List ℕ → ℕ → ℕ → LookUp → List Bool → Type 0
 ShowsGates d reads k i book set = (s : ℕ) → IsSlotUnder k i s → ShowsGate d reads book set s

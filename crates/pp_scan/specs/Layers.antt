@@ -16,7 +16,7 @@ pub record IsUnder (k i l j : ℕ) : Type 0 where
 abbrev pub IsBareUnder : ℕ → ℕ → LookUp → Type 0
 IsBareUnder k i book = (l j : ℕ) → IsUnder k i l j → book l j ≡ None
 
--- It has exactly the known nodes under it; or no others.
+-- The book has exactly the known nodes under a node; or no others.
 abbrev pub HasKnownUnder : Descriptor → List ℕ → ℕ → ℕ → LookUp → Type 0
 HasKnownUnder d image k i book = (l j : ℕ) → IsUnder k i l j → book l j ≡ known d image l j
 

@@ -21,8 +21,8 @@ pub record IsScanned (d : Descriptor) (disk : DiskState) (book : LookUp) (set : 
   pub found : IsKnown disk → (i : ℕ) → i < chunks_of d → slice_index_or set i false ≡ is_found d disk.history.reads i
   pub known : IsKnown disk → HasKnown d disk.history.reads book
 
--- The file isn't empty and is no store of the descriptor's: its first byte that differs from the header is named, with what
--- it is and what was wanted, which over every disk is the header's byte there.
+-- The file isn't empty and is no store of the descriptor's: its first byte that differs from the header is named, as it is,
+-- beside the byte that was wanted, which over every disk is the header's.
 pub record IsOther (d : Descriptor) (at found want : ℕ) (disk : DiskState) : Type 0 where
   pub within : at < 64
   pub differ : found ≡ want → ⊥
@@ -37,7 +37,7 @@ HasFound unread d disk disk' book (Err (NotAStore at found want)) = IsOther d at
 HasFound unread d disk disk' book (Err Disk) = HasRisen disk.faults disk'.faults
 HasFound unread d disk disk' book (Err Memory) = unread
 
--- It was read that the file is a store, or that it is none.
+-- What was read says that the file is a store, or that it is none.
 abbrev pub OnRead : Result (List Bool) ScanFault → Type 0 → Type 0
 OnRead (Ok set) P = P
 OnRead (Err (NotAStore at found want)) P = P

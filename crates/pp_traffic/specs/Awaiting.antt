@@ -40,19 +40,23 @@ is_in_time_at d life r past = is_in_time (now_at life.opening past) (heard_at d 
 -- A channel is plain after one record more exactly where it was plain before, or awaited this reply, and the record neither
 -- closed it nor came too late.
 pub record PlainGrows : Type 0 where
-  pub received : (d : Descriptor) (life : Life) (at : ℕ) (sender : Address) (bytes : List ℕ) (past : List Record) → let r = Received at sender bytes in
+  pub received : (d : Descriptor) (life : Life) (at : ℕ) (sender : Address) (bytes : List ℕ) (past : List Record)
+      → let r = Received at sender bytes in
       IsPlainNow d life (r ∷ past)
       ↔ ((closes_on d life r ≡ false) × ((IsPlainNow d life past × (is_in_time_at d life r past ≡ true)) ⊎ IsReplyOfPeer d life r past))
   pub quiet : (d : Descriptor) (life : Life) (at : ℕ) (past : List Record)
       → IsPlainNow d life (Quiet at ∷ past) ↔ (IsPlainNow d life past × (is_in_time_at d life (Quiet at) past ≡ true))
-  pub sent : (d : Descriptor) (life : Life) (moment : ℕ) (receiver : Address) (bytes : List ℕ) (past : List Record) → let r = Sent moment receiver bytes in
+  pub sent : (d : Descriptor) (life : Life) (moment : ℕ) (receiver : Address) (bytes : List ℕ) (past : List Record)
+      → let r = Sent moment receiver bytes in
       IsPlainNow d life (r ∷ past) ↔ (IsPlainNow d life past ⊎ IsReply d life r past)
   -- up to the next record: a dial's reply may be that one
   pub up_to : (d : Descriptor) (life : Life) (r : Record) (past : List Record)
       → IsPlainUpTo d life past r ↔ (IsPlainNow d life past ⊎ IsReplyOfPeer d life r past)
   -- so it is wherever a dial's reply is looked for: it was plain before, or the record is this peer's reply or its dial
   pub earlier : (d : Descriptor) (life : Life) (reach : List Record) (r : Record) (past : List Record) → IsPlain d life reach (r ∷ past)
-      → IsPlain d life reach past ⊎ (IsReply d life r past ⊎ ((life.is_dialled ≡ true) × (life.opening ≡ length past) × (answers d life r ≡ true)))
+      → IsPlain d life reach past
+      ⊎ (IsReply d life r past ⊎ ((life.is_dialled ≡ true) × (life.opening ≡ length past) × (answers d life r ≡ true)))
   -- one that awaits its reply did so before, or this record opened it
   pub awaited : (d : Descriptor) (life : Life) (r : Record) (past : List Record) → Awaits d life (r ∷ past)
-      → Awaits d life past ⊎ ((life.opening ≡ length past) × (MatchBool life.is_dialled (answers d life r ≡ true) (greets_once d life r ≡ true)))
+      → Awaits d life past
+      ⊎ ((life.opening ≡ length past) × (MatchBool life.is_dialled (answers d life r ≡ true) (greets_once d life r ≡ true)))

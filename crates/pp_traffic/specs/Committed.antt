@@ -18,7 +18,8 @@ is_in committed i = slice_index_or committed i false
 pub record AreCommitted (d : Descriptor) (disk' : DiskState) (added : List Record) (committed : List Bool) : Type 0 where
   pub size : length committed ≡ chunks_of d
   pub announced : EachAnnounced d (λ moment i. is_in committed i ≡ true) added
-  pub stand : IsKnown disk' → BeganSound d disk'.history → (i : ℕ) → is_in committed i ≡ true → StandsSince d disk'.history (moment_of disk'.history) i
+  pub stand : IsKnown disk' → BeganSound d disk'.history → (i : ℕ) → is_in committed i ≡ true
+      → StandsSince d disk'.history (moment_of disk'.history) i
   pub kept : IsKnown disk' → (i : ℕ) → StoodThroughout d disk'.history i → is_in committed i ≡ true
 
 -- the record was sent, and asks for chunks

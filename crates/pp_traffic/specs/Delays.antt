@@ -19,7 +19,7 @@ abbrev pub sample_of : Option ℕ → ℕ → ℕ
 sample_of None delay = 2 ^ 40
 sample_of (Some first) delay = (delay + (2 ^ 64 - first) + 2 ^ 40) % 2 ^ 64
 
--- it is at most 2 ^ 40 away from the first; another one is ignored
+-- a sample is at most 2 ^ 40 away from the first; another one is ignored
 abbrev pub is_near : ℕ → Bool
 is_near sample = nat_le sample (2 ^ 41)
 

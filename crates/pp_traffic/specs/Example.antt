@@ -66,7 +66,8 @@ pub record TurnExamples : Type 0 where
 
 -- twenty events, three of them datagrams, one of those too short, and two datagrams that were sent
 abbrev pub twenty : List Record
-twenty = Sent 0 peer alive ∷ Received 7 peer alive ∷ Sent 0 peer have ∷ Received 6 peer closing ∷ Received 5 peer have ∷ replicate 17 (Quiet 1)
+twenty =
+    Sent 0 peer alive ∷ Received 7 peer alive ∷ Sent 0 peer have ∷ Received 6 peer closing ∷ Received 5 peer have ∷ replicate 17 (Quiet 1)
 
 pub record CountExamples : Type 0 where
   pub counted : (came twenty ≡ 3) × (went twenty ≡ 2) × (came_short (Received 8 peer (0 ∷ 0 ∷ 9 ∷ []) ∷ twenty) ≡ 1)
@@ -88,7 +89,9 @@ pub record WindowExamples : Type 0 where
 
 -- of three chunks: digests of chunks 0 and 1 together, and of chunks 2 and 3, as they came, the last one first
 abbrev pub integrity : List Line
-integrity = Heard 1 (Integrity (record { first = 2; last = 3 }) (replicate 32 2)) ∷ Heard 0 (Integrity (record { first = 0; last = 1 }) (replicate 32 1)) ∷ []
+integrity =
+    Heard 1 (Integrity (record { first = 2; last = 3 }) (replicate 32 2))
+    ∷ Heard 0 (Integrity (record { first = 0; last = 1 }) (replicate 32 1)) ∷ []
 
 pub record ClaimedExamples : Type 0 where
   pub pair : claimed 3 integrity 1 0 ≡ Some (replicate 32 1)

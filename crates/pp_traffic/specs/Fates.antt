@@ -1,5 +1,5 @@
--- What became of each DATA that was ever sent on a story (RFC 6817, section 3.2; RFC 6298, section 5), and each delay
--- that was measured (RFC 6817, section 3.4.2). Nothing is dropped here, and nothing counted on the way: there is a list
+-- What became of each DATA that was ever sent on a story (RFC 6817, section 3.2; RFC 6298, section 5), and each delay,
+-- as it was measured (RFC 6817, section 3.4.2). Nothing is dropped here, and nothing counted on the way: there is a list
 -- of all DATA, and a list of all samples.
 use Rattle.std.specs.Prelude.{◌≡◌, ℕ, ◌-◌, max, ◌==◌, nat_lt, nat_le, Bool, true, false, not, ◌&&◌, if◌then◌else◌, Option, Some, None, List, [], ◌∷◌, ◌++◌, map, filter}
 use Rattle.std.specs.List.{count_by, list_any}

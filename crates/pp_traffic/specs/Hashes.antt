@@ -31,7 +31,7 @@ is_told chunks (Said now m ∷ before) n = is_told chunks before n
 is_told chunks (Taken now ∷ before) n = is_told chunks before n
 
 -- The path from a node up is complete for who is brought some nodes and was told of others: at the first node on the way
--- that is told or a peak, it is told, or all peaks are brought or told; and the siblings of the nodes before it are too.
+-- which is told or a peak, it is told, or all peaks are brought or told; and the siblings of the nodes before it are too.
 -- The first number bounds the way.
 abbrev pub completes_from : ℕ → ℕ → (Node → Bool) → (Node → Bool) → Node → Bool
 completes_from zero chunks brought told n = false

@@ -24,21 +24,25 @@ LivesBegan = (d : Descriptor) (life : Life) (past : List Record) → IsLife d li
 
 -- What one record more does to the story of a life that has begun.
 pub record StoriesGrow : Type 0 where
-  pub received : (d : Descriptor) (life : Life) (at : ℕ) (sender : Address) (bytes : List ℕ) (past : List Record) → life.opening < length past
+  pub received : (d : Descriptor) (life : Life) (at : ℕ) (sender : Address) (bytes : List ℕ) (past : List Record)
+      → life.opening < length past
       → story d life (Received at sender bytes ∷ past)
       ≡ Taken (max at (now past)) ∷ hear (max at (now past)) (heard_in d life false (Received at sender bytes)) (story d life past)
   pub quiet : (d : Descriptor) (life : Life) (at : ℕ) (past : List Record) → life.opening < length past
       → story d life (Quiet at ∷ past) ≡ Taken (max at (now past)) ∷ story d life past
-  pub sent : (d : Descriptor) (life : Life) (moment : ℕ) (receiver : Address) (bytes : List ℕ) (past : List Record) → life.opening < length past
+  pub sent : (d : Descriptor) (life : Life) (moment : ℕ) (receiver : Address) (bytes : List ℕ) (past : List Record)
+      → life.opening < length past
       → story d life (Sent moment receiver bytes ∷ past) ≡ say (now past) (said_in d life (Sent moment receiver bytes)) (story d life past)
   -- the opening itself is where it begins
-  pub opening : (d : Descriptor) (life : Life) (at : ℕ) (sender : Address) (bytes : List ℕ) (past : List Record) → life.opening ≡ length past
+  pub opening : (d : Descriptor) (life : Life) (at : ℕ) (sender : Address) (bytes : List ℕ) (past : List Record)
+      → life.opening ≡ length past
       → story d life (Received at sender bytes ∷ past)
       ≡ Taken (max at (now past)) ∷ hear (max at (now past)) (heard_in d life true (Received at sender bytes)) []
 
 -- What is told stays told.
 abbrev pub ToldStays : Type 0
-ToldStays = (chunks : ℕ) (line : Line) (story : List Line) (n : Node) → is_told chunks story n ≡ true → is_told chunks (line ∷ story) n ≡ true
+ToldStays = (chunks : ℕ) (line : Line) (story : List Line) (n : Node)
+    → is_told chunks story n ≡ true → is_told chunks (line ∷ story) n ≡ true
 
 -- More hashes that are brought, or told, complete a path too.
 abbrev pub PathsGrow : Type 0
@@ -85,8 +89,8 @@ ServedStays = (d : Descriptor) (book larger : LookUp) (window : Window) (past : 
 abbrev pub ChokesEndAsking : Type 0
 ChokesEndAsking = (i : ℕ) (story : List Line) → choked story ≡ true → asked i story ≡ false
 
--- What a datagram that was sent says on a life: all its messages where it went to the peer's address and number, and none where
--- it went to another address, or to a number that is neither the peer's nor 0.
+-- What a datagram that was sent says on a life: all its messages where it went to the peer's address and number, and none
+-- where it went to another address, or to a number that is neither the peer's nor 0.
 pub record SentIsSaid : Type 0 where
   pub own : (d : Descriptor) (life : Life) (moment : ℕ) (receiver : Address) (bytes : List ℕ)
       → same_address receiver life.address ≡ true → is_number life.remote (read d (Sent moment receiver bytes)).channel ≡ true

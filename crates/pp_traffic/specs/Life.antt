@@ -1,5 +1,5 @@
--- A channel in the traffic: between this peer and another one at an address, under a number of each (RFC 7574, sections 3.1.1
--- and 8.2 to 8.4). It is opened by a handshake of each of the two. A record can lie on several lives, since a handshake can
+-- A channel in the traffic: between this peer and another one at an address, under a number of each (RFC 7574, sections
+-- 3.1.1 and 8.2 to 8.4). It is opened by a handshake of each of the two. A record can lie on several lives, since a handshake can
 -- come again and numbers can be used again.
 use Rattle.std.specs.Prelude.{◌≡◌, ℕ, ◌<◌, ◌==◌, nat_lt, Bool, true, false, not, ◌&&◌, ◌||◌, if◌then◌else◌, is_none, List, [], ◌∷◌, length}
 use Rattle.pp_terms.specs.format.Traffic.{Address, Record}
@@ -27,12 +27,12 @@ abbrev pub begins : List Message → Bool
 begins (Handshake source options ∷ ms) = true
 begins _ = false
 
--- it is a handshake of that source channel
+-- the first message is a handshake of that source channel
 abbrev pub begins_as : ℕ → List Message → Bool
 begins_as number (Handshake source options ∷ ms) = source == number
 begins_as number _ = false
 
--- and its options fit
+-- a handshake of that source channel comes first, and its options fit
 abbrev pub begins_fitting : Descriptor → Bool → ℕ → List Message → Bool
 begins_fitting d is_reply number (Handshake source options ∷ ms) = source == number && fits d is_reply options
 begins_fitting d is_reply number _ = false
@@ -59,11 +59,11 @@ answers d life r = goes_to life.address r
 abbrev pub comes_on : Descriptor → Life → Record → Bool
 comes_on d life r = comes_from life.address r && is_number life.local (read d r).channel
 
--- and it begins with a handshake
+-- a record of the life that begins with a handshake
 abbrev pub shakes_on : Descriptor → Life → Record → Bool
 shakes_on d life r = comes_on d life r && begins (read d r).messages.read
 
--- and it has a closing handshake
+-- a record of the life that has a closing handshake
 abbrev pub closes_on : Descriptor → Life → Record → Bool
 closes_on d life r = comes_on d life r && closes (read d r).messages.read
 

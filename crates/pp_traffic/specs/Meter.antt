@@ -1,5 +1,5 @@
--- The congestion window of a channel, LEDBAT (RFC 6817, section 2.4; RFC 7574, section 8.16): what flies, and how many bytes may.
--- It is a fold over the channel's story. Bytes and microseconds; each chunk counts as one of full size.
+-- The congestion window of a channel, LEDBAT (RFC 6817, section 2.4; RFC 7574, section 8.16): what flies, and how many bytes may,
+-- as a fold over the channel's story. Bytes and microseconds; each chunk counts as one of full size.
 use Rattle.std.specs.Prelude.{ℕ, ◌+◌, ◌-◌, ◌*◌, ◌/◌, ◌==◌, min, max, nat_lt, nat_le, Bool, true, false, not, ◌&&◌, ◌||◌, if◌then◌else◌, Option, Some, None, List, [], ◌∷◌, ◌++◌, length}
 use Rattle.std.specs.List.{count_by}
 use Rattle.pp_terms.specs.format.Messages.{Message, Data, Ack}
@@ -108,7 +108,8 @@ is_halved first last now m = loses first last m.entries && is_rested now (trips_
 abbrev pub settled : (first last delay now : ℕ) → Meter → Meter
 settled first last delay now m = record {
   chunk = m.chunk;
-  window = if is_halved first last now m then half_of m.chunk (window_gained first last delay now m) else window_gained first last delay now m;
+  window = if is_halved first last now m then half_of m.chunk (window_gained first last delay now m)
+      else window_gained first last delay now m;
   entries = flying first last m.entries;
   delays = sampled delay now m.delays;
   trips = trips_after first last now m;

@@ -39,7 +39,7 @@ bytes_of (Sent moment receiver bytes) = bytes
 abbrev pub read : Descriptor → Record → Datagram
 read d r = datagram d.method d.chunk (bytes_of r)
 
--- it is for that channel number
+-- a datagram for that channel number
 abbrev pub is_number : ℕ → Option ℕ → Bool
 is_number number None = false
 is_number number (Some channel) = channel == number

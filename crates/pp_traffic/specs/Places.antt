@@ -1,5 +1,5 @@
--- The same in words by places: before, after, between. A record stands in the traffic where the traffic is what came after
--- it, the record, and what was before it.
+-- The same in words by places: before, after, between. A record stands in the traffic where the traffic is what came
+-- after it, the record, and what was before it.
 use Rattle.std.specs.Prelude.{◌≡◌, ◌≢◌, ◌⊎◌, ℕ, zero, suc, ◌+◌, ◌<◌, ◌≤◌, Bool, true, false, ◌||◌, List, ◌∷◌, ◌++◌, length, MatchBool, ◌↔◌}
 use Rattle.std.specs.List.{AllByRecursion, list_all}
 use Rattle.pp_terms.specs.format.Traffic.{Record}
@@ -86,8 +86,8 @@ abbrev pub ancestor : ℕ → Node → Node
 ancestor zero n = n
 ancestor (suc k) n = ancestor k (parent_of n)
 
--- The first node on the way up that is told or a peak lies within the tree; it is told, or all peaks are brought or told;
--- and the sibling of each node before it is brought or told.
+-- The first node on the way up that is told or a peak lies within the tree; it is told, or all peaks are brought or told; the
+-- sibling of each node before it is brought or told.
 pub record CompletesByPlaces (chunks : ℕ) (brought told : Node → Bool) (i : ℕ) : Type 0 where
   pub up : ℕ
   pub within : up ≤ height chunks
@@ -168,4 +168,5 @@ PlainByPlaces = (d : Descriptor) (life : Life) (reach past : List Record)
 
 -- the moment at a place is the one at the record that stands there
 abbrev pub MomentsByPlaces : Type 0
-MomentsByPlaces = (after : List Record) (r : Record) (before : List Record) → now_at (length before) (after ++ r ∷ before) ≡ now (r ∷ before)
+MomentsByPlaces = (after : List Record) (r : Record) (before : List Record)
+    → now_at (length before) (after ++ r ∷ before) ≡ now (r ∷ before)

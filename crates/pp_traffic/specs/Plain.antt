@@ -55,7 +55,7 @@ abbrev pub is_in_time : ℕ → Option ℕ → ℕ → Bool
 is_in_time opened None now = nat_lt now (opened + greeting_time)
 is_in_time opened (Some heard) now = nat_lt now (heard + silence_time)
 
--- it was in time at every event since the opening
+-- the life was in time at every event since the opening
 abbrev pub is_timely : Descriptor → Life → List Record → Bool
 is_timely d life [] = true
 is_timely d life (r ∷ before) =

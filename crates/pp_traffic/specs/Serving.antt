@@ -30,8 +30,9 @@ pub record AnswersOn (d : Descriptor) (window : Window) (past : List Record) (li
   pub whole_path : completes (chunks_of d) (brings front) (is_told (chunks_of d) (story d life past)) i ≡ true
   pub in_window : window (story d life past) ≡ true
 
--- It does so on some life of the datagram's receiver and number.
-pub record AnswersPeer (d : Descriptor) (window : Window) (past : List Record) (receiver : Address) (channel : Option ℕ) (i : ℕ) (front : List Message) : Type 0 where
+-- The chunk answers its peer on some life of the datagram's receiver and number.
+pub record AnswersPeer (d : Descriptor) (window : Window) (past : List Record) (receiver : Address) (channel : Option ℕ)
+    (i : ℕ) (front : List Message) : Type 0 where
   pub life : Life
   pub at : life.address ≡ receiver
   pub by : channel ≡ Some life.remote

@@ -33,7 +33,7 @@ heard_in d life is_opening r =
     if is_opening && not life.is_dialled && greets d life r then drop 1 (read d r).messages.read else
     (if comes_on d life r then (read d r).messages.read else [])
 
--- those that were sent on it: to the peer's number, and to number 0 behind this peer's handshake
+-- the messages that were sent on a life: to the peer's number, and to number 0 behind this peer's handshake
 abbrev pub said_in : Descriptor → Life → Record → List Message
 said_in d life r =
     if not (goes_to life.address r) then [] else

@@ -24,7 +24,7 @@ went (Received at sender bytes ∷ before) = went before
 went (Quiet at ∷ before) = went before
 went (Sent moment receiver bytes ∷ before) = went before + 1
 
--- So many turns were taken: each waited once, and the wait gave an event or was refused.
+-- Turns were taken, as many as the number says: each waited once, and the wait gave an event or was refused.
 pub record TookTurns (taken : ℕ) (seen seen' : LinkState) (added : List Record) : Type 0 where
   pub nexts : 0 < taken → seen'.nexts ≡ capped (seen.nexts + taken)
   pub still : taken ≡ 0 → seen'.nexts ≡ seen.nexts

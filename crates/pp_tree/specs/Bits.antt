@@ -5,7 +5,7 @@ use Rattle.std.specs.List.{range_with_len}
 abbrev pub bit_of : List ℕ → ℕ → Bool
 bit_of words i = slice_index words (i / 64) / 2 ^ (i % 64) % 2 == 1
 
--- so many bits
+-- the first bits of words, as many as the number says
 abbrev pub bits_of : ℕ → List ℕ → List Bool
 bits_of count words = map (bit_of words) (range_with_len 0 count)
 
@@ -15,4 +15,5 @@ IsSummary summary words = (w : ℕ) → bit_of summary w ≡ (slice_index words 
 
 -- such bits, their words and the summary of these
 abbrev pub IsPacked : ℕ → List ℕ → List ℕ → Type 0
-IsPacked count words summary = (count ≤ 64 * length words) × (length words ≤ 64 * length summary) × IsSummary summary words × (count < 2 ^ 64)
+IsPacked count words summary =
+    (count ≤ 64 * length words) × (length words ≤ 64 * length summary) × IsSummary summary words × (count < 2 ^ 64)

@@ -16,7 +16,8 @@ words_for count = (count + 63) / 64
 abbrev pub full_word : ℕ → ℕ → ℕ
 full_word count w = 2 ^ min 64 (count - 64 * w) - 1
 
--- So many bits in words, no bit past them. Of each word one mark says whether a bit is set, and one whether a bit is not.
+-- Words hold as many bits as the number says, and no bit past them. Of each word one mark says whether a bit is set, and one
+-- whether a bit is not.
 pub record IsMarked (count : ℕ) (words any lacks : List ℕ) : Type 0 where
   pub small : count < 2 ^ 32
   pub size : length words ≡ words_for count

@@ -9,7 +9,7 @@ method_of Range32 = terms.Range32
 method_of Bin64 = terms.Bin64
 method_of Range64 = terms.Range64
 
--- and back
+-- a method of the definitions, in Rust
 abbrev pub method_from : terms.Method → Method
 method_from terms.Bin32 = Bin32
 method_from terms.Range32 = Range32

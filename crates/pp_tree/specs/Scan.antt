@@ -17,7 +17,7 @@ pub record IsRead (test : ℕ → ℕ → Bool) (len : ℕ) (bytes : List ℕ) (
   pub inside : end ≤ length bytes
   pub each : (k : ℕ) → k < len → test k (slice_index bytes (at + k)) ≡ true
 
--- They pass it up to a place inside the word, where the text ends or another byte stands.
+-- The bytes pass the test up to a place inside the word, where the text ends or another byte stands.
 pub record IsStopped (test : ℕ → ℕ → Bool) (len : ℕ) (bytes : List ℕ) (at stop : ℕ) : Type 0 where
   pub from : at ≤ stop
   pub short : stop < at + len

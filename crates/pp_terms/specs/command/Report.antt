@@ -31,7 +31,8 @@ content_size_line n = line (codes "content size: " ++ decimal n ++ codes " bytes
 
 -- the first byte of a file that isn't the header's: its place, what it is, and what was wanted
 unfoldable pub not_a_store_line : ℕ → ℕ → ℕ → List ℕ
-not_a_store_line at found want = line (codes "not a store: byte " ++ decimal at ++ codes " is " ++ decimal found ++ codes ", wanted " ++ decimal want)
+not_a_store_line at found want =
+    line (codes "not a store: byte " ++ decimal at ++ codes " is " ++ decimal found ++ codes ", wanted " ++ decimal want)
 
 -- a range, both ends included
 abbrev pub span_text : Span → List ℕ

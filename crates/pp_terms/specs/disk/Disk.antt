@@ -136,7 +136,7 @@ pub record DiskState : Type 0 where
   pub faults : ℕ
   pub hard : ℕ
 
--- It is honest and tells.
+-- The disk is honest and tells.
 abbrev pub IsKnown : DiskState → Type 0
 IsKnown s = IsTrue (s.tells && s.honest)
 
@@ -163,13 +163,15 @@ pub record DoesLen {E : Type 0} (old : DiskState) (result : Result ℕ E) (new :
   pub counted : IsKnown old → IfOk result (λ n. n ≡ length old.history.reads)
   pub hard_cause : HasCause old.hard new.hard result
 
-pub record DoesRead {E : Type 0} (old : DiskState) (place : ℕ) (into : List ℕ) (result : Result (Unit {0}) E) (new : DiskState) : Type 0 where
+pub record DoesRead {E : Type 0} (old : DiskState) (place : ℕ) (into : List ℕ) (result : Result (Unit {0}) E)
+    (new : DiskState) : Type 0 where
   pub call : IsCall old result new
   pub same : new.history ≡ old.history
   pub filled : IsKnown old → OnOk result (IsRead old.history.reads place into)
   pub hard_same : new.hard ≡ old.hard
 
-pub record DoesWrite {E : Type 0} (old : DiskState) (place : ℕ) (bytes : List ℕ) (result : Result (Unit {0}) E) (new : DiskState) : Type 0 where
+pub record DoesWrite {E : Type 0} (old : DiskState) (place : ℕ) (bytes : List ℕ) (result : Result (Unit {0}) E)
+    (new : DiskState) : Type 0 where
   pub call : IsCall old result new
   pub done : IsKnown old → OnOk result (new.history ≡ after_write old.history place bytes)
   pub refused : IsKnown old → OnErr result (IsRefusedWrite old.history place bytes new.history)

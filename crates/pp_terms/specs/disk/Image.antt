@@ -15,8 +15,8 @@ slice image place n = take n (drop place image)
 abbrev pub half : ℕ → List ℕ → List ℕ
 half j both = cond (j % 2 == 0) (take 32 both) (drop 32 both)
 
--- A child is known with its half of its parent's pair where the parent is known, the 64 bytes lie inside the image
--- and their digest is the parent's.
+-- A child is known with its half of its parent's pair where the parent is known, the 64 bytes lie inside the image and
+-- the parent is their digest.
 abbrev pub child : List ℕ → ℕ → Option (List ℕ) → Option (List ℕ)
 child both j None = None
 child both j (Some digest) = cond ((length both == 64) && pointwise nat_eq (sha256 both) digest) (Some (half j both)) None

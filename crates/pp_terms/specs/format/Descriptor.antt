@@ -1,5 +1,5 @@
--- What names a swarm: its root, chunk size, content size and chunk addressing method (RFC 7574, section 7),
--- and the text that people hand on.
+-- What names a swarm: its root, chunk size, content size and chunk addressing method (RFC 7574, section 7), with
+-- the text that people hand on.
 use Rattle.std.specs.Prelude.{◌≡◌, ℕ, List, ◌++◌, length, codes, decimal}
 use Rattle.hex.specs.Hex.{encode_lower}
 use Rattle.pp_terms.specs.tree.Content.{chunk_count, IsChunkSize, IsContentSize}

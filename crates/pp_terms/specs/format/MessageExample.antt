@@ -22,7 +22,8 @@ pub record MessageExamples : Type 0 where
   pub bin_spelled : spell Bin32 (Have (record { first = 2; last = 3 })) ≡ 3 ∷ 0 ∷ 0 ∷ 0 ∷ 5 ∷ []
   pub no_bin : next_message Bin64 1024 (3 ∷ replicate 8 255) ≡ Cut 0 Range
   -- a DATA in chunks of two bytes, and what stands behind it
-  pub content : next_message Range32 2 (1 ∷ 0 ∷ 0 ∷ 0 ∷ 6 ∷ 0 ∷ 0 ∷ 0 ∷ 6 ∷ 0 ∷ 0 ∷ 0 ∷ 0 ∷ 0 ∷ 0 ∷ 1 ∷ 0 ∷ 8 ∷ 9 ∷ 10 ∷ []) ≡ Read (Data 6 256 (8 ∷ 9 ∷ [])) 19
+  pub content : next_message Range32 2
+      (1 ∷ 0 ∷ 0 ∷ 0 ∷ 6 ∷ 0 ∷ 0 ∷ 0 ∷ 6 ∷ 0 ∷ 0 ∷ 0 ∷ 0 ∷ 0 ∷ 0 ∷ 1 ∷ 0 ∷ 8 ∷ 9 ∷ 10 ∷ []) ≡ Read (Data 6 256 (8 ∷ 9 ∷ [])) 19
   -- a handshake of channel 0a0b0c0d, and one whose options have a fault at its seventh byte, counted from 0
   pub handshake : next_message Range32 1024 (0 ∷ 0x0a ∷ 0x0b ∷ 0x0c ∷ 0x0d ∷ sent_bytes) ≡ Read (Handshake 0x0a0b0c0d sent) 60
   pub bad_options : next_message Range32 1024 (0 ∷ 0 ∷ 0 ∷ 0 ∷ 9 ∷ 0 ∷ 1 ∷ 0 ∷ 1 ∷ 255 ∷ []) ≡ Cut 0 (InOptions (options.Twice 7 0))
@@ -30,5 +31,6 @@ pub record MessageExamples : Type 0 where
   pub two : datagram Range32 1024 (1 ∷ 2 ∷ 3 ∷ 4 ∷ 8 ∷ 0 ∷ 0 ∷ 0 ∷ 0 ∷ 0 ∷ 0 ∷ 0 ∷ 0 ∷ 13 ∷ [])
       ≡ record { channel = Some 0x01020304; messages = record { read = Request (only 0) ∷ []; fault = Some (13, UnknownType 13) } }
   -- a keep-alive, and bytes that are no datagram
-  pub keep_alive : datagram Range32 1024 (1 ∷ 2 ∷ 3 ∷ 4 ∷ []) ≡ record { channel = Some 0x01020304; messages = record { read = []; fault = None } }
+  pub keep_alive : datagram Range32 1024 (1 ∷ 2 ∷ 3 ∷ 4 ∷ [])
+      ≡ record { channel = Some 0x01020304; messages = record { read = []; fault = None } }
   pub no_channel : datagram Range32 1024 (1 ∷ 2 ∷ 3 ∷ []) ≡ record { channel = None; messages = record { read = []; fault = None } }

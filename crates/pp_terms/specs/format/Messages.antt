@@ -150,7 +150,7 @@ abbrev pub ◌>>=◌ : {A B : Type 0} → Result A WireKind → (A → Result B 
 (Ok x) >>= f = f x
 (Err e) >>= f = Err e
 
--- so many bytes, and those after them
+-- the first bytes, so many, and those after them
 abbrev pub bytes_at : ℕ → List ℕ → Result (List ℕ × List ℕ) WireKind
 bytes_at n bytes = if nat_lt (length bytes) n then Err Short else Ok (take n bytes, drop n bytes)
 

@@ -37,7 +37,7 @@ mismatch_of d reply o =
     (if not (addressing == method_number d.method) then Some (Addressing addressing) else
     (if not (chunk == d.chunk) then Some (Chunk chunk) else None))))))
 
--- They fit the swarm: each that is present, or what it is taken as where it is absent.
+-- The options fit the swarm: each that is present, or what it is taken as where it is absent.
 pub record Agrees (d : Descriptor) (reply : Bool) (o : Options) : Type 0 where
   pub version : unwrap_or o.version 1 ≢ 0
   pub minimum : unwrap_or o.minimum 1 ≤ 1

@@ -8,7 +8,7 @@ use Rattle.pp_terms.specs.tree.Tree.{Node}
 abbrev pub bin_number : Node → ℕ
 bin_number n = 2 ^ (n.layer + 1) * n.offset + 2 ^ n.layer - 1
 
--- It has a number of so many bits; the greatest, of one bits alone, is no bin's.
+-- The node has a number of so many bits; the greatest, of one bits alone, is no bin's.
 abbrev pub IsBin : ℕ → Node → Type 0
 IsBin width n = bin_number n < 2 ^ width - 1
 
@@ -52,7 +52,8 @@ pub record BinExamples : Type 0 where
   pub back : (bin_of 32 2 ≡ record { layer = 0; offset = 1 }) × (bin_of 32 5 ≡ record { layer = 1; offset = 1 })
       × (bin_of 32 9 ≡ record { layer = 1; offset = 2 }) × (bin_of 32 12 ≡ record { layer = 0; offset = 6 })
   -- the four leaves under bin 3, and those under bin 11
-  pub leaves : (first_leaf (bin_of 32 3) ≡ 0) × (last_leaf (bin_of 32 3) ≡ 3) × (first_leaf (bin_of 32 11) ≡ 4) × (last_leaf (bin_of 32 11) ≡ 7)
+  pub leaves : (first_leaf (bin_of 32 3) ≡ 0) × (last_leaf (bin_of 32 3) ≡ 3)
+      × (first_leaf (bin_of 32 11) ≡ 4) × (last_leaf (bin_of 32 11) ≡ 7)
   -- bins 1 and 5 are the children of bin 3
   pub family : (parent_of (bin_of 32 1) ≡ bin_of 32 3) × (parent_of (bin_of 32 5) ≡ bin_of 32 3)
       × (sibling_of (bin_of 32 1) ≡ bin_of 32 5) × (sibling_of (bin_of 32 5) ≡ bin_of 32 1)

@@ -43,8 +43,8 @@ pub record IsBacked (d : Descriptor) (book : LookUp) (i : ℕ) (bytes : List ℕ
   pub whole : length bytes ≡ chunk_length d.size d.chunk i
   pub leaf : book 0 i ≡ Some (sha256 bytes)
 
--- Two texts with one digest: above node (k, j), on the way of n layers up, the pair of the content's tree and
--- that of the book differ.
+-- Two texts with one digest: above node (k, j), on the way of n layers up, the pair of the content's tree is another than
+-- the book's.
 abbrev pub PairsClash : (ℕ → ℕ → List ℕ) → LookUp → ℕ → ℕ → ℕ → Type 0
 PairsClash tree book zero k j = ⊥
 PairsClash tree book (suc n) k j =
