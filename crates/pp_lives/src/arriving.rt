@@ -44,9 +44,10 @@ pub enum Arrival {
     Heard { seat: u8 },
 }
 
-/// What a datagram begins with.
+/// What a datagram begins with, behind the channel's number.
 #[derive(Clone, Copy)]
-pub(crate) enum First<'a> {
+pub enum First<'a> {
+    /// A handshake; the messages behind it begin at byte `next`.
     Handshake {
         source: u32,
         options: Options<'a>,
@@ -54,6 +55,7 @@ pub(crate) enum First<'a> {
     },
     /// A handshake whose options have a fault.
     Faulty,
+    /// Another message, or none.
     Other,
 }
 
@@ -67,8 +69,8 @@ fn is_in_options(kind: WireKind) -> bool
     }
 }
 
-/// The first message of a datagram.
-pub(crate) fn begin<'a>(descriptor: &Descriptor, bytes: &'a [u8]) -> First<'a>
+/// The first message of a datagram, behind the channel's number.
+pub fn begin<'a>(descriptor: &Descriptor, bytes: &'a [u8]) -> First<'a>
     requires { 4 ≤ length bytes.now }
     ensures { Starts descriptor.now bytes.now result }
 {

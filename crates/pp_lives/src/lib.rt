@@ -7,8 +7,8 @@ mod lives;
 
 ghost use Rattle.pp_lives.specs.Laws.{StandsAtFirst, QuietStays, ExpiredStays, SaidStays, SeatsLive, DialsStay, DialledStays, RedialledStays, SteadyStays, SeatsRead, DialKeeps, SentKeeps, FirstKeeps, AgainKeeps, RefusedKeeps, BegunKept, SeatsOpened};
 
-pub use arriving::Arrival;
-pub use lives::{Far, Greeting, Lives};
+pub use arriving::{Arrival, First, begin};
+pub use lives::{Far, Greeting, Lives, number_of};
 
 /// The seats stand for the traffic, whatever is received, sent or waited for: by what each call changes of them.
 pub fn laws_of_lives()

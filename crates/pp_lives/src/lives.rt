@@ -52,8 +52,8 @@ impl Model for Lives {
     ghost view = { λ l. l.channels };
 }
 
-// The channel number of a datagram.
-fn number_of(bytes: &[u8]) -> u32
+/// The channel number of a datagram: that of the channel at this peer for which it is, 0 for none that is open yet.
+pub fn number_of(bytes: &[u8]) -> u32
     requires { 4 ≤ length bytes.now }
     ensures { result ≡ from_be_bytes w32 (take 4 bytes.now) }
 {

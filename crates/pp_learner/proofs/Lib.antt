@@ -1,0 +1,11 @@
+pub mod Naming
+pub mod Readings
+pub mod Telling
+pub mod Arrivals
+pub mod Learning
+pub mod Standing
+pub mod Each
+pub mod Dropping
+pub mod Still
+pub mod Modest
+pub mod Asking

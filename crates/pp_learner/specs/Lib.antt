@@ -1,0 +1,9 @@
+pub mod Standing
+pub mod Dials
+pub mod Rows
+pub mod Reading
+pub mod Learners
+pub mod Absorbing
+pub mod Sending
+pub mod Dialling
+pub mod Flushing

@@ -1,0 +1,4 @@
+pub mod Front
+pub mod Told
+pub mod Judged
+pub mod Shape
