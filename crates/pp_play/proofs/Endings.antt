@@ -157,7 +157,7 @@ all_run d (r ∷ roles) (p ∷ parts) (x ∷ xs) have keep = (runs_of_role d r p
 -- A schedule was played from its first world.
 pub played : (s : Schedule) (first last : StageState) (ends : Vec PeerEnd Global) (chunks : ℕ) → IsReadied s first → PlaysAs (moves_of s) first last
     → 4 * length (moves_of s) < 2 ^ 64 → EndAs last.descriptor last.actors ends.items → chunks ≡ chunks_of last.descriptor → IsDescriptor last.descriptor
-    → IsPlayed s (record { ends = ends; chunks = chunks })
+    → IsPlayed s (record { ends = ends; descriptor = last.descriptor; chunks = chunks })
 played s first last ends chunks ready plays few all size valid =
     let done = plays.plays s 0 [] (subst IsDescriptor (plays.descriptor ∙ ready.descriptor) valid) (sym ready.descriptor) (omega (arith, few)) (record {
       last = ready.first;
@@ -190,6 +190,7 @@ played s first last ends chunks ready plays few all size valid =
         books = books_agree KeepsRun (swarm_of s) s.roles done.last runs;
       };
       show = seen_shown (swarm_of s) ends.items done.last.peers are;
+      swarm = plays.descriptor ∙ ready.descriptor;
       chunks = size ∙ ap chunks_of (plays.descriptor ∙ ready.descriptor);
     }
 

@@ -3,3 +3,4 @@ pub mod First
 pub mod Playing
 pub mod Replaying
 pub mod Stage
+pub mod Recording

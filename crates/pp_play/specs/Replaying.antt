@@ -53,6 +53,7 @@ pub record IsPlayed (s : Schedule) (outcome : Outcome) : Type 0 where
   pub peers : List terms.PeerEnd
   pub ended : IsEnded s peers
   pub show : ShowEnds outcome.ends.items peers
+  pub swarm : outcome.descriptor ≡ swarm_of s
   pub chunks : outcome.chunks ≡ chunks_of (swarm_of s)
 
 -- The text is a schedule, and this is its outcome.

@@ -23,10 +23,11 @@ pub enum ReplayFault {
     Memory,
 }
 
-/// The peers of a schedule at its end, by their numbers, and how many chunks its content has.
+/// The peers of a schedule at its end, by their numbers, the swarm that they share, and how many chunks its content has.
 #[derive(Drop)]
 pub struct Outcome {
     pub ends: Vec<PeerEnd>,
+    pub descriptor: Descriptor,
     pub chunks: u32,
 }
 
@@ -59,6 +60,7 @@ fn play(alloc: Global, schedule: &Schedule<'_>) -> Result<Outcome, AllocError>
     } = stage;
     Ok(Outcome {
         ends: end_all(alloc, &descriptor, actors)?,
+        descriptor,
         chunks: descriptor.chunks(),
     })
 }

@@ -10,12 +10,12 @@ use std::test::Fail;
 
 // What a run answered, and its sink.
 #[derive(Drop)]
-struct Ran {
-    status: u8,
-    sink: MemorySink,
+pub(crate) struct Ran {
+    pub(crate) status: u8,
+    pub(crate) sink: MemorySink,
 }
 
-fn run_over(
+pub(crate) fn run_over(
     alloc: Global,
     line: &[&str],
     source: &mut MemorySource<'_>,

@@ -7,3 +7,5 @@ mod commands;
 mod ends;
 #[cfg(test)]
 mod lives;
+#[cfg(test)]
+mod recordings;

@@ -13,3 +13,5 @@ pub mod ByteTests
 pub mod Draftings
 pub mod Digits
 pub mod FirstFaults
+pub mod Sessions
+pub mod Telling

@@ -5,7 +5,7 @@ use Rattle.hex.specs.Hex.{IsBytes}
 use Rattle.pp_terms.specs.tree.Book.{LookUp}
 use Rattle.pp_terms.specs.format.Descriptor.{Descriptor, height_of}
 use Rattle.pp_recording.specs.Spelling.{KnownNode}
-use Rattle.pp_recording.specs.Recording.{node_with, first_nodes, lowest_nodes, nodes_of, AreRising, AreKnownNodes}
+use Rattle.pp_recording.specs.Recording.{node_with, first_nodes, lowest_nodes, nodes_of, AreRising, AreKnownNodes, AreDigestsOf}
 
 -- ---- each node stands before (k, j)
 
@@ -67,9 +67,6 @@ pub nodes_rise : (d : Descriptor) (book : LookUp) → AreRising (nodes_of d book
 nodes_rise d book = (lowest_run book (height_of d) (suc (height_of d))).rise
 
 -- ---- they are nodes of the tree, if their digests are
-
-abbrev pub AreDigestsOf : LookUp → Type 0
-AreDigestsOf book = (k j : ℕ) (x : List ℕ) → book k j ≡ Some x → (length x ≡ 32) × IsBytes x
 
 pub known_append : (d : Descriptor) (ns ms : List KnownNode) → AreKnownNodes d ns → AreKnownNodes d ms → AreKnownNodes d (ns ++ ms)
 known_append d [] ms first second = second

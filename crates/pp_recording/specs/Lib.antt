@@ -5,3 +5,5 @@ pub mod Groups
 pub mod Lines
 pub mod Drafts
 pub mod Reading
+pub mod Sessions
+pub mod Laws

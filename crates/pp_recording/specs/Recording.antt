@@ -33,6 +33,10 @@ lowest_nodes book h (suc k) = lowest_nodes book h k ++ first_nodes book k (2 ^ (
 abbrev pub nodes_of : Descriptor → LookUp → List KnownNode
 nodes_of d book = lowest_nodes book (height_of d) (suc (height_of d))
 
+-- each digest that it knows has 32 bytes
+abbrev pub AreDigestsOf : LookUp → Type 0
+AreDigestsOf book = (k j : ℕ) (x : List ℕ) → book k j ≡ Some x → (length x ≡ 32) × IsBytes x
+
 -- ---- the text
 
 abbrev pub nodes_text : List KnownNode → List ℕ

@@ -99,8 +99,8 @@ pub(crate) fn address_in(word: &[u8], scratch: &mut Vec<u8>) -> Result<Option<Ad
     }
 }
 
-// Whether it is a peer's.
-fn has_port(address: &Address) -> bool
+/// Whether it is a peer's.
+pub(crate) fn has_port(address: &Address) -> bool
     ensures { IsTrue result ↔ IsPeerAddress (address_of address.now) }
 {
     match address {

@@ -92,6 +92,13 @@ impl Recording {
         &self.entries[n]
     }
 
+    /// The records, the oldest first.
+    pub fn entries(&self) -> &[Entry]
+        ensures { result.now ≡ self.now.entries }
+    {
+        self.entries.as_slice()
+    }
+
     /// The bytes of all datagrams, one after the other, the oldest first.
     pub fn bytes(&self) -> &[u8]
         ensures { result.now ≡ self.now.bytes }

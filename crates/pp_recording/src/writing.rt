@@ -3,13 +3,13 @@ ghost use Rattle.std.specs.Prelude.{◌≡◌, suc, ◌++◌, ◌≤◌, [], len
 ghost use Rattle.pp_tree.specs.Book.{entry};
 ghost use Rattle.pp_outside.specs.Outside.{address_of};
 ghost use Rattle.pp_recording.specs.Spelling.{record_line, datagram_line};
-ghost use Rattle.pp_recording.specs.Recording.{node_with, nodes_text, records_text, first_nodes, lowest_nodes, recording_text};
-ghost use Rattle.pp_recording.specs.State.{LiesIn, record_of, recorded};
+ghost use Rattle.pp_recording.specs.Recording.{node_with, nodes_text, records_text, first_nodes, lowest_nodes, nodes_of, recording_text};
+ghost use Rattle.pp_recording.specs.State.{Fill, LiesIn, record_of, records_of, recorded};
 
 use crate::recording::{Entry, Recording};
 use crate::spelling::{add_address, add_hex, add_node, add_number};
 use pp_outside::Address;
-use pp_tree::{Book, Node};
+use pp_tree::{Book, Descriptor, Node};
 use std::alloc::{AllocError, Global};
 
 // Adds the line of a node where the book knows it.
@@ -106,29 +106,60 @@ fn add_entry(
 }
 
 // Adds the lines of the records, the oldest first.
-fn add_entries(alloc: Global, text: &mut Vec<u8>, recording: &Recording) -> Result<(), AllocError>
-    ensures { OnOk result (text.new.items ≡ text.old.items ++ records_text (recorded recording.now).records) }
+fn add_entries(
+    alloc: Global,
+    text: &mut Vec<u8>,
+    entries: &[Entry],
+    bytes: &[u8],
+) -> Result<(), AllocError>
+    requires { Fill 0 entries.now (length bytes.now) }
+    ensures { OnOk result (text.new.items ≡ text.old.items ++ records_text (records_of bytes.now entries.now)) }
 {
-    for n in 0..recording.count() {
-        add_entry(alloc, text, recording.entry(n), recording.bytes())?;
+    for n in 0..entries.len() {
+        add_entry(alloc, text, &entries[n], bytes)?;
     }
     Ok(())
 }
 
-/// The text of a recording. Fails where there is no memory.
+/// The text of a recording of these parts, whatever its size. Fails where there is no memory.
 #[tactic(auto, unfolding(crate::specs::Recording::recording_text, crate::specs::Recording::front_text))]
-pub fn write(alloc: Global, recording: &Recording) -> Result<Vec<u8>, AllocError>
-    ensures { IfOk result (λ text. text.items ≡ recording_text (recorded recording.now)) }
+pub(crate) fn text_of(
+    alloc: Global,
+    descriptor: &Descriptor,
+    book: &Book,
+    entries: &[Entry],
+    bytes: &[u8],
+) -> Result<Vec<u8>, AllocError>
+    requires { Fill 0 entries.now (length bytes.now) }
+    ensures { IfOk result (λ text. text.items ≡ recording_text (record {
+      descriptor = descriptor.now;
+      nodes = nodes_of descriptor.now (entry book.now);
+      records = records_of bytes.now entries.now;
+    })) }
 {
-    let descriptor = recording.descriptor();
     let mut buffer = [0u8; 128];
     let len = descriptor.write(&mut buffer);
     let mut text = Vec::new(alloc);
     text.extend_from_slice(b"ppspp-recording 1\n")?;
     text.extend_from_slice(&buffer[..len])?;
     text.extend_from_slice(b"\n")?;
-    add_nodes(&mut text, recording.book(), descriptor.height())?;
-    add_entries(alloc, &mut text, recording)?;
+    add_nodes(&mut text, book, descriptor.height())?;
+    add_entries(alloc, &mut text, entries, bytes)?;
     text.extend_from_slice(b"end\n")?;
     Ok(text)
+}
+
+/// The text of a recording. Fails where there is no memory.
+pub fn write(alloc: Global, recording: &Recording) -> Result<Vec<u8>, AllocError>
+    ensures { IfOk result (λ text. text.items ≡ recording_text (recorded recording.now)) }
+{
+    // Its contract tells that the datagrams fill the bytes.
+    let _ = recording.count();
+    text_of(
+        alloc,
+        recording.descriptor(),
+        recording.book(),
+        recording.entries(),
+        recording.bytes(),
+    )
 }

@@ -5,6 +5,7 @@ pub mod SizeWords
 pub mod WordSteps
 pub mod Peers
 pub mod FaultLaws
+pub mod TargetLaws
 pub mod OneReading
 pub mod OneCommand
 pub mod WordExamples

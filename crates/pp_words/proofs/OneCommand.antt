@@ -14,10 +14,12 @@ use Rattle.pp_terms.specs.command.Order.{Order, Sequential, Rarest, order_text}
 use Rattle.pp_words.specs.Commands.{Command, Import, Seed, Fetch, Check, Export, Upgrade, Replay, Rehearse, Play, Record, Audit}
 use Rattle.pp_words.specs.Usage as wrong
 use Rattle.pp_words.specs.Usage.{Usage, usage}
-use Rattle.pp_words.specs.CommandLine.{IsDescriptorText, IsImport, IsSeed, IsFetch, IsOnStore, IsRehearse, IsPlay, IsRecord, Spells, Shape, import_shape, seed_shape, fetch_shape, check_shape, export_shape, upgrade_shape, replay_shape, rehearse_shape, play_shape, record_shape, audit_shape, commands, shape_of, named, IsFirstWrong}
+use Rattle.pp_words.specs.CommandLine.{IsDescriptorText, IsTargetText, IsImport, IsSeed, IsFetch, IsOnStore, IsOnTarget, IsRehearse, IsPlay, IsRecord, Spells, Shape, import_shape, seed_shape, fetch_shape, check_shape, export_shape, upgrade_shape, replay_shape, rehearse_shape, play_shape, record_shape, audit_shape, commands, shape_of, named, IsFirstWrong}
+use Rattle.pp_targets.specs.Target.{Target}
 use Rattle.pp_tree.proofs.Readings.{descriptor_same}
 use Rattle.pp_tree.proofs.Sizes.{chunk_size_range}
 use Rattle.pp_words.proofs.AddressParts.{address_same}
+use Rattle.pp_words.proofs.TargetLaws.{target_same}
 use Rattle.pp_words.proofs.OneReading.{words_of, command_not_wrong, one_of_all, first_wrong_once}
 
 -- ---- what each word writes
@@ -40,6 +42,9 @@ below_16 n low = omega arith
 described_same : (s t : List ℕ) (a b : Descriptor) → s ≡ t → IsDescriptorText s a → IsDescriptorText t b → a ≡ b
 described_same s t a b e one two =
     descriptor_same a b t one.valid two.valid one.bytes two.bytes (sym e ∙ one.text_is) two.text_is
+
+named_same : (s t : List ℕ) (a b : Target) → s ≡ t → IsTargetText s a → IsTargetText t b → a ≡ b
+named_same s t a b e one two = target_same t a b (subst (λ w. IsTargetText w a) e one) two
 
 listen_same : (s t : List ℕ) (a b : Address) → s ≡ t → IsAddress s a → IsAddress t b → a ≡ b
 listen_same s t a b e one two = address_same t a b (subst (λ w. IsAddress w a) e one) two
@@ -125,12 +130,20 @@ on_store_same name words store store' descriptor descriptor' one two =
     let b = cons_same _ _ _ _ a.1 in
     (a.0, described_same _ _ _ _ b.0 one.descriptor_is two.descriptor_is)
 
-check_only : (words : List (List ℕ)) (store : List ℕ) (descriptor : Descriptor) → IsOnStore (codes "check") words store descriptor
-    → (d : Command) → Spells words d → Check store descriptor ≡ d
-check_only words store descriptor one (Check store' descriptor') two =
-    let (a, b) = on_store_same (codes "check") words store store' descriptor descriptor' one two in
-    ap (λ s. Check s descriptor) a ∙ ap (λ x. Check store' x) b
-check_only words store descriptor one d two = absurd (true≢false (sym (name_is words (codes "check") _ d one.spelled two refl)))
+-- the store and the target of a command on a target
+on_target_same : (name : List ℕ) (words : List (List ℕ)) (store store' : List ℕ) (target target' : Target) → IsOnTarget name words store target
+    → IsOnTarget name words store' target' → (store ≡ store') × (target ≡ target')
+on_target_same name words store store' target target' one two =
+    let a = cons_same _ _ _ _ (cons_same _ _ _ _ (sym one.spelled ∙ two.spelled)).1 in
+    let b = cons_same _ _ _ _ a.1 in
+    (a.0, named_same _ _ _ _ b.0 one.target_is two.target_is)
+
+check_only : (words : List (List ℕ)) (store : List ℕ) (target : Target) → IsOnTarget (codes "check") words store target
+    → (d : Command) → Spells words d → Check store target ≡ d
+check_only words store target one (Check store' target') two =
+    let (a, b) = on_target_same (codes "check") words store store' target target' one two in
+    ap (λ s. Check s target) a ∙ ap (λ x. Check store' x) b
+check_only words store target one d two = absurd (true≢false (sym (name_is words (codes "check") _ d one.spelled two refl)))
 
 export_only : (words : List (List ℕ)) (store : List ℕ) (descriptor : Descriptor) → IsOnStore (codes "export") words store descriptor
     → (d : Command) → Spells words d → Export store descriptor ≡ d
@@ -190,7 +203,7 @@ pub one_command : (words : List (List ℕ)) (c d : Command) → Spells words c �
 one_command words (Import store chunk) d one two = import_only words store chunk one d two
 one_command words (Seed store descriptor listen turns) d one two = seed_only words store descriptor listen turns one d two
 one_command words (Fetch store descriptor listen turns order peers) d one two = fetch_only words store descriptor listen turns order peers one d two
-one_command words (Check store descriptor) d one two = check_only words store descriptor one d two
+one_command words (Check store target) d one two = check_only words store target one d two
 one_command words (Export store descriptor) d one two = export_only words store descriptor one d two
 one_command words (Upgrade store descriptor) d one two = upgrade_only words store descriptor one d two
 one_command words Replay d one two = replay_only words one d two

@@ -7,8 +7,9 @@ use Rattle.pp_terms.specs.format.Addresses.{IsAddress}
 use Rattle.pp_words.specs.Commands.{Command, Import, Seed, Fetch, Check, Export, Upgrade, Replay, Rehearse, Play, Record, Audit}
 use Rattle.pp_words.specs.Usage as wrong
 use Rattle.pp_words.specs.Usage.{Usage, usage}
-use Rattle.pp_words.specs.CommandLine.{Spells, Slot, AStore, AChunk, ANumber, ADescriptor, AnAddress, AnOrder, IsRight, IsWrong, Shape, commands, shape_of, named, IsOneOf, IsWrongFrom, IsFirstWrong}
+use Rattle.pp_words.specs.CommandLine.{Spells, Slot, AStore, AChunk, ANumber, ADescriptor, ATarget, AnAddress, AnOrder, IsRight, IsWrong, Shape, commands, shape_of, named, IsOneOf, IsWrongFrom, IsFirstWrong}
 use Rattle.pp_words.proofs.FaultLaws.{no_fault, fault_same}
+use Rattle.pp_words.proofs.TargetLaws as targets
 
 -- ---- one first wrong word
 
@@ -17,6 +18,7 @@ right_not_wrong AStore n word u right is = is.0 right
 right_not_wrong AChunk n word u right is = is.0 right
 right_not_wrong (ANumber least limit) n word u right is = is.0 right
 right_not_wrong ADescriptor n word u right is = no_fault word is.0 right.0 is.1 right.1
+right_not_wrong ATarget n word u right is = targets.no_fault word is.0 right.0 is.1 right.1
 right_not_wrong AnAddress n word u right is = is.0 right
 right_not_wrong AnOrder n word u right is = is.0 right
 
@@ -26,6 +28,8 @@ wrong_once AChunk n word u v one two = one.1 ∙ sym two.1
 wrong_once (ANumber least limit) n word u v one two = one.1 ∙ sym two.1
 wrong_once ADescriptor n word u v one two =
     one.2 ∙ ap (λ f. usage n (wrong.Descriptor f)) (fault_same word one.0 two.0 one.1 two.1) ∙ sym two.2
+wrong_once ATarget n word u v one two =
+    one.2 ∙ ap (λ f. usage n (wrong.Descriptor f)) (targets.fault_same word one.0 two.0 one.1 two.1) ∙ sym two.2
 wrong_once AnAddress n word u v one two = one.1 ∙ sym two.1
 wrong_once AnOrder n word u v one two = one.1 ∙ sym two.1
 
@@ -104,7 +108,7 @@ words_of words (Fetch store descriptor listen turns order peers) is = record {
     ((descriptor, is.descriptor_is), ((listen, is.listen_is), ((turns, refl, is.some_turns, is.few), ((order, refl), first_peer_right is.dialled peers is.dialled_are is.some is.most)))),
   );
 }
-words_of words (Check store descriptor) is = record { rest = _; named = is.spelled; right = (is.named, ((descriptor, is.descriptor_is), tt)) }
+words_of words (Check store target) is = record { rest = _; named = is.spelled; right = (is.named, ((target, is.target_is), tt)) }
 words_of words (Export store descriptor) is = record { rest = _; named = is.spelled; right = (is.named, ((descriptor, is.descriptor_is), tt)) }
 words_of words (Upgrade store descriptor) is = record { rest = _; named = is.spelled; right = (is.named, ((descriptor, is.descriptor_is), tt)) }
 words_of words Replay is = record { rest = []; named = is; right = tt }
@@ -134,7 +138,7 @@ pub one_of_all : (c : Command) → IsOneOf commands c
 one_of_all (Import store chunk) = refl
 one_of_all (Seed store descriptor listen turns) = refl
 one_of_all (Fetch store descriptor listen turns order peers) = refl
-one_of_all (Check store descriptor) = refl
+one_of_all (Check store target) = refl
 one_of_all (Export store descriptor) = refl
 one_of_all (Upgrade store descriptor) = refl
 one_of_all Replay = refl

@@ -10,7 +10,10 @@ use Rattle.pp_terms.specs.format.Traffic.{Address}
 use Rattle.pp_terms.specs.format.Addresses.{IsAddress}
 use Rattle.pp_terms.specs.command.Order.{Order, order_text}
 use Rattle.pp_words.specs.Commands.{Command, Import, Seed, Fetch, Check, Export, Upgrade, Replay, Rehearse, Play, Record, Audit}
-use Rattle.pp_terms.specs.format.DescriptorFault.{DescriptorFault, HasFault}
+use Rattle.pp_terms.specs.format.DescriptorFault.{DescriptorFault, Form, Chunk, Size, Method, HasFault}
+use Rattle.pp_targets.specs.Target.{Target}
+use Rattle.pp_targets.specs.TargetText.{IsTarget, root_in, target_text}
+use Rattle.pp_targets.specs.TargetRead.{IsFormFault, IsChunkFault, IsSizeFault, IsMethodFault}
 use Rattle.pp_words.specs.Usage as wrong
 use Rattle.pp_words.specs.Usage.{Usage, usage}
 
@@ -23,6 +26,19 @@ pub record IsDescriptorText (text : List ℕ) (descriptor : Descriptor) : Type 0
   pub text_is : text ≡ descriptor_text descriptor
   pub valid : IsDescriptor descriptor
   pub bytes : IsBytes descriptor.root
+
+-- The text is that of a target, a descriptor or a name without the size, whose root is made of bytes.
+pub record IsTargetText (text : List ℕ) (target : Target) : Type 0 where
+  pub text_is : text ≡ target_text target
+  pub valid : IsTarget target
+  pub bytes : IsBytes (root_in target)
+
+-- the text has this fault of a target's text
+abbrev pub HasTargetFault : List ℕ → DescriptorFault → Type 0
+HasTargetFault text (Form at) = IsFormFault text at
+HasTargetFault text (Chunk at) = IsChunkFault text at
+HasTargetFault text (Size at) = IsSizeFault text at
+HasTargetFault text (Method at) = IsMethodFault text at
 
 -- `import STORE CHUNK`
 pub record IsImport (words : List (List ℕ)) (store : List ℕ) (chunk : ℕ) : Type 0 where
@@ -42,7 +58,8 @@ pub record IsSeed (words : List (List ℕ)) (store : List ℕ) (descriptor : Des
   pub few : turns < 2 ^ 32
 
 -- `fetch STORE DESCRIPTOR LISTEN TURNS ORDER PEER..`, with 1 to 16 peers
-pub record IsFetch (words : List (List ℕ)) (store : List ℕ) (descriptor : Descriptor) (listen : Address) (turns : ℕ) (order : Order) (peers : List Address) : Type 0 where
+pub record IsFetch (words : List (List ℕ)) (store : List ℕ) (descriptor : Descriptor) (listen : Address)
+    (turns : ℕ) (order : Order) (peers : List Address) : Type 0 where
   pub described : List ℕ
   pub listening : List ℕ
   pub dialled : List (List ℕ)
@@ -63,13 +80,21 @@ pub record IsOnStore (name : List ℕ) (words : List (List ℕ)) (store : List �
   pub named : IsStore store
   pub descriptor_is : IsDescriptorText described descriptor
 
+-- a command's name, `STORE TARGET`
+pub record IsOnTarget (name : List ℕ) (words : List (List ℕ)) (store : List ℕ) (target : Target) : Type 0 where
+  pub described : List ℕ
+  pub spelled : words ≡ name ∷ store ∷ described ∷ []
+  pub named : IsStore store
+  pub target_is : IsTargetText described target
+
 -- `rehearse NUMBER`
 pub record IsRehearse (words : List (List ℕ)) (number : ℕ) : Type 0 where
   pub spelled : words ≡ codes "rehearse" ∷ decimal number ∷ []
   pub low : number < 2 ^ 64
 
 -- `play STORE DESCRIPTOR LISTEN TURNS WINDOW PEER..`, with 1 to 16 peers
-pub record IsPlay (words : List (List ℕ)) (store : List ℕ) (descriptor : Descriptor) (listen : Address) (turns window : ℕ) (peers : List Address) : Type 0 where
+pub record IsPlay (words : List (List ℕ)) (store : List ℕ) (descriptor : Descriptor) (listen : Address)
+    (turns window : ℕ) (peers : List Address) : Type 0 where
   pub described : List ℕ
   pub listening : List ℕ
   pub dialled : List (List ℕ)
@@ -97,7 +122,7 @@ abbrev pub Spells : List (List ℕ) → Command → Type 0
 Spells words (Import store chunk) = IsImport words store chunk
 Spells words (Seed store descriptor listen turns) = IsSeed words store descriptor listen turns
 Spells words (Fetch store descriptor listen turns order peers) = IsFetch words store descriptor listen turns order peers
-Spells words (Check store descriptor) = IsOnStore (codes "check") words store descriptor
+Spells words (Check store target) = IsOnTarget (codes "check") words store target
 Spells words (Export store descriptor) = IsOnStore (codes "export") words store descriptor
 Spells words (Upgrade store descriptor) = IsOnStore (codes "upgrade") words store descriptor
 Spells words Replay = words ≡ codes "replay" ∷ []
@@ -106,12 +131,14 @@ Spells words (Play store descriptor listen turns window peers) = IsPlay words st
 Spells words (Record peer life) = IsRecord words peer life
 Spells words Audit = words ≡ codes "audit" ∷ []
 
--- What a word may have to be: a store's name, a chunk size, a number from a least one on and below a limit, a descriptor, an address, an order.
+-- What a word may have to be: a store's name, a chunk size, a number from a least one on and below a
+-- limit, a descriptor, a target, an address, an order.
 pub data Slot : Type 0 where
   AStore : Slot
   AChunk : Slot
   ANumber : (least limit : ℕ) → Slot
   ADescriptor : Slot
+  ATarget : Slot
   AnAddress : Slot
   AnOrder : Slot
 
@@ -120,6 +147,7 @@ IsRight AStore word = IsStore word
 IsRight AChunk word = (chunk : ℕ) × (word ≡ decimal chunk) × IsChunkSize chunk
 IsRight (ANumber least limit) word = (n : ℕ) × (word ≡ decimal n) × (least ≤ n) × (n < limit)
 IsRight ADescriptor word = (descriptor : Descriptor) × IsDescriptorText word descriptor
+IsRight ATarget word = (target : Target) × IsTargetText word target
 IsRight AnAddress word = (address : Address) × IsAddress word address
 IsRight AnOrder word = (order : Order) × (word ≡ order_text order)
 
@@ -129,6 +157,7 @@ IsWrong AStore n word u = ¬ IsRight AStore word × (u ≡ usage n wrong.Store)
 IsWrong AChunk n word u = ¬ IsRight AChunk word × (u ≡ usage n wrong.Chunk)
 IsWrong (ANumber least limit) n word u = ¬ IsRight (ANumber least limit) word × (u ≡ usage n wrong.Number)
 IsWrong ADescriptor n word u = (fault : DescriptorFault) × HasFault word fault × (u ≡ usage n (wrong.Descriptor fault))
+IsWrong ATarget n word u = (fault : DescriptorFault) × HasTargetFault word fault × (u ≡ usage n (wrong.Descriptor fault))
 IsWrong AnAddress n word u = ¬ IsRight AnAddress word × (u ≡ usage n wrong.Address)
 IsWrong AnOrder n word u = ¬ IsRight AnOrder word × (u ≡ usage n wrong.Order)
 
@@ -152,7 +181,7 @@ fetch_shape = record {
 }
 
 abbrev pub check_shape : Shape
-check_shape = record { name = codes "check"; slots = AStore ∷ ADescriptor ∷ []; peers = 0 }
+check_shape = record { name = codes "check"; slots = AStore ∷ ATarget ∷ []; peers = 0 }
 
 abbrev pub export_shape : Shape
 export_shape = record { name = codes "export"; slots = AStore ∷ ADescriptor ∷ []; peers = 0 }
@@ -189,7 +218,7 @@ abbrev pub shape_of : Command → Shape
 shape_of (Import store chunk) = import_shape
 shape_of (Seed store descriptor listen turns) = seed_shape
 shape_of (Fetch store descriptor listen turns order peers) = fetch_shape
-shape_of (Check store descriptor) = check_shape
+shape_of (Check store target) = check_shape
 shape_of (Export store descriptor) = export_shape
 shape_of (Upgrade store descriptor) = upgrade_shape
 shape_of Replay = replay_shape

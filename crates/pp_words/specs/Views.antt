@@ -6,6 +6,7 @@ use Rattle.pp_words.specs.Commands as terms
 use Rattle.pp_terms.specs.format.DescriptorFault as fault
 use Rattle.pp_words.specs.Usage as wrong
 use Rattle.pp_outside.specs.Outside.{address_of}
+use Rattle.pp_targets.specs.Names.{target_of}
 use Rattle.pp_tree.specs.declared.descriptor.DescriptorFault.{DescriptorFault}
 use Rattle.pp_tree.specs.declared.descriptor.DescriptorFault.TheVariants.{Form, Chunk, Size, Method}
 use Rattle.pp_words.specs.declared.types.Order.{Order}
@@ -29,7 +30,7 @@ command_of (Import store chunk) = terms.Import store.now chunk
 command_of (Seed store descriptor listen turns) = terms.Seed store.now descriptor (address_of listen) turns
 command_of (Fetch store descriptor listen turns order peers) =
     terms.Fetch store.now descriptor (address_of listen) turns (order_of order) (map address_of peers.items)
-command_of (Check store descriptor) = terms.Check store.now descriptor
+command_of (Check store target) = terms.Check store.now (target_of target)
 command_of (Export store descriptor) = terms.Export store.now descriptor
 command_of (Upgrade store descriptor) = terms.Upgrade store.now descriptor
 command_of Replay = terms.Replay

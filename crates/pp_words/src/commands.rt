@@ -67,9 +67,9 @@ pub(crate) fn check(words: &[String]) -> Result<Command<'_>, Usage>
         IsWrongFrom check_shape.slots check_shape.peers 1 (drop 1 (texts words.now)) (usage_of u)) }
 {
     let store = slots::store(words, 1)?;
-    let descriptor = slots::descriptor(words, 2)?;
+    let target = slots::target(words, 2)?;
     slots::end(words, 3)?;
-    Ok(Command::Check { store, descriptor })
+    Ok(Command::Check { store, target })
 }
 
 pub(crate) fn export(words: &[String]) -> Result<Command<'_>, Usage>

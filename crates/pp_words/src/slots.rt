@@ -4,9 +4,10 @@ ghost use Rattle.std.specs.List.{AllZip};
 ghost use Rattle.pp_terms.specs.format.Addresses.{IsAddress};
 ghost use Rattle.pp_terms.specs.command.Order.{order_text};
 ghost use Rattle.pp_terms.specs.tree.Content.{IsChunkSize};
-ghost use Rattle.pp_words.specs.CommandLine.{AStore, AChunk, ANumber, ADescriptor, AnAddress, AnOrder, IsStore, IsDescriptorText, IsWrongFrom};
+ghost use Rattle.pp_words.specs.CommandLine.{AStore, AChunk, ANumber, ADescriptor, ATarget, AnAddress, AnOrder, IsStore, IsDescriptorText, IsTargetText, IsWrongFrom};
 ghost use Rattle.pp_words.specs.Usage.{usage, Missing};
 ghost use Rattle.pp_outside.specs.Outside.{address_of};
+ghost use Rattle.pp_targets.specs.Names.{target_of};
 ghost use Rattle.pp_words.specs.Views.{texts, order_of, usage_of};
 ghost use Rattle.pp_words.specs.Slots.{Takes, Stops};
 
@@ -15,6 +16,7 @@ use crate::number::number;
 use crate::types::{Order, Usage, UsageKind};
 use arrayvec::ArrayVec;
 use pp_outside::Address;
+use pp_targets::Target;
 use pp_tree::Descriptor;
 
 /// The word at a place.
@@ -118,6 +120,19 @@ pub(crate) fn descriptor(words: &[String], at: usize) -> Result<Descriptor, Usag
     let word = word(words, at)?;
     match Descriptor::read(word) {
         Ok(descriptor) => Ok(descriptor),
+        Err(fault) => Err(wrong(at, UsageKind::Descriptor(fault))),
+    }
+}
+
+/// A descriptor, or a name without the size.
+pub(crate) fn target(words: &[String], at: usize) -> Result<Target, Usage>
+    ensures ok { IfOk result (λ target.
+        (text : List ℕ) × Takes words.now at text × IsTargetText text (target_of target)) }
+    ensures err { IfErr result (Stops ATarget words.now at) }
+{
+    let word = word(words, at)?;
+    match Target::read(word) {
+        Ok(target) => Ok(target),
         Err(fault) => Err(wrong(at, UsageKind::Descriptor(fault))),
     }
 }

@@ -1,6 +1,7 @@
 // What words spell, and what is wrong with them.
 use arrayvec::ArrayVec;
 use pp_outside::Address;
+use pp_targets::Target;
 use pp_tree::{Descriptor, DescriptorFault};
 
 /// The order in which missing chunks are asked for: by rising number, or those first that the fewest peers have.
@@ -36,10 +37,10 @@ pub enum Command<'a> {
         order: Order,
         peers: ArrayVec<Address, 16>,
     },
-    /// `check STORE DESCRIPTOR`
+    /// `check STORE TARGET`, with a descriptor or a name without the size for the target
     Check {
         store: &'a str,
-        descriptor: Descriptor,
+        target: Target,
     },
     /// `export STORE DESCRIPTOR`
     Export {
@@ -90,7 +91,7 @@ pub enum UsageKind {
     Chunk,
     /// It is no number, or too small or too large.
     Number,
-    /// It is no descriptor's text; the fault has its place in the word.
+    /// It is no descriptor's text, or no target's where a target may stand; the fault has its place in the word.
     Descriptor(DescriptorFault),
     /// It is no address.
     Address,

@@ -1,0 +1,10 @@
+pub mod Chunks
+pub mod Faults
+pub mod Handshakes
+pub mod Notes
+pub mod Ones
+pub mod Pairs
+pub mod Parts
+pub mod Reaching
+pub mod Spelled
+pub mod Walks
