@@ -20,7 +20,7 @@ pub record FileState : Type 0 where
 abbrev pub unattached : FileState
 unattached = record { is_attached = false; is_lost = false; is_sealed = false; gathered = []; faults = 0; hard = 0 }
 
--- It has a store, and no sync of it or gathered write was refused.
+-- The file has a store, and no sync of it or gathered write was refused.
 abbrev pub IsLive : FileState → Type 0
 IsLive s = IsTrue (s.is_attached && not s.is_lost)
 

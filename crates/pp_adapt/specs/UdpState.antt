@@ -42,7 +42,7 @@ IsSameFamily (V6 bytes port) (V6 others other) = Unit {0}
 IsSameFamily (V4 bytes port) (V6 others other) = ⊥
 IsSameFamily (V6 bytes port) (V4 others other) = ⊥
 
--- it listens at an address of the same family
+-- the socket listens at an address of the same family
 abbrev pub Reaches : Option Address → Address → Type 0
 Reaches None receiver = ⊥
 Reaches (Some listen) receiver = IsSameFamily listen receiver

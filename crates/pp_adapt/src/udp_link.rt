@@ -21,6 +21,9 @@ use std::time::{Clock, Instant};
 // How long a short wait lasts at most, in milliseconds.
 const BRISK_MS: i32 = 1;
 
+// How often it looks for a datagram before a burst is over that came faster than it was read: for some hundred microseconds.
+const LOOKS: u32 = 200;
+
 /// A link over one UDP socket of the system, for peers of the family of the address that it is bound to.
 ///
 /// While standard error is a terminal, it says there at which address it listens, and how much came and went.
@@ -40,13 +43,23 @@ pub struct UdpLink<R: Net + Clock + Eprint> {
     meter: Option<LinkMeter>,
 }
 
+// How datagrams come, by the last wait.
+#[derive(Clone, Copy, PartialEq, Eq)]
+enum Pace {
+    // It brought none.
+    Idle,
+    // One came while it waited, or there was no wait yet.
+    Brisk,
+    // One was there already.
+    Busy,
+}
+
 // The open socket.
 #[derive(Drop)]
 struct Bound {
     socket: UdpSocket,
     listen: Address,
-    // the next wait is short: the last one brought a datagram, or there was none yet
-    is_brisk: bool,
+    pace: Pace,
 }
 
 impl<R: Net + Clock + Eprint> Model for UdpLink<R> {
@@ -164,7 +177,7 @@ fn open(net: &impl Net, listen: &Address) -> io::Result<Bound>
     Ok(Bound {
         socket,
         listen: *listen,
-        is_brisk: true,
+        pace: Pace::Brisk,
     })
 }
 
@@ -195,15 +208,50 @@ impl Bound {
         }
     }
 
-    // The same, once it has waited where none is there.
-    fn wait(&self, limit_ms: i32, buffer: &mut [u8]) -> io::Result<Option<(usize, SocketAddr)>>
+    // The same, once it has looked again and again where none is there.
+    fn look(&self, buffer: &mut [u8]) -> io::Result<Option<(usize, SocketAddr)>>
         ensures { IfOk result (λ found. IfSome found (λ pair. pair.0 ≤ length buffer.new)) }
     {
-        if let Some(found) = self.receive(buffer)? {
-            return Ok(Some(found));
+        for _ in 0..LOOKS {
+            if let Some(found) = self.receive(buffer)? {
+                return Ok(Some(found));
+            }
         }
+        Ok(None)
+    }
+
+    // The same, once it has waited where none is there. Behind a datagram the end of the burst is told soon, so that what it brought
+    // can be committed: at once where the burst came faster than it was read, and else after a millisecond. The first wait ends as
+    // soon, so that a peer dials at once.
+    fn wait(&self, limit_us: u64, buffer: &mut [u8]) -> io::Result<Option<(usize, SocketAddr)>>
+        ensures { IfOk result (λ found. IfSome found (λ pair. pair.0 ≤ length buffer.new)) }
+    {
+        let most_ms = match self.pace {
+            Pace::Idle => i32::MAX,
+            Pace::Brisk => BRISK_MS,
+            Pace::Busy => return self.look(buffer),
+        };
+        let limit_ms = limit_us.div_ceil(1_000).min(most_ms as u64) as i32;
         self.await_ready(net::POLLIN, limit_ms);
         self.receive(buffer)
+    }
+
+    // A datagram, or none where the time was over before one came.
+    fn next(&mut self, limit_us: u64, buffer: &mut [u8]) -> io::Result<Option<(usize, SocketAddr)>>
+        ensures found { IfOk result (λ found. IfSome found (λ pair. pair.0 ≤ length buffer.new)) }
+        ensures listen { self.new.listen ≡ self.old.listen }
+    {
+        if let Some(found) = self.receive(buffer)? {
+            self.pace = Pace::Busy;
+            return Ok(Some(found));
+        }
+        let found = self.wait(limit_us, buffer)?;
+        self.pace = if found.is_some() {
+            Pace::Brisk
+        } else {
+            Pace::Idle
+        };
+        Ok(found)
     }
 
     // Sends it whole to an address of the same family: again where a signal came, and once there is room where there is none.
@@ -251,12 +299,7 @@ impl<R: Net + Clock + Eprint> UdpLink<R> {
         let Some(bound) = &mut self.bound else {
             return Err(ErrorKind::NotConnected.into());
         };
-        // Behind a datagram the end of the burst is told soon, so that what it brought can be committed; and the first wait ends soon, so
-        // that a peer dials at once.
-        let most_ms = if bound.is_brisk { BRISK_MS } else { i32::MAX };
-        let limit_ms = limit_us.div_ceil(1_000).min(most_ms as u64) as i32;
-        let found = bound.wait(limit_ms, buffer)?;
-        bound.is_brisk = found.is_some();
+        let found = bound.next(limit_us, buffer)?;
         let now = micros_since(&self.system, &self.made)?;
         // The system's clock never falls; this doesn't rest on it.
         self.moment = self.moment.max(now);
@@ -317,8 +360,8 @@ impl<R: Net + Clock + Eprint> Link for UdpLink<R> {
         }
     }
 
-    /// A wait that a signal cut short brought no datagram, and one behind a datagram ends after a millisecond: a burst is
-    /// over then. So does the first one. `at` is in microseconds since the link was made, and never falls.
+    /// A wait that a signal cut short brought no datagram, and one behind a datagram ends after a millisecond, or at once
+    /// where the one before was there already: a burst is over then. The first one ends after a millisecond too. `at` is in microseconds since the link was made, and never falls.
     fn next(&mut self, limit_us: u64, buffer: &mut [u8]) -> Result<Event, LinkFault>
         requires { 65536 ≤ length buffer.old }
         ensures does { DoesNext (silent_link self.old) buffer.new result (silent_link self.new) }
