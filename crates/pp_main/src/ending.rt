@@ -38,6 +38,11 @@ pub(crate) fn status_of(number: u8) -> Option<Status>
         10 => Status::Schedule,
         11 => Status::Memory,
         12 => Status::Damaged,
+        13 => Status::Shape,
+        14 => Status::AuditNo,
+        15 => Status::Recording,
+        16 => Status::NoLife,
+        17 => Status::TooLarge,
         _ => return None,
     })
 }
@@ -76,13 +81,17 @@ impl Ending<'_> {
         self.has_made && (self.is_of("check") || self.is_of("export") || self.is_of("seed"))
     }
 
-    /// Whether something is to be told. That a file is no store `check`, `seed` and `fetch` tell on standard output.
+    /// Whether something is to be told. That a file is no store `check`, `seed` and `fetch` tell on standard output, and `check` what its
+    /// header and its tree come to.
     pub(crate) fn is_told(&self) -> bool {
         match self.status {
             Status::Done => self.lacks_its_store(),
             Status::NotAStore => self.is_of("export")
                 || self.is_of("upgrade")
-                || self.is_of("play"),
+                || self.is_of("play")
+                || self.lacks_its_store(),
+            Status::ContentSize => self.is_of("import"),
+            Status::Shape => false,
             _ => true,
         }
     }
@@ -106,6 +115,11 @@ impl Ending<'_> {
             Status::Schedule => f.write_str("standard input: no schedule"),
             Status::Memory => f.write_str("memory ran out"),
             Status::Damaged => write!(f, "{store}: a chunk is damaged"),
+            Status::Shape => write!(f, "{store}: no content's tree"),
+            Status::AuditNo => f.write_str("standard input: a chunk wasn't served by the rules"),
+            Status::Recording => f.write_str("standard input: no recording"),
+            Status::NoLife => f.write_str("standard input: no such peer, or fewer lives"),
+            Status::TooLarge => f.write_str("standard output: the recording would be too large"),
         }
     }
 

@@ -4,7 +4,7 @@ use Rattle.pp_terms.specs.disk.Disk.{DiskState, IsKnown, DoesAttach}
 use Rattle.pp_terms.specs.command.Stream.{SourceState, SinkState}
 use Rattle.pp_terms.proofs.Knowing.{known_on}
 use Rattle.pp_node.specs.declared.status.Status.{Status}
-use Rattle.pp_node.specs.declared.status.Status.TheVariants.{Done, Usage, NotAStore, Incomplete, DiskFault, LinkFault, SourceFault, SinkFault, NotEmpty, ContentSize, Schedule, Memory, Damaged}
+use Rattle.pp_node.specs.declared.status.Status.TheVariants.{Done, Usage, NotAStore, Incomplete, DiskFault, LinkFault, SourceFault, SinkFault, NotEmpty, ContentSize, Schedule, Memory, Damaged, AuditNo, Recording, NoLife, TooLarge, Shape}
 use Rattle.pp_terms.specs.format.Traffic.{LinkState}
 use Rattle.pp_tree.specs.Book.{BookState}
 use Rattle.pp_node.specs.Outside.{outside}
@@ -43,6 +43,11 @@ module _ {E : Type 0} {name : List ℕ} (chunk : ℕ) (source source' : SourceSt
   ends_since link book Schedule e = e
   ends_since link book Memory e = e
   ends_since link book Damaged e = e
+  ends_since link book AuditNo e = e
+  ends_since link book Recording e = e
+  ends_since link book NoLife e = e
+  ends_since link book TooLarge e = e
+  ends_since link book Shape e = e
 
   pub run_since : (status : Status) → IsImportRun status chunk source source' mid new → IsImportRun status chunk source source' old new
   run_since status r = record {

@@ -2,8 +2,9 @@
 use Rattle.std.proofs.Common.{◌≡◌, ◌⊎◌, ℕ, ◌+◌, List, [], ◌∷◌, codes, refl, sym, ◌∙◌, subst}
 use Rattle.pp_terms.specs.command.Order.{Order}
 use Rattle.pp_words.specs.Commands.{Command, Import, Seed, Fetch, Check, Export, Upgrade, Replay, Rehearse, Play, Record, Audit}
-use Rattle.pp_words.specs.CommandLine.{Spells, IsImport, IsSeed, IsFetch, IsPlay, IsOnStore, IsRehearse, IsOneOf, IsFirstWrong}
+use Rattle.pp_words.specs.CommandLine.{Spells, IsImport, IsSeed, IsFetch, IsPlay, IsOnStore, IsOnTarget, IsRehearse, IsRecord, IsOneOf, IsFirstWrong}
 use Rattle.pp_terms.specs.command.Stream.{SourceState, SinkState}
+use Rattle.pp_targets.specs.Target.{SwarmName, Sized, Auto}
 use Rattle.pp_words.specs.Usage as wrong
 use Rattle.pp_terms.specs.disk.Disk.{DiskState, IsKnown, GainsName}
 use Rattle.pp_terms.specs.format.Descriptor.{Descriptor}
@@ -16,18 +17,22 @@ use Rattle.pp_node.specs.Run.{ImportsIn, IsImportRun, ImportEnds}
 use Rattle.pp_node.specs.Looking.{IsUnwritten, Lasts}
 use Rattle.pp_node.specs.Outside.{Outside, outside}
 use Rattle.pp_node.specs.Checking.{ChecksIn, CheckEnds}
+use Rattle.pp_node.specs.Naming.{IsTold, IsRootedByName, NamedChecksIn, NamedCheckEnds}
 use Rattle.pp_node.specs.Exporting.{ExportsIn, ExportEnds}
 use Rattle.pp_node.specs.Playing.{PlaysIn, PlayEnds}
 use Rattle.pp_node.specs.Promising.{PeerWords, SeedsIn, SeedEnds, FetchesIn, FetchEnds}
 use Rattle.pp_world.specs.Rehearsal.{first_words, rehearsal_key, rehearsal_text}
 use Rattle.pp_world.specs.Schedule.{most_text}
 use Rattle.pp_store.specs.Import.{TakesAtMost}
+use Rattle.pp_recording.specs.Recording as recordings
+use Rattle.pp_node.specs.Auditing.{AuditsIn, AuditEnds}
+use Rattle.pp_node.specs.Recordings.{RecordsIn, RecordEnds, streams}
 use Rattle.pp_node.specs.Replaying.{PlaysText, ReplaysIn, ReplayEnds, RehearseEnds}
 use Rattle.pp_node.specs.Upgrading.{UpgradesIn, IsUpgradeRun, UpgradeEnds}
 use Rattle.pp_node.specs.Commanding.{HasEnded}
 use Rattle.pp_node.specs.Status.{number_of}
 use Rattle.pp_node.specs.declared.status.Status.{Status}
-use Rattle.pp_node.specs.declared.status.Status.TheVariants.{Done, Usage, NotAStore, Incomplete, DiskFault, LinkFault, SourceFault, SinkFault, NotEmpty, ContentSize, Schedule, Memory, Damaged}
+use Rattle.pp_node.specs.declared.status.Status.TheVariants.{Done, Usage, NotAStore, Incomplete, DiskFault, LinkFault, SourceFault, SinkFault, NotEmpty, ContentSize, Schedule, Memory, Damaged, AuditNo, Recording, NoLife, TooLarge, Shape}
 
 -- ---- words that spell no command that is built
 
@@ -48,6 +53,14 @@ module _ (status : Status) (store : List ℕ) (link : LinkState) (disk disk' : D
       → (IsKnown disk → GainsName disk.history.names store disk'.history.names) → IsUnwritten disk disk' → (IsKnown disk → Lasts d disk'.history) → (book' ≡ book) ⊎ IsBookOf d book'
       → CheckEnds (number_of status) store d (outside disk link source sink book) (outside disk' link source sink' book')
   check_ended d source book book' ends named unwritten lasts rooted =
+      record { status = status; number = refl; ends = ends link source; named = named; unwritten = unwritten; lasts = lasts; unread = refl; rooted = rooted }
+
+  pub named_check_ended : (name : SwarmName) (source : SourceState) (book book' : BookState)
+      → ((l : LinkState) (s : SourceState) → NamedChecksIn status name (outside disk l s sink book) (outside disk' l s sink' book'))
+      → (IsKnown disk → GainsName disk.history.names store disk'.history.names) → IsUnwritten disk disk'
+      → (IsKnown disk → (e : Descriptor) → IsTold name e disk disk' → Lasts e disk'.history) → IsRootedByName name book book'
+      → NamedCheckEnds (number_of status) store name (outside disk link source sink book) (outside disk' link source sink' book')
+  named_check_ended name source book book' ends named unwritten lasts rooted =
       record { status = status; number = refl; ends = ends link source; named = named; unwritten = unwritten; lasts = lasts; unread = refl; rooted = rooted }
 
   pub export_ended : (d : Descriptor) (source : SourceState) (book book' : BookState)
@@ -74,6 +87,17 @@ pub rehearse_ended : (status : Status) (n : ℕ) (link : LinkState) (disk : Disk
     → RehearseEnds (number_of status) n (outside disk link source sink book) (outside disk link source sink' book)
 rehearse_ended status n link disk source sink sink' book ends = record { status = status; is_number = refl; ends = ends; source = refl; disk = refl }
 
+pub record_ended : (status : Status) (peer life : ℕ) (link : LinkState) (disk : DiskState) (source source' : SourceState) (sink sink' : SinkState)
+    (book : BookState) → RecordsIn status peer life (streams source sink) (streams source' sink') → TakesAtMost (most_text + 1) source source'
+    → RecordEnds (number_of status) peer life (outside disk link source sink book) (outside disk link source' sink' book)
+record_ended status peer life link disk source source' sink sink' book ends takes =
+    record { status = status; is_number = refl; ends = ends; takes = takes; disk = refl }
+
+pub audit_ended : (status : Status) (link : LinkState) (disk : DiskState) (source source' : SourceState) (sink sink' : SinkState) (book : BookState)
+    → AuditsIn status (streams source sink) (streams source' sink') → TakesAtMost (recordings.most_text + 1) source source'
+    → AuditEnds (number_of status) (outside disk link source sink book) (outside disk link source' sink' book)
+audit_ended status link disk source source' sink sink' book ends takes = record { status = status; number = refl; ends = ends; takes = takes; disk = refl }
+
 -- ---- a run's end
 
 module _ (words : List (List ℕ)) (command : Command) (status : Status) (result : ℕ) (old new : Outside) (read : Spells words command)
@@ -96,9 +120,13 @@ module _ (words : List (List ℕ)) (command : Command) (status : Status) (result
       → PlayEnds result w window peers old new
   play_ends w window peers spelled = ended_as (Play w.store w.descriptor w.listen w.turns window peers) spelled
 
-  pub check_ends : (store : List ℕ) (descriptor : Descriptor) → IsOnStore (codes "check") words store descriptor
+  pub check_ends : (store : List ℕ) (descriptor : Descriptor) → IsOnTarget (codes "check") words store (Sized descriptor)
       → CheckEnds result store descriptor old new
-  check_ends store descriptor spelled = ended_as (Check store descriptor) spelled
+  check_ends store descriptor spelled = ended_as (Check store (Sized descriptor)) spelled
+
+  pub named_check_ends : (store : List ℕ) (name : SwarmName) → IsOnTarget (codes "check") words store (Auto name)
+      → NamedCheckEnds result store name old new
+  named_check_ends store name spelled = ended_as (Check store (Auto name)) spelled
 
   pub export_ends : (store : List ℕ) (descriptor : Descriptor) → IsOnStore (codes "export") words store descriptor
       → ExportEnds result store descriptor old new
@@ -114,6 +142,12 @@ module _ (words : List (List ℕ)) (command : Command) (status : Status) (result
   pub rehearse_ends : (n : ℕ) → IsRehearse words n → RehearseEnds result n old new
   rehearse_ends n spelled = ended_as (Rehearse n) spelled
 
+  pub record_ends : (peer life : ℕ) → IsRecord words peer life → RecordEnds result peer life old new
+  record_ends peer life spelled = ended_as (Record peer life) spelled
+
+  pub audit_ends : words ≡ codes "audit" ∷ [] → AuditEnds result old new
+  audit_ends spelled = ended_as Audit spelled
+
 usage_only : (s : Status) → number_of s ≡ 1 → s ≡ Usage
 usage_only Usage is = refl
 usage_only Done is = absurd cc
@@ -128,6 +162,11 @@ usage_only ContentSize is = absurd cc
 usage_only Schedule is = absurd cc
 usage_only Memory is = absurd cc
 usage_only Damaged is = absurd cc
+usage_only AuditNo is = absurd cc
+usage_only Recording is = absurd cc
+usage_only NoLife is = absurd cc
+usage_only TooLarge is = absurd cc
+usage_only Shape is = absurd cc
 
 -- no command ends as wrong words do
 never : (c : Command) (number : ℕ) (old new : Outside) → number ≡ 1 → HasEnded c number old new → ⊥
@@ -136,8 +175,10 @@ never (Import store chunk) number old new one end =
 never (Seed store descriptor listen turns) number old new one end =
     subst (λ (s : Status). SeedsIn s (record { store = store; descriptor = descriptor; listen = listen; turns = turns }) old new end.run.added)
     (usage_only end.run.status (sym end.run.number ∙ one)) end.ends
-never (Check store descriptor) number old new one end =
+never (Check store (Sized descriptor)) number old new one end =
     subst (λ (s : Status). ChecksIn s descriptor old new) (usage_only end.status (sym end.number ∙ one)) end.ends
+never (Check store (Auto name)) number old new one end =
+    subst (λ (s : Status). NamedChecksIn s name old new) (usage_only end.status (sym end.number ∙ one)) end.ends
 never (Fetch store descriptor listen turns order peers) number old new one end =
     subst (λ (s : Status). FetchesIn s (record { store = store; descriptor = descriptor; listen = listen; turns = turns }) old new end.run.added)
     (usage_only end.run.status (sym end.run.number ∙ one)) end.ends
@@ -152,8 +193,12 @@ never (Rehearse n) number old new one end =
 never (Play store descriptor listen turns window peers) number old new one end =
     subst (λ (s : Status). PlaysIn s (record { store = store; descriptor = descriptor; listen = listen; turns = turns }) window peers old new end.run.added)
     (usage_only end.run.status (sym end.run.number ∙ one)) end.ends
-never (Record peer life) number old new one end = end
-never Audit number old new one end = end
+never (Record peer life) number old new one end =
+    (subst (λ (s : Status). RecordsIn s peer life (streams old.source old.sink) (streams new.source new.sink))
+    (usage_only end.status (sym end.is_number ∙ one)) end.ends).tapes
+never Audit number old new one end =
+    (subst (λ (s : Status). AuditsIn s (streams old.source old.sink) (streams new.source new.sink))
+    (usage_only end.status (sym end.number ∙ one)) end.ends).audits.answer
 
 pub no_usage : (command : Command) (status : Status) (result : ℕ) (old new : Outside) → result ≡ number_of status
     → HasEnded command (number_of status) old new → result ≡ 1 → ⊥

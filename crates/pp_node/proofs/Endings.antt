@@ -30,7 +30,7 @@ use Rattle.pp_node.specs.declared.preparing.Peering.{Peering}
 use Rattle.pp_node.specs.declared.preparing.SeedFault.{SeedFault}
 use Rattle.pp_node.specs.declared.preparing.SeedFault.TheVariants as fault
 use Rattle.pp_node.specs.declared.status.Status.{Status}
-use Rattle.pp_node.specs.declared.status.Status.TheVariants.{Done, Usage, NotAStore, Incomplete, DiskFault, LinkFault, SourceFault, SinkFault, NotEmpty, ContentSize, Schedule, Memory, Damaged}
+use Rattle.pp_node.specs.declared.status.Status.TheVariants.{Done, Usage, NotAStore, Incomplete, DiskFault, LinkFault, SourceFault, SinkFault, NotEmpty, ContentSize, Schedule, Memory, Damaged, AuditNo, Recording, NoLife, TooLarge, Shape}
 use Rattle.pp_node.proofs.Peers.{WasReady, HasBook, b, start, d_is, went_closed, is_closed, early_now, all_taken, complete_now, missing_now, peer_ends, bound_now, run_now, stopped_now, asks_none_now, kept_to_now, dialled_now, asked_now, unkept, unwilling}
 
 -- ---- a fault is one of both commands
@@ -49,6 +49,11 @@ seeds_in NotEmpty w old new added f = f
 seeds_in ContentSize w old new added f = f
 seeds_in Schedule w old new added f = f
 seeds_in Damaged w old new added f = f
+seeds_in AuditNo w old new added f = f
+seeds_in Recording w old new added f = f
+seeds_in NoLife w old new added f = f
+seeds_in TooLarge w old new added f = f
+seeds_in Shape w old new added f = f
 
 pub fetches_in : (status : Status) (w : PeerWords) (old new : Outside) (added : List Record) → FaultsIn status w old new added → FetchesIn status w old new added
 fetches_in Done w old new added f = absurd f
@@ -64,6 +69,11 @@ fetches_in NotEmpty w old new added f = f
 fetches_in ContentSize w old new added f = f
 fetches_in Schedule w old new added f = f
 fetches_in Damaged w old new added f = f
+fetches_in AuditNo w old new added f = f
+fetches_in Recording w old new added f = f
+fetches_in NoLife w old new added f = f
+fetches_in TooLarge w old new added f = f
+fetches_in Shape w old new added f = f
 
 -- ---- no peer was made ready
 
@@ -290,6 +300,11 @@ module _ (w : Peering) (old new : Outside) (opened : DiskState) (listens : LinkS
   seed_served Schedule none s = absurd s
   seed_served Memory none s = absurd s
   seed_served Damaged none s = absurd s
+  seed_served AuditNo none s = absurd s
+  seed_served Recording none s = absurd s
+  seed_served NoLife none s = absurd s
+  seed_served TooLarge none s = absurd s
+  seed_served Shape none s = absurd s
 
   pub fetch_served : (status : Status) → fetches ≡ true → FetchesAll w.descriptor.now first.parts → Served status → FetchEnds (number_of status) (words_of w) (dials_of w) old new
   fetch_served Done asked all s = record {
@@ -329,3 +344,8 @@ module _ (w : Peering) (old new : Outside) (opened : DiskState) (listens : LinkS
   fetch_served Schedule asked all s = absurd s
   fetch_served Memory asked all s = absurd s
   fetch_served Damaged asked all s = absurd s
+  fetch_served AuditNo asked all s = absurd s
+  fetch_served Recording asked all s = absurd s
+  fetch_served NoLife asked all s = absurd s
+  fetch_served TooLarge asked all s = absurd s
+  fetch_served Shape asked all s = absurd s

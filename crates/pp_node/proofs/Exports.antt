@@ -445,6 +445,11 @@ module _ (d : Descriptor) (old mid new : DiskState) (sink sink' : SinkState) (li
   }
   exported_later ends.Memory is = record { begins = λ k. is.begins (known_mid k); silent = is.silent }
   exported_later ends.Damaged is = record { n = is.n; within = is.within; put = put_later is.n is.put; damaged = damaged_seen d old mid new (entry state) known_mid is.n is.damaged }
+  exported_later ends.AuditNo is = absurd is
+  exported_later ends.Recording is = absurd is
+  exported_later ends.NoLife is = absurd is
+  exported_later ends.TooLarge is = absurd is
+  exported_later ends.Shape is = absurd is
   exported_later ends.Usage is = absurd is
   exported_later ends.LinkFault is = absurd is
   exported_later ends.SourceFault is = absurd is

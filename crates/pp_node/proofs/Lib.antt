@@ -3,6 +3,7 @@ pub mod Runs
 pub mod Attached
 pub mod Names
 pub mod Looks
+pub mod ByName
 pub mod Readies
 pub mod Peers
 pub mod Endings
@@ -14,3 +15,5 @@ pub mod Exports
 pub mod Replays
 pub mod Untroubled
 pub mod Plays
+pub mod Recordings
+pub mod Audits

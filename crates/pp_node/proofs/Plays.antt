@@ -48,7 +48,7 @@ use Rattle.pp_node.specs.declared.preparing.Peering.{Peering}
 use Rattle.pp_node.specs.declared.preparing.SeedFault.{SeedFault}
 use Rattle.pp_node.specs.declared.preparing.SeedFault.TheVariants as fault
 use Rattle.pp_node.specs.declared.status.Status.{Status}
-use Rattle.pp_node.specs.declared.status.Status.TheVariants.{Done, Usage, NotAStore, Incomplete, DiskFault, LinkFault, SourceFault, SinkFault, NotEmpty, ContentSize, Schedule, Memory, Damaged}
+use Rattle.pp_node.specs.declared.status.Status.TheVariants.{Done, Usage, NotAStore, Incomplete, DiskFault, LinkFault, SourceFault, SinkFault, NotEmpty, ContentSize, Schedule, Memory, Damaged, AuditNo, Recording, NoLife, TooLarge, Shape}
 use Rattle.pp_node.proofs.Endings.{Leaves, unsent_run, unturned, left_done, left_incomplete, left_sink, left_disk, left_damaged}
 use Rattle.pp_node.proofs.Peers.{WasReady, was_limited, HasBook, b, d_is, known_then, last_d, began_then, took_now, begins_now, rooted_now, peer_ends, bound_now, run_now, went_closed, closed_turns, is_closed, turned_is, kept_to_now, dialled_now, held_now}
 
@@ -357,6 +357,11 @@ module _ (w : Peering) (window : ℕ) (old new : Outside) (opened : DiskState) (
     closed_ends Schedule judged = absurd judged
     closed_ends Memory judged = absurd judged
     closed_ends Damaged judged = absurd judged
+    closed_ends AuditNo judged = absurd judged
+    closed_ends Recording judged = absurd judged
+    closed_ends NoLife judged = absurd judged
+    closed_ends TooLarge judged = absurd judged
+    closed_ends Shape judged = absurd judged
 
   pub shown_ends : (status : Status) → ShowsTo status beginning w.turns begin end → PlayEnds (number_of status) (words_of w) window (dials_of w) old new
   shown_ends status shown = ⊎_elim

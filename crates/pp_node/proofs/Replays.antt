@@ -21,7 +21,7 @@ use Rattle.pp_play.specs.Replaying.{ShowEnds}
 use Rattle.pp_node.specs.Held.{HasRanges}
 use Rattle.pp_node.specs.Replaying.{PlaysText, ReplaysIn}
 use Rattle.pp_node.specs.declared.status.Status.{Status}
-use Rattle.pp_node.specs.declared.status.Status.TheVariants.{Done, Usage, NotAStore, Incomplete, DiskFault, LinkFault, SourceFault, SinkFault, NotEmpty, ContentSize, Schedule as NoSchedule, Memory, Damaged}
+use Rattle.pp_node.specs.declared.status.Status.TheVariants.{Done, Usage, NotAStore, Incomplete, DiskFault, LinkFault, SourceFault, SinkFault, NotEmpty, ContentSize, Schedule as NoSchedule, Memory, Damaged, AuditNo, Recording as NoRecording, NoLife, TooLarge, Shape}
 use Rattle.pp_node.specs.Shown.{HasLine, HasLines, numbers_of}
 use Rattle.pp_stream.proofs.Written.{gains-nil, gains_more}
 
@@ -169,6 +169,11 @@ ends_read text Memory source source' old new same plays = plays
 ends_read text SourceFault source source' old new same plays = absurd plays
 ends_read text Done source source' old new same plays = record { text = text; same = same; plays = plays }
 ends_read text Usage source source' old new same plays = record { text = text; same = same; plays = plays }
+ends_read text AuditNo source source' old new same plays = record { text = text; same = same; plays = plays }
+ends_read text NoRecording source source' old new same plays = record { text = text; same = same; plays = plays }
+ends_read text NoLife source source' old new same plays = record { text = text; same = same; plays = plays }
+ends_read text TooLarge source source' old new same plays = record { text = text; same = same; plays = plays }
+ends_read text Shape source source' old new same plays = record { text = text; same = same; plays = plays }
 ends_read text NotAStore source source' old new same plays = record { text = text; same = same; plays = plays }
 ends_read text Incomplete source source' old new same plays = record { text = text; same = same; plays = plays }
 ends_read text DiskFault source source' old new same plays = record { text = text; same = same; plays = plays }

@@ -17,7 +17,7 @@ use Rattle.pp_turns.specs.Taking.{IsSized, TakesAll, StopsIn, Ends}
 use Rattle.pp_turns.specs.Turning.{Post}
 use Rattle.pp_node.specs.declared.status.Status.{Status}
 use Rattle.pp_node.specs.declared.preparing.SeedFault.{SeedFault}
-use Rattle.pp_node.specs.declared.status.Status.TheVariants.{Done, Usage, NotAStore, Incomplete, DiskFault, LinkFault, SourceFault, SinkFault, NotEmpty, ContentSize, Schedule, Memory, Damaged}
+use Rattle.pp_node.specs.declared.status.Status.TheVariants.{Done, Usage, NotAStore, Incomplete, DiskFault, LinkFault, SourceFault, SinkFault, NotEmpty, ContentSize, Schedule, Memory, Damaged, AuditNo, Recording, NoLife, TooLarge, Shape}
 use Rattle.pp_node.proofs.Lines.{says}
 use Rattle.pp_stream.proofs.Written.{gains_more}
 
@@ -73,6 +73,11 @@ finishes_on ContentSize fetches p old mid new said j = absurd j
 finishes_on Schedule fetches p old mid new said j = absurd j
 finishes_on Memory fetches p old mid new said j = absurd j
 finishes_on Damaged fetches p old mid new said j = absurd j
+finishes_on AuditNo fetches p old mid new said j = absurd j
+finishes_on Recording fetches p old mid new said j = absurd j
+finishes_on NoLife fetches p old mid new said j = absurd j
+finishes_on TooLarge fetches p old mid new said j = absurd j
+finishes_on Shape fetches p old mid new said j = absurd j
 
 module _ (fetches : Bool) (most : ℕ) (b : Beginning) (first mid last : Post) (old new : SinkState) (takes : TakesAll b most fetches first mid)
     (closes : Closes mid.peer last.peer mid.link last.link mid.disk) (disk : last.disk ≡ mid.disk) (sized : IsSized last.peer) where
@@ -93,6 +98,11 @@ module _ (fetches : Bool) (most : ℕ) (b : Beginning) (first mid last : Post) (
   serves_on Schedule f = absurd f
   serves_on Memory f = absurd f
   serves_on Damaged f = absurd f
+  serves_on AuditNo f = absurd f
+  serves_on Recording f = absurd f
+  serves_on NoLife f = absurd f
+  serves_on TooLarge f = absurd f
+  serves_on Shape f = absurd f
 
 pub stops_on : (status : Status) (fetches : Bool) (most : ℕ) (b : Beginning) (first last : Post) (old new : SinkState) → status ≡ DiskFault → StopsIn b most first last
     → Says disk_fault_line old new → Serves status fetches most b first last old new

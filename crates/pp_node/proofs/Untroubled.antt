@@ -1,6 +1,7 @@
 -- Where no device refused a call, a command that has what it is for is done, but for want of memory and chunks that are missing.
 use Rattle.std.proofs.Common.{◌≡◌, ◌⊎◌, inl, inr, ℕ, zero, suc, ◌+◌, ◌*◌, ◌^◌, ◌≤◌, List, length, Ok, Err, refl, sym, ◌∙◌, ap, subst, arith}
-use Rattle.std.specs.Prelude.{min, Some}
+use Rattle.std.specs.Prelude.{min, Some, take}
+use Rattle.std.proofs.lemmas.List.{take_all}
 use Rattle.rand_core.specs.Steps as steps
 use Rattle.rand_chacha.specs.ChaCha.{of_seed, next_word}
 use Rattle.pp_words.specs.CommandLine.{Spells, IsOneOf}
@@ -8,10 +9,13 @@ use Rattle.pp_words.specs.Commands.{Command, Import, Seed, Fetch, Check, Export,
 use Rattle.pp_words.specs.Commands as commands
 use Rattle.pp_terms.specs.disk.Disk.{DiskState, IsKnown}
 use Rattle.pp_terms.specs.disk.Sound.{BeganSound}
+use Rattle.pp_terms.specs.disk.Store.{HasHeader}
 use Rattle.pp_terms.specs.format.Descriptor.{Descriptor}
 use Rattle.pp_terms.specs.format.Traffic.{Address, Record}
 use Rattle.pp_terms.specs.tree.Content.{IsContentSize}
 use Rattle.pp_store.specs.Old.{HasOldHeader}
+use Rattle.pp_targets.specs.Target.{SwarmName, Sized, Auto}
+use Rattle.pp_named.specs.Front.{sized}
 use Rattle.pp_world.specs.Rehearsal.{first_words, rehearsal_key, rehearsal_of, rehearsal_text}
 use Rattle.pp_world.specs.Schedule.{Schedule}
 use Rattle.pp_world.specs.ScheduleRead.{read_schedule}
@@ -22,16 +26,21 @@ use Rattle.pp_node.specs.Checking.{ChecksIn}
 use Rattle.pp_node.specs.Commanding.{HasEnded}
 use Rattle.pp_node.specs.Exporting.{ExportsIn}
 use Rattle.pp_node.specs.Looking.{IsOf, IsOther}
+use Rattle.pp_node.specs.Naming.{IsOtherThan, IsChanged, NamedChecksIn}
 use Rattle.pp_node.specs.Outside.{Outside}
 use Rattle.pp_node.specs.Playing.{PlaysIn}
 use Rattle.pp_node.specs.Promising.{PeerWords, SeedsIn, FetchesIn}
+use Rattle.pp_recording.specs.Recording as recordings
+use Rattle.pp_recording.specs.Recording.{Recorded, recording_text, IsWithin}
+use Rattle.pp_node.specs.Auditing.{AuditsIn, AuditsText}
+use Rattle.pp_node.specs.Recordings.{RecordsIn, TapesText, streams}
 use Rattle.pp_node.specs.Replaying.{PlaysText, ReplaysIn}
 use Rattle.pp_node.specs.Run.{ImportsIn}
 use Rattle.pp_node.specs.Status.{number_of}
-use Rattle.pp_node.specs.Untroubled.{IsUntroubled, FindsOwn, FindsEmpty, IsDoneOrShort, IsDoneOrMissing, AnswersWell}
+use Rattle.pp_node.specs.Untroubled.{IsUntroubled, FindsOwn, FindsOfName, FindsEmpty, IsDoneOrShort, IsDoneOrMissing, AnswersWell}
 use Rattle.pp_node.specs.Upgrading.{UpgradesIn}
 use Rattle.pp_node.specs.declared.status.Status.{Status}
-use Rattle.pp_node.specs.declared.status.Status.TheVariants.{Done, Usage, NotAStore, Incomplete, DiskFault, LinkFault, SourceFault, SinkFault, NotEmpty, ContentSize, Schedule as NoSchedule, Memory, Damaged}
+use Rattle.pp_node.specs.declared.status.Status.TheVariants.{Done, Usage, NotAStore, Incomplete, DiskFault, LinkFault, SourceFault, SinkFault, NotEmpty, ContentSize, Schedule as NoSchedule, Memory, Damaged, AuditNo, Recording as NoRecording, NoLife, TooLarge, Shape}
 
 -- no first byte differs of a file that is empty or the descriptor's
 none_differs : (d : Descriptor) (at found want : ℕ) (disk disk' : DiskState) → IsKnown disk → IsOf d disk'.history.found
@@ -41,6 +50,13 @@ none_differs d at found want disk disk' known (inl empty) other =
 none_differs d at found want disk disk' known (inr begins) other =
     let first = other.first known in
     first.differ (first.found_is ∙ begins at other.within ∙ sym first.want_is)
+
+-- nor of one that begins with a header of the name
+none_differs_named : (name : SwarmName) (at found want : ℕ) (disk disk' : DiskState) → IsKnown disk → (size : ℕ)
+    → HasHeader (sized name size) disk'.history.found → IsOtherThan name at found want disk disk' ⊎ IsChanged name at found want disk disk' → ⊥
+none_differs_named name at found want disk disk' known size begins (inl other) =
+    other.differ (other.found_is known ∙ begins at other.within ∙ sym (other.wanted size))
+none_differs_named name at found want disk disk' known size begins (inr other) = other.unknown known
 
 -- as many words are drawn as are asked for
 words_count : {S : Type 0} (step : S → ℕ × S) (count : ℕ) (state : S) → length (steps.first_words step count state) ≡ count
@@ -63,6 +79,11 @@ module _ (old new : Outside) (u : IsUntroubled old new) where
   checked d SinkFault own ends = absurd (u.sink ends.risen)
   checked d Memory own ends = inr refl
   checked d Usage own ends = absurd ends
+  checked d AuditNo own ends = absurd ends
+  checked d NoRecording own ends = absurd ends
+  checked d NoLife own ends = absurd ends
+  checked d TooLarge own ends = absurd ends
+  checked d Shape own ends = absurd ends
   checked d Incomplete own ends = absurd ends
   checked d LinkFault own ends = absurd ends
   checked d SourceFault own ends = absurd ends
@@ -70,6 +91,27 @@ module _ (old new : Outside) (u : IsUntroubled old new) where
   checked d ContentSize own ends = absurd ends
   checked d NoSchedule own ends = absurd ends
   checked d Damaged own ends = absurd ends
+
+  named_checked : (name : SwarmName) (s : Status) → FindsOfName name old new → NamedChecksIn s name old new
+      → IsDoneOrShort (number_of s) ⊎ (number_of s ≡ number_of ContentSize) ⊎ (number_of s ≡ number_of Shape)
+  named_checked name Done own ends = inl (inl refl)
+  named_checked name NotAStore own ends = absurd (none_differs_named name ends.at ends.found ends.want old.disk new.disk own.known own.size own.begins ends.other)
+  named_checked name DiskFault own ends = absurd (u.disk ends.risen)
+  named_checked name SinkFault own ends = absurd (u.sink ends.risen)
+  named_checked name ContentSize own ends = inr (inl refl)
+  named_checked name Memory own ends = inl (inr refl)
+  named_checked name Shape own ends = inr (inr refl)
+  named_checked name Usage own ends = absurd ends
+  named_checked name Incomplete own ends = absurd ends
+  named_checked name LinkFault own ends = absurd ends
+  named_checked name SourceFault own ends = absurd ends
+  named_checked name NotEmpty own ends = absurd ends
+  named_checked name NoSchedule own ends = absurd ends
+  named_checked name Damaged own ends = absurd ends
+  named_checked name AuditNo own ends = absurd ends
+  named_checked name NoRecording own ends = absurd ends
+  named_checked name NoLife own ends = absurd ends
+  named_checked name TooLarge own ends = absurd ends
 
   seeded : (w : PeerWords) (added : List Record) (s : Status) → FindsOwn w.descriptor old new → SeedsIn s w old new added → IsDoneOrShort (number_of s)
   seeded w added Done own ends = inl refl
@@ -81,6 +123,11 @@ module _ (old new : Outside) (u : IsUntroubled old new) where
   seeded w added SinkFault own ends = absurd (u.sink ends.1)
   seeded w added Memory own ends = inr refl
   seeded w added Usage own ends = absurd ends
+  seeded w added AuditNo own ends = absurd ends
+  seeded w added NoRecording own ends = absurd ends
+  seeded w added NoLife own ends = absurd ends
+  seeded w added TooLarge own ends = absurd ends
+  seeded w added Shape own ends = absurd ends
   seeded w added Incomplete own ends = absurd ends
   seeded w added SourceFault own ends = absurd ends
   seeded w added NotEmpty own ends = absurd ends
@@ -99,6 +146,11 @@ module _ (old new : Outside) (u : IsUntroubled old new) where
   fetched w added SinkFault own ends = absurd (u.sink ends.1)
   fetched w added Memory own ends = inl (inr refl)
   fetched w added Usage own ends = absurd ends
+  fetched w added AuditNo own ends = absurd ends
+  fetched w added NoRecording own ends = absurd ends
+  fetched w added NoLife own ends = absurd ends
+  fetched w added TooLarge own ends = absurd ends
+  fetched w added Shape own ends = absurd ends
   fetched w added SourceFault own ends = absurd ends
   fetched w added NotEmpty own ends = absurd ends
   fetched w added ContentSize own ends = absurd ends
@@ -115,6 +167,11 @@ module _ (old new : Outside) (u : IsUntroubled old new) where
   exported d Memory own ends = inl (inl (inr refl))
   exported d Damaged own ends = inr (refl, ends.damaged.never own.known)
   exported d Usage own ends = absurd ends
+  exported d AuditNo own ends = absurd ends
+  exported d NoRecording own ends = absurd ends
+  exported d NoLife own ends = absurd ends
+  exported d TooLarge own ends = absurd ends
+  exported d Shape own ends = absurd ends
   exported d LinkFault own ends = absurd ends
   exported d SourceFault own ends = absurd ends
   exported d NotEmpty own ends = absurd ends
@@ -135,6 +192,11 @@ module _ (old new : Outside) (u : IsUntroubled old new) where
       no_size (inl none) is = let some = fits.some in omega (arith, some, none, is)
       no_size (inr more) is = let within = fits.within in omega (arith, within, more, is)
   imported chunk Usage own content left fits ends = absurd ends
+  imported chunk AuditNo own content left fits ends = absurd ends
+  imported chunk NoRecording own content left fits ends = absurd ends
+  imported chunk NoLife own content left fits ends = absurd ends
+  imported chunk TooLarge own content left fits ends = absurd ends
+  imported chunk Shape own content left fits ends = absurd ends
   imported chunk NotAStore own content left fits ends = absurd ends
   imported chunk Incomplete own content left fits ends = absurd ends
   imported chunk LinkFault own content left fits ends = absurd ends
@@ -154,6 +216,11 @@ module _ (old new : Outside) (u : IsUntroubled old new) where
       absurd (let some = ends.some in let len = ends.counted own.known in omega (arith, some, len, ap length own.empty))
   upgraded d Memory own bytes left has ends = inr refl
   upgraded d Usage own bytes left has ends = absurd ends
+  upgraded d AuditNo own bytes left has ends = absurd ends
+  upgraded d NoRecording own bytes left has ends = absurd ends
+  upgraded d NoLife own bytes left has ends = absurd ends
+  upgraded d TooLarge own bytes left has ends = absurd ends
+  upgraded d Shape own bytes left has ends = absurd ends
   upgraded d Incomplete own bytes left has ends = absurd ends
   upgraded d LinkFault own bytes left has ends = absurd ends
   upgraded d ContentSize own bytes left has ends = absurd ends
@@ -167,6 +234,11 @@ module _ (old new : Outside) (u : IsUntroubled old new) where
   played text schedule SinkFault read ends = absurd (u.sink ends.risen)
   played text schedule Memory read ends = inr refl
   played text schedule Usage read ends = absurd ends
+  played text schedule AuditNo read ends = absurd ends
+  played text schedule NoRecording read ends = absurd ends
+  played text schedule NoLife read ends = absurd ends
+  played text schedule TooLarge read ends = absurd ends
+  played text schedule Shape read ends = absurd ends
   played text schedule NotAStore read ends = absurd ends
   played text schedule Incomplete read ends = absurd ends
   played text schedule DiskFault read ends = absurd ends
@@ -184,6 +256,11 @@ module _ (old new : Outside) (u : IsUntroubled old new) where
   replayed content schedule NoSchedule left read ends = played ends.text schedule NoSchedule (sym (ends.same content left) ∙ read) ends.plays
   replayed content schedule SinkFault left read ends = played ends.text schedule SinkFault (sym (ends.same content left) ∙ read) ends.plays
   replayed content schedule Usage left read ends = played ends.text schedule Usage (sym (ends.same content left) ∙ read) ends.plays
+  replayed content schedule AuditNo left read ends = played ends.text schedule AuditNo (sym (ends.same content left) ∙ read) ends.plays
+  replayed content schedule NoRecording left read ends = played ends.text schedule NoRecording (sym (ends.same content left) ∙ read) ends.plays
+  replayed content schedule NoLife left read ends = played ends.text schedule NoLife (sym (ends.same content left) ∙ read) ends.plays
+  replayed content schedule TooLarge left read ends = played ends.text schedule TooLarge (sym (ends.same content left) ∙ read) ends.plays
+  replayed content schedule Shape left read ends = played ends.text schedule Shape (sym (ends.same content left) ∙ read) ends.plays
   replayed content schedule NotAStore left read ends = played ends.text schedule NotAStore (sym (ends.same content left) ∙ read) ends.plays
   replayed content schedule Incomplete left read ends = played ends.text schedule Incomplete (sym (ends.same content left) ∙ read) ends.plays
   replayed content schedule DiskFault left read ends = played ends.text schedule DiskFault (sym (ends.same content left) ∙ read) ends.plays
@@ -208,10 +285,109 @@ module _ (old new : Outside) (u : IsUntroubled old new) where
   shown w window peers added LinkFault own ends = absurd (u.link ends.0.risen)
   shown w window peers added SinkFault own ends = absurd (u.sink ends.risen)
   shown w window peers added Usage own ends = absurd ends
+  shown w window peers added AuditNo own ends = absurd ends
+  shown w window peers added NoRecording own ends = absurd ends
+  shown w window peers added NoLife own ends = absurd ends
+  shown w window peers added TooLarge own ends = absurd ends
+  shown w window peers added Shape own ends = absurd ends
   shown w window peers added SourceFault own ends = absurd ends
   shown w window peers added NotEmpty own ends = absurd ends
   shown w window peers added ContentSize own ends = absurd ends
   shown w window peers added NoSchedule own ends = absurd ends
+
+  -- a life of a replay was recorded
+  taped : (text : List ℕ) (peer life : ℕ) (schedule : Schedule) (s : Status) → read_schedule text ≡ Ok schedule → TapesText text peer life s old.sink new.sink
+      → IsDoneOrShort (number_of s) ⊎ (number_of s ≡ number_of NoLife) ⊎ (number_of s ≡ number_of TooLarge)
+  taped text peer life schedule Done read ends = inl (inl refl)
+  taped text peer life schedule NoSchedule read ends = absurd (let never : Ok schedule ≡ Err ends.fault = sym read ∙ ends.read in cc)
+  taped text peer life schedule SinkFault read ends = absurd (u.sink ends.risen)
+  taped text peer life schedule Memory read ends = inl (inr refl)
+  taped text peer life schedule NoLife read ends = inr (inl refl)
+  taped text peer life schedule TooLarge read ends = inr (inr refl)
+  taped text peer life schedule Shape read ends = absurd ends
+  taped text peer life schedule Usage read ends = absurd ends
+  taped text peer life schedule NotAStore read ends = absurd ends
+  taped text peer life schedule Incomplete read ends = absurd ends
+  taped text peer life schedule DiskFault read ends = absurd ends
+  taped text peer life schedule LinkFault read ends = absurd ends
+  taped text peer life schedule SourceFault read ends = absurd ends
+  taped text peer life schedule NotEmpty read ends = absurd ends
+  taped text peer life schedule ContentSize read ends = absurd ends
+  taped text peer life schedule Damaged read ends = absurd ends
+  taped text peer life schedule AuditNo read ends = absurd ends
+  taped text peer life schedule NoRecording read ends = absurd ends
+
+  recorded : (peer life : ℕ) (content : List ℕ) (schedule : Schedule) (s : Status) → old.source.left ≡ Some content → read_schedule content ≡ Ok schedule
+      → RecordsIn s peer life (streams old.source old.sink) (streams new.source new.sink)
+      → IsDoneOrShort (number_of s) ⊎ (number_of s ≡ number_of NoLife) ⊎ (number_of s ≡ number_of TooLarge)
+  recorded peer life content schedule SourceFault left read ends = absurd (u.source ends.0)
+  recorded peer life content schedule Memory left read ends = inl (inr refl)
+  recorded peer life content schedule Done left read ends = taped ends.text peer life schedule Done (sym (ends.same content left) ∙ read) ends.tapes
+  recorded peer life content schedule Usage left read ends = taped ends.text peer life schedule Usage (sym (ends.same content left) ∙ read) ends.tapes
+  recorded peer life content schedule NotAStore left read ends = taped ends.text peer life schedule NotAStore (sym (ends.same content left) ∙ read) ends.tapes
+  recorded peer life content schedule Incomplete left read ends = taped ends.text peer life schedule Incomplete (sym (ends.same content left) ∙ read) ends.tapes
+  recorded peer life content schedule DiskFault left read ends = taped ends.text peer life schedule DiskFault (sym (ends.same content left) ∙ read) ends.tapes
+  recorded peer life content schedule LinkFault left read ends = taped ends.text peer life schedule LinkFault (sym (ends.same content left) ∙ read) ends.tapes
+  recorded peer life content schedule SinkFault left read ends = taped ends.text peer life schedule SinkFault (sym (ends.same content left) ∙ read) ends.tapes
+  recorded peer life content schedule NotEmpty left read ends = taped ends.text peer life schedule NotEmpty (sym (ends.same content left) ∙ read) ends.tapes
+  recorded peer life content schedule ContentSize left read ends = taped ends.text peer life schedule ContentSize (sym (ends.same content left) ∙ read) ends.tapes
+  recorded peer life content schedule NoSchedule left read ends = taped ends.text peer life schedule NoSchedule (sym (ends.same content left) ∙ read) ends.tapes
+  recorded peer life content schedule Damaged left read ends = taped ends.text peer life schedule Damaged (sym (ends.same content left) ∙ read) ends.tapes
+  recorded peer life content schedule AuditNo left read ends = taped ends.text peer life schedule AuditNo (sym (ends.same content left) ∙ read) ends.tapes
+  recorded peer life content schedule NoRecording left read ends = taped ends.text peer life schedule NoRecording (sym (ends.same content left) ∙ read) ends.tapes
+  recorded peer life content schedule NoLife left read ends = taped ends.text peer life schedule NoLife (sym (ends.same content left) ∙ read) ends.tapes
+  recorded peer life content schedule TooLarge left read ends = taped ends.text peer life schedule TooLarge (sym (ends.same content left) ∙ read) ends.tapes
+  recorded peer life content schedule Shape left read ends = taped ends.text peer life schedule Shape (sym (ends.same content left) ∙ read) ends.tapes
+
+  -- a recording was audited
+  answered : (text : List ℕ) (r : Recorded) (s : Status) → IsWithin r → text ≡ recording_text r → AuditsText text s old.sink new.sink
+      → IsDoneOrShort (number_of s) ⊎ (number_of s ≡ number_of AuditNo)
+  answered text r Done within is ends = inl (inl refl)
+  answered text r AuditNo within is ends = inr refl
+  answered text r NoRecording within is ends = absurd (ends.fault.none r within is)
+  answered text r SinkFault within is ends = absurd (u.sink ends.answer.risen)
+  answered text r Memory within is ends = inl (inr refl)
+  answered text r Usage within is ends = absurd ends.answer
+  answered text r NotAStore within is ends = absurd ends.answer
+  answered text r Incomplete within is ends = absurd ends.answer
+  answered text r DiskFault within is ends = absurd ends.answer
+  answered text r LinkFault within is ends = absurd ends.answer
+  answered text r SourceFault within is ends = absurd ends.answer
+  answered text r NotEmpty within is ends = absurd ends.answer
+  answered text r ContentSize within is ends = absurd ends.answer
+  answered text r Damaged within is ends = absurd ends.answer
+  answered text r NoSchedule within is ends = absurd ends.answer
+  answered text r NoLife within is ends = absurd ends.answer
+  answered text r TooLarge within is ends = absurd ends.answer
+  answered text r Shape within is ends = absurd ends.answer
+
+  whole_text : (text content : List ℕ) (r : Recorded) → IsWithin r → content ≡ recording_text r → text ≡ take (recordings.most_text + 1) content
+      → text ≡ recording_text r
+  whole_text text content r within is taken =
+      let size : length content ≡ length (recording_text r) = ap (λ (t : List ℕ). length t) is in
+      let short = within.short in
+      taken ∙ take_all (recordings.most_text + 1) content (omega (arith, size, short)) ∙ is
+
+  audited : (r : Recorded) (s : Status) → IsWithin r → old.source.left ≡ Some (recording_text r)
+      → AuditsIn s (streams old.source old.sink) (streams new.source new.sink) → IsDoneOrShort (number_of s) ⊎ (number_of s ≡ number_of AuditNo)
+  audited r SourceFault within left ends = absurd (u.source ends.0)
+  audited r Memory within left ends = inl (inr refl)
+  audited r Done within left ends = answered ends.text r Done within (whole_text ends.text (recording_text r) r within refl (ends.same (recording_text r) left)) ends.audits
+  audited r Usage within left ends = answered ends.text r Usage within (whole_text ends.text (recording_text r) r within refl (ends.same (recording_text r) left)) ends.audits
+  audited r NotAStore within left ends = answered ends.text r NotAStore within (whole_text ends.text (recording_text r) r within refl (ends.same (recording_text r) left)) ends.audits
+  audited r Incomplete within left ends = answered ends.text r Incomplete within (whole_text ends.text (recording_text r) r within refl (ends.same (recording_text r) left)) ends.audits
+  audited r DiskFault within left ends = answered ends.text r DiskFault within (whole_text ends.text (recording_text r) r within refl (ends.same (recording_text r) left)) ends.audits
+  audited r LinkFault within left ends = answered ends.text r LinkFault within (whole_text ends.text (recording_text r) r within refl (ends.same (recording_text r) left)) ends.audits
+  audited r SinkFault within left ends = answered ends.text r SinkFault within (whole_text ends.text (recording_text r) r within refl (ends.same (recording_text r) left)) ends.audits
+  audited r NotEmpty within left ends = answered ends.text r NotEmpty within (whole_text ends.text (recording_text r) r within refl (ends.same (recording_text r) left)) ends.audits
+  audited r ContentSize within left ends = answered ends.text r ContentSize within (whole_text ends.text (recording_text r) r within refl (ends.same (recording_text r) left)) ends.audits
+  audited r NoSchedule within left ends = answered ends.text r NoSchedule within (whole_text ends.text (recording_text r) r within refl (ends.same (recording_text r) left)) ends.audits
+  audited r Damaged within left ends = answered ends.text r Damaged within (whole_text ends.text (recording_text r) r within refl (ends.same (recording_text r) left)) ends.audits
+  audited r AuditNo within left ends = answered ends.text r AuditNo within (whole_text ends.text (recording_text r) r within refl (ends.same (recording_text r) left)) ends.audits
+  audited r NoRecording within left ends = answered ends.text r NoRecording within (whole_text ends.text (recording_text r) r within refl (ends.same (recording_text r) left)) ends.audits
+  audited r NoLife within left ends = answered ends.text r NoLife within (whole_text ends.text (recording_text r) r within refl (ends.same (recording_text r) left)) ends.audits
+  audited r TooLarge within left ends = answered ends.text r TooLarge within (whole_text ends.text (recording_text r) r within refl (ends.same (recording_text r) left)) ends.audits
+  audited r Shape within left ends = answered ends.text r Shape within (whole_text ends.text (recording_text r) r within refl (ends.same (recording_text r) left)) ends.audits
 
   -- what each command answers
   answers : (c : Command) (result : ℕ) → HasEnded c result old new → AnswersWell c result old new
@@ -220,7 +396,9 @@ module _ (old new : Outside) (u : IsUntroubled old new) where
       (seeded (record { store = store; descriptor = d; listen = listen; turns = turns }) end.run.added end.run.status own end.ends)
   answers (Fetch store d listen turns order peers) result end = λ own. subst IsDoneOrMissing (sym end.run.number)
       (fetched (record { store = store; descriptor = d; listen = listen; turns = turns }) end.run.added end.run.status own end.ends)
-  answers (Check store d) result end = λ own. subst IsDoneOrShort (sym end.number) (checked d end.status own end.ends)
+  answers (Check store (Sized d)) result end = λ own. subst IsDoneOrShort (sym end.number) (checked d end.status own end.ends)
+  answers (Check store (Auto name)) result end = λ own. subst
+      (λ (n : ℕ). IsDoneOrShort n ⊎ (n ≡ number_of ContentSize) ⊎ (n ≡ number_of Shape)) (sym end.number) (named_checked name end.status own end.ends)
   answers (Export store d) result end = λ own. subst
       (λ (n : ℕ). IsDoneOrMissing n ⊎ ((n ≡ number_of Damaged) × (BeganSound d new.disk.history → ⊥))) (sym end.number) (exported d end.status own end.ends)
   answers (Upgrade store d) result end = λ own bytes left has. subst IsDoneOrShort (sym end.number) (upgraded d end.status own bytes left has end.ends)
@@ -230,8 +408,11 @@ module _ (old new : Outside) (u : IsUntroubled old new) where
   answers (Play store d listen turns window peers) result end = λ own. subst
       (λ (n : ℕ). IsDoneOrMissing n ⊎ ((n ≡ number_of Damaged) × (BeganSound d new.disk.history → ⊥))) (sym end.run.number)
       (shown (record { store = store; descriptor = d; listen = listen; turns = turns }) window peers end.run.added end.run.status own end.ends)
-  answers (commands.Record peer life) result end = absurd end
-  answers Audit result end = absurd end
+  answers (commands.Record peer life) result end = λ content schedule left read. subst
+      (λ (n : ℕ). IsDoneOrShort n ⊎ (n ≡ number_of NoLife) ⊎ (n ≡ number_of TooLarge)) (sym end.is_number)
+      (recorded peer life content schedule end.status left read end.ends)
+  answers Audit result end = λ r within left. subst (λ (n : ℕ). IsDoneOrShort n ⊎ (n ≡ number_of AuditNo)) (sym end.number)
+      (audited r end.status within left end.ends)
 
 -- the same of the command that the words spell
 pub answers_well : (words : List (List ℕ)) (command : Command) (status : Status) (result : ℕ) (old new : Outside) → Spells words command

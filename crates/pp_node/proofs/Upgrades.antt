@@ -15,7 +15,7 @@ use Rattle.pp_store.specs.Old.{HasOldHeader, old_size}
 use Rattle.pp_store.specs.Sound.{StaysSound}
 use Rattle.pp_store.specs.Upgrade.{HasUpgraded, LeavesUpgraded, IsBegun, IsDone}
 use Rattle.pp_node.specs.declared.status.Status.{Status}
-use Rattle.pp_node.specs.declared.status.Status.TheVariants.{Done, Usage, NotAStore, Incomplete, DiskFault, LinkFault, SourceFault, SinkFault, NotEmpty, ContentSize, Schedule, Memory, Damaged}
+use Rattle.pp_node.specs.declared.status.Status.TheVariants.{Done, Usage, NotAStore, Incomplete, DiskFault, LinkFault, SourceFault, SinkFault, NotEmpty, ContentSize, Schedule, Memory, Damaged, AuditNo, Recording, NoLife, TooLarge, Shape}
 use Rattle.pp_node.specs.Outside.{outside}
 use Rattle.pp_node.specs.Upgrading.{IsStored, UpgradesIn, ReportsUpgrade, IsUpgradeRun}
 use Rattle.pp_node.proofs.Readies.{stays_sound, sound_attached}
@@ -177,6 +177,11 @@ module _ {E : Type 0} {name : List ℕ} (d : Descriptor) (source source' : Sourc
   upgrade_since link book book' ContentSize e = e
   upgrade_since link book book' Schedule e = e
   upgrade_since link book book' Damaged e = e
+  upgrade_since link book book' AuditNo e = e
+  upgrade_since link book book' Recording e = e
+  upgrade_since link book book' NoLife e = e
+  upgrade_since link book book' TooLarge e = e
+  upgrade_since link book book' Shape e = e
 
   pub upgraded_since : (status : Status) → IsUpgradeRun status d source source' mid new → IsUpgradeRun status d source source' old new
   upgraded_since status r = record {

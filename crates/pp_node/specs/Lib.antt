@@ -8,6 +8,7 @@ pub mod Run
 pub mod Preparing
 pub mod Held
 pub mod Checking
+pub mod Naming
 pub mod Seeding
 pub mod Promising
 pub mod Playing
@@ -15,5 +16,7 @@ pub mod Exporting
 pub mod Upgrading
 pub mod Commanding
 pub mod Replaying
+pub mod Recordings
+pub mod Auditing
 pub mod Shown
 pub mod Untroubled

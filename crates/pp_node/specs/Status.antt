@@ -1,7 +1,7 @@
 -- The numbers of the statuses.
 use Rattle.std.specs.Prelude.{ℕ}
 use Rattle.pp_node.specs.declared.status.Status.{Status}
-use Rattle.pp_node.specs.declared.status.Status.TheVariants.{Done, Usage, NotAStore, Incomplete, DiskFault, LinkFault, SourceFault, SinkFault, NotEmpty, ContentSize, Schedule, Memory, Damaged}
+use Rattle.pp_node.specs.declared.status.Status.TheVariants.{Done, Usage, NotAStore, Incomplete, DiskFault, LinkFault, SourceFault, SinkFault, NotEmpty, ContentSize, Schedule, Memory, Damaged, Shape, AuditNo, Recording, NoLife, TooLarge}
 
 abbrev pub number_of : Status → ℕ
 number_of Done = 0
@@ -17,3 +17,8 @@ number_of ContentSize = 9
 number_of Schedule = 10
 number_of Memory = 11
 number_of Damaged = 12
+number_of Shape = 13
+number_of AuditNo = 14
+number_of Recording = 15
+number_of NoLife = 16
+number_of TooLarge = 17

@@ -20,6 +20,8 @@ fn is_built(name: &str) -> bool
             | "replay"
             | "rehearse"
             | "play"
+            | "record"
+            | "audit"
     )
 }
 

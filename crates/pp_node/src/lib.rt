@@ -1,16 +1,19 @@
 //! The top call of the program: it does what the words of a command line say, over the devices that it is handed.
 #![tactic(auto)]
 
+mod auditing;
 mod built;
 mod checking;
 mod counting;
 mod exporting;
 mod importing;
 mod looking;
+mod naming;
 mod playing;
 mod preparing;
 mod printing;
 mod ranges;
+mod recording;
 mod refusing;
 mod replaying;
 mod seeding;

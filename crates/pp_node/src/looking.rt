@@ -58,8 +58,8 @@ fn look_attached<D: Disk>(
     }
 }
 
-// The file is empty or begins with the header.
-fn look_into<D: Disk>(
+/// Scans a file that is empty or begins with the header.
+pub(crate) fn look_into<D: Disk>(
     alloc: Global,
     descriptor: &Descriptor,
     disk: &mut D,
@@ -69,6 +69,7 @@ fn look_into<D: Disk>(
     requires attached { IsKnown (D.state disk.old) → IsFreshlyAttached (D.state disk.old).history }
     requires begins { IsKnown (D.state disk.old) → IsOf descriptor.now (D.state disk.old).history.reads }
     ensures looked { HasLooked descriptor.now (D.state disk.old) (D.state disk.new) (entry book.new) result }
+    ensures kept { IsKnown (D.state disk.old) → (D.state disk.new).history.found ≡ (D.state disk.old).history.reads }
     ensures unwritten { IsUnwritten (D.state disk.old) (D.state disk.new) }
     ensures lasts { IsKnown (D.state disk.old) → Lasts descriptor.now (D.state disk.new).history }
     ensures names { IsKnown (D.state disk.old) → (D.state disk.new).history.names ≡ (D.state disk.old).history.names }

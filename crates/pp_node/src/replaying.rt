@@ -98,8 +98,8 @@ fn kind_text(kind: ScheduleKind) -> &'static [u8]
     }
 }
 
-// Says which line is the first faulty one, and what is wrong with it.
-fn put_fault<K: Sink>(fault: &ScheduleFault, sink: &mut K) -> Result<(), SinkFault>
+/// Says which line is the first faulty one, and what is wrong with it.
+pub(crate) fn put_fault<K: Sink>(fault: &ScheduleFault, sink: &mut K) -> Result<(), SinkFault>
     ensures said { OnOk result (Gains (K.state sink.old).taken (schedule_line (as_fault fault.now)) (K.state sink.new).taken) }
     ensures cause { HasCause (K.state sink.old).faults (K.state sink.new).faults result }
 {

@@ -30,6 +30,16 @@ pub enum Status {
     Memory = 11,
     /// A chunk was read back with another digest than the book's.
     Damaged = 12,
+    /// The book has a node that covers no chunk and isn't 32 zero bytes.
+    Shape = 13,
+    /// A chunk of the recording wasn't served by the rules.
+    AuditNo = 14,
+    /// The text is no recording.
+    Recording = 15,
+    /// The peer has no such life.
+    NoLife = 16,
+    /// The recording would pass a limit.
+    TooLarge = 17,
 }
 
 impl Status {

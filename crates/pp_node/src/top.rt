@@ -1,7 +1,7 @@
 // The top call.
 ghost use Rattle.std.specs.Prelude.{◌≡◌, ◌↔◌, ℕ, List, [], ◌∷◌, codes};
 ghost use Rattle.pp_terms.specs.command.Order as orders;
-ghost use Rattle.pp_words.specs.CommandLine.{Spells, IsImport, IsSeed, IsFetch, IsPlay, IsOnStore, IsRehearse, IsOneOf, IsFirstWrong};
+ghost use Rattle.pp_words.specs.CommandLine.{Spells, IsImport, IsSeed, IsFetch, IsPlay, IsOnStore, IsOnTarget, IsRehearse, IsRecord, IsOneOf, IsFirstWrong};
 ghost use Rattle.pp_terms.specs.format.Descriptor.{Descriptor};
 ghost use Rattle.pp_terms.specs.format.Traffic.{Address};
 ghost use Rattle.pp_words.specs.Usage as wrong;
@@ -10,10 +10,14 @@ ghost use Rattle.pp_tree.specs.Book.{empty_book};
 ghost use Rattle.pp_words.specs.Commands as terms;
 ghost use Rattle.pp_words.specs.Views.{texts, command_of};
 ghost use Rattle.pp_node.specs.Built.{built};
+ghost use Rattle.pp_node.specs.Auditing.{AuditEnds};
+ghost use Rattle.pp_node.specs.Recordings.{RecordEnds};
 ghost use Rattle.pp_node.specs.Replaying.{ReplayEnds, RehearseEnds};
 ghost use Rattle.pp_node.specs.Text.{Says};
 ghost use Rattle.pp_node.specs.Run.{ImportEnds};
+ghost use Rattle.pp_targets.specs.Target.{SwarmName, Sized, Auto};
 ghost use Rattle.pp_node.specs.Checking.{CheckEnds};
+ghost use Rattle.pp_node.specs.Naming.{NamedCheckEnds};
 ghost use Rattle.pp_node.specs.Exporting.{ExportEnds};
 ghost use Rattle.pp_node.specs.Upgrading.{UpgradeEnds};
 ghost use Rattle.pp_node.specs.Playing.{PlayEnds};
@@ -23,12 +27,14 @@ ghost use Rattle.pp_node.specs.Status.{number_of};
 ghost use Rattle.pp_node.specs.Commanding.{FillsBook, UsesLink, HasEnded};
 ghost use Rattle.pp_node.specs.Untroubled.{IsUntroubled, AnswersWell};
 
+use crate::auditing::audit;
 use crate::built::read_built;
-use crate::checking::check;
 use crate::exporting::export;
 use crate::importing::import;
+use crate::naming::check_target;
 use crate::playing::play;
 use crate::preparing::Peering;
+use crate::recording::record;
 use crate::refusing::refuse;
 use crate::replaying::{rehearse, replay};
 use crate::seeding::share;
@@ -45,7 +51,10 @@ use std::alloc::Global;
 /// words that are no command, 2 for a file that is no store of the descriptor, 3 where some chunk isn't held, 4 where the
 /// disk refused a call, 5 where the link refused to listen, 6 where the source refused a read, 7 where the sink refused a
 /// write, 8 for a store that isn't empty, 9 for a content of no swarm, 10 for a text that is no schedule, 11 where memory
-/// ran out, 12 where a chunk was read back with another digest. The book is empty at entry, and `random` are 32 bytes that
+/// ran out, 12 where a chunk was read back with another digest, 13 for a store whose size its header tells with a node that
+/// covers no chunk and isn't 32 zero bytes, 14 for a recording in which a chunk wasn't served by the
+/// rules, 15 for a text that is no recording, 16 for a life that a peer doesn't have, 17 for one whose recording is too
+/// large. The book is empty at entry, and `random` are 32 bytes that
 /// nobody can guess, from which channel numbers are drawn.
 pub fn run<D: Disk, L: Link, S: Source, K: Sink>(
     alloc: Global,
@@ -86,8 +95,12 @@ pub fn run<D: Disk, L: Link, S: Source, K: Sink>(
         → PlayEnds result w window peers (outside (D.state disk.old) (L.seen link.old) (S.state source.old) (K.state sink.old) book.old)
         (outside (D.state disk.new) (L.seen link.new) (S.state source.new) (K.state sink.new) book.new) }
 
-    ensures check { (store : List ℕ) (descriptor : Descriptor) → IsOnStore (codes "check") (texts words.now) store descriptor
+    ensures check { (store : List ℕ) (descriptor : Descriptor) → IsOnTarget (codes "check") (texts words.now) store (Sized descriptor)
         → CheckEnds result store descriptor (outside (D.state disk.old) (L.seen link.old) (S.state source.old) (K.state sink.old) book.old)
+        (outside (D.state disk.new) (L.seen link.new) (S.state source.new) (K.state sink.new) book.new) }
+
+    ensures named_check { (store : List ℕ) (name : SwarmName) → IsOnTarget (codes "check") (texts words.now) store (Auto name)
+        → NamedCheckEnds result store name (outside (D.state disk.old) (L.seen link.old) (S.state source.old) (K.state sink.old) book.old)
         (outside (D.state disk.new) (L.seen link.new) (S.state source.new) (K.state sink.new) book.new) }
 
     ensures export { (store : List ℕ) (descriptor : Descriptor) → IsOnStore (codes "export") (texts words.now) store descriptor
@@ -104,6 +117,14 @@ pub fn run<D: Disk, L: Link, S: Source, K: Sink>(
 
     ensures rehearse { (number : ℕ) → IsRehearse (texts words.now) number
         → RehearseEnds result number (outside (D.state disk.old) (L.seen link.old) (S.state source.old) (K.state sink.old) book.old)
+        (outside (D.state disk.new) (L.seen link.new) (S.state source.new) (K.state sink.new) book.new) }
+
+    ensures record { (peer life : ℕ) → IsRecord (texts words.now) peer life
+        → RecordEnds result peer life (outside (D.state disk.old) (L.seen link.old) (S.state source.old) (K.state sink.old) book.old)
+        (outside (D.state disk.new) (L.seen link.new) (S.state source.new) (K.state sink.new) book.new) }
+
+    ensures audit { texts words.now ≡ codes "audit" ∷ []
+        → AuditEnds result (outside (D.state disk.old) (L.seen link.old) (S.state source.old) (K.state sink.old) book.old)
         (outside (D.state disk.new) (L.seen link.new) (S.state source.new) (K.state sink.new) book.new) }
 
     // Where no device refused a call, a command that has what it is for is done, but for want of memory and chunks that are missing.
@@ -181,7 +202,7 @@ fn obey<D: Disk, L: Link, S: Source, K: Sink>(
             };
             share(alloc, &words, disk, link, sink, book)
         }
-        Command::Check { store, descriptor } => check(alloc, store, descriptor, disk, sink, book),
+        Command::Check { store, target } => check_target(alloc, store, target, disk, sink, book),
         Command::Export { store, descriptor } => {
             export(alloc, store, descriptor, disk, sink, book)
         }
@@ -209,8 +230,8 @@ fn obey<D: Disk, L: Link, S: Source, K: Sink>(
             };
             play(alloc, &words, *window, disk, link, sink, book)
         }
-        // These are not built, so they are never asked for.
-        Command::Record { .. } | Command::Audit => unreachable!(),
+        Command::Record { peer, life } => record(alloc, *peer, *life, source, sink),
+        Command::Audit => audit(alloc, source, sink),
     }
 }
 

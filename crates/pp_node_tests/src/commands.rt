@@ -140,6 +140,31 @@ fn says_what_a_store_holds(rt: HostRuntime) -> Result<(), Fail> {
     Ok(())
 }
 
+// A swarm that is named without its size, which the store's header tells.
+const NAME_OF_ABC: &str =
+    "ppspp1:ba7816bf8f01cfea414140de5dae2223b00361a396177a9cb410ff61f20015ad:1024:auto:2";
+
+// Whether a check by that name answers this status and says this line.
+fn says_by_name(alloc: Global, image: &[u8], status: u8, line: &[u8]) -> Result<bool, AllocError> {
+    let ran = check_of(alloc, NAME_OF_ABC, image)?;
+    Ok(ran.status == status && ran.sink.bytes() == line)
+}
+
+#[test]
+fn takes_the_size_from_the_header(rt: HostRuntime) -> Result<(), Fail> {
+    let mut store = store_of_abc();
+    assert!(rt; says_by_name(rt.alloc(), &store, 0, b"held 1 of 1 0-0\n")?);
+    store[19] = 0;
+    assert!(rt; says_by_name(rt.alloc(), &store, 9, b"content size: 0 bytes\n")?);
+    Ok(())
+}
+
+#[test]
+fn takes_no_size_from_an_empty_file(rt: HostRuntime) -> Result<(), Fail> {
+    assert!(rt; says_by_name(rt.alloc(), &[], 2, b"not a store: byte 0 is 0, wanted 80\n")?);
+    Ok(())
+}
+
 // The gates of two chunks of seven are closed.
 #[test]
 fn says_the_ranges_that_are_held(rt: HostRuntime) -> Result<(), Fail> {
@@ -191,6 +216,29 @@ fn gives_a_content_back(rt: HostRuntime) -> Result<(), Fail> {
     )?;
     assert_eq!(rt; exported.status, 0);
     assert_eq!(rt; exported.sink.bytes(), content.as_slice());
+    Ok(())
+}
+
+const NAME_OF_SEVEN: &str =
+    "ppspp1:b42effe6efb1b60e3199b18182c63d9577f6cdfeaaa0acb3399ac8d87b4d8f73:1024:auto:2";
+
+// The store of seven chunks, with 6,000 bytes for the size in its header.
+fn says_six(alloc: Global) -> Result<Ran, AllocError> {
+    let stored = import_of(alloc, &generated(), MemoryDisk::new(alloc, &[])?)?;
+    let mut image = [0; 8776];
+    for (byte, was) in image.iter_mut().zip(stored.disk.bytes()) {
+        *byte = *was;
+    }
+    image[18] = 0x17;
+    image[19] = 0x70;
+    check_of(alloc, NAME_OF_SEVEN, &image)
+}
+
+#[test]
+fn names_a_node_of_another_size(rt: HostRuntime) -> Result<(), Fail> {
+    let ran = says_six(rt.alloc())?;
+    assert_eq!(rt; ran.status, 13);
+    assert_eq!(rt; ran.sink.bytes(), b"shape: node 0 6\n".as_slice());
     Ok(())
 }
 

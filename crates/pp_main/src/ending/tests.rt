@@ -28,7 +28,7 @@ fn ended(words: &[String], status: Status) -> Ending<'_> {
 }
 
 // Commands, how they ended, whether the store's file was made, and what is told.
-const ENDINGS: [(&str, Status, bool, &str); 11] = [
+const ENDINGS: [(&str, Status, bool, &str); 16] = [
     (
         "export s d",
         Status::NotAStore,
@@ -44,6 +44,12 @@ const ENDINGS: [(&str, Status, bool, &str); 11] = [
     (
         "check s d",
         Status::Done,
+        true,
+        "ppspp: s: no such store; an empty one was made",
+    ),
+    (
+        "check s d",
+        Status::NotAStore,
         true,
         "ppspp: s: no such store; an empty one was made",
     ),
@@ -89,6 +95,30 @@ const ENDINGS: [(&str, Status, bool, &str); 11] = [
         Status::Schedule,
         false,
         "ppspp: standard input: no schedule",
+    ),
+    (
+        "audit",
+        Status::AuditNo,
+        false,
+        "ppspp: standard input: a chunk wasn't served by the rules",
+    ),
+    (
+        "audit",
+        Status::Recording,
+        false,
+        "ppspp: standard input: no recording",
+    ),
+    (
+        "record 1 3",
+        Status::NoLife,
+        false,
+        "ppspp: standard input: no such peer, or fewer lives",
+    ),
+    (
+        "record 0 1",
+        Status::TooLarge,
+        false,
+        "ppspp: standard output: the recording would be too large",
     ),
 ];
 

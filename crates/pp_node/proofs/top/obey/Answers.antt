@@ -1,7 +1,7 @@
 use Rattle.std.proofs.Common.{ap, refl, subst}
 use Rattle.pp_words.specs.CommandLine.{Spells}
 use Rattle.pp_words.specs.Views.{command_of}
-use Rattle.pp_node.proofs.Commands.{rehearse_ended, replay_ended, upgrade_ended}
+use Rattle.pp_node.proofs.Commands.{audit_ended, record_ended, rehearse_ended, replay_ended, upgrade_ended}
 use Rattle.pp_node.proofs.top.obey.Goals as goal
 
 pub import-requires : goal.import-requires
@@ -28,3 +28,20 @@ returns-in-Rehearse-clause-ended g c =
 
 pub returns-in-Play-clause-ended : goal.returns-in-Play-clause-ended
 returns-in-Play-clause-ended g c = rw c.in-Play.is (c.play.ensures (g.S.Source.state c.args.source.now))
+
+pub returns-in-Record-clause-ended : goal.returns-in-Record-clause-ended
+returns-in-Record-clause-ended g c =
+    rw c.in-Record.is (record_ended c.record.result c.in-Record.peer c.in-Record.life (g.L.Link.seen c.args.link.now) (g.D.Disk.state c.args.disk.now)
+    (g.S.Source.state c.args.source.now) (g.S.Source.state c.record.new.source) (g.K.Sink.state c.args.sink.now) (g.K.Sink.state c.record.new.sink) c.args.book.now
+    c.record.ensures.ends c.record.ensures.takes)
+
+pub returns-in-Audit-clause-ended : goal.returns-in-Audit-clause-ended
+returns-in-Audit-clause-ended g c =
+    rw c.in-Audit.is (audit_ended c.audit.result (g.L.Link.seen c.args.link.now) (g.D.Disk.state c.args.disk.now) (g.S.Source.state c.args.source.now)
+    (g.S.Source.state c.audit.new.source) (g.K.Sink.state c.args.sink.now) (g.K.Sink.state c.audit.new.sink) c.args.book.now c.audit.ensures.ends c.audit.ensures.takes)
+
+pub check_target-requires-clause-valid : goal.check_target-requires-clause-valid
+check_target-requires-clause-valid g c = (subst (Spells c.requires.spelled.0) (ap command_of c.in-Check.is) c.requires.spelled.1).target_is.valid
+
+pub returns-in-Check-clause-ended : goal.returns-in-Check-clause-ended
+returns-in-Check-clause-ended g c = rw c.in-Check.is (c.check_target.ensures (g.L.Link.seen c.args.link.now) (g.S.Source.state c.args.source.now))

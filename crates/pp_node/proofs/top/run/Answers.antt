@@ -1,8 +1,9 @@
 use Rattle.std.proofs.Common.{rules, refl}
-use Rattle.pp_words.specs.Commands.{Check, Export, Fetch, Seed, Upgrade, Replay, Rehearse, Play}
+use Rattle.pp_targets.specs.Target.{Sized, Auto}
+use Rattle.pp_words.specs.Commands.{Audit, Check, Export, Fetch, Seed, Upgrade, Record, Replay, Rehearse, Play}
 use Rattle.pp_words.specs.Views.{texts, command_of, usage_of}
 use Rattle.pp_node.specs.Outside.{outside}
-use Rattle.pp_node.proofs.Commands.{none_spelled, import_ends, seed_ends, fetch_ends, play_ends, check_ends, export_ends, upgrade_ends, replay_ends, rehearse_ends}
+use Rattle.pp_node.proofs.Commands.{none_spelled, import_ends, seed_ends, fetch_ends, play_ends, check_ends, named_check_ends, export_ends, upgrade_ends, replay_ends, rehearse_ends, record_ends, audit_ends}
 use Rattle.pp_node.proofs.Untroubled.{answers_well}
 use Rattle.pp_node.proofs.top.run.Goals as goal
 
@@ -41,6 +42,13 @@ returns-in-Ok-clause-check g c =
     (outside (g.D.Disk.state c.obey.new.disk) (g.L.Link.seen c.obey.new.link) (g.S.Source.state c.obey.new.source) (g.K.Sink.state c.obey.new.sink) c.obey.new.book)
     c.in-Ok.ensures.ok.0 c.number.ensures c.obey.ensures.ended
 
+pub returns-in-Ok-clause-named_check : goal.returns-in-Ok-clause-named_check
+returns-in-Ok-clause-named_check g c =
+    named_check_ends (texts c.args.words.now) (command_of c.in-Ok.command) c.obey.result c.number.result
+    (outside (g.D.Disk.state c.args.disk.now) (g.L.Link.seen c.args.link.now) (g.S.Source.state c.args.source.now) (g.K.Sink.state c.args.sink.now) c.args.book.now)
+    (outside (g.D.Disk.state c.obey.new.disk) (g.L.Link.seen c.obey.new.link) (g.S.Source.state c.obey.new.source) (g.K.Sink.state c.obey.new.sink) c.obey.new.book)
+    c.in-Ok.ensures.ok.0 c.number.ensures c.obey.ensures.ended
+
 pub returns-in-Ok-clause-export : goal.returns-in-Ok-clause-export
 returns-in-Ok-clause-export g c =
     export_ends (texts c.args.words.now) (command_of c.in-Ok.command) c.obey.result c.number.result
@@ -65,6 +73,20 @@ returns-in-Ok-clause-replay g c =
 pub returns-in-Ok-clause-rehearse : goal.returns-in-Ok-clause-rehearse
 returns-in-Ok-clause-rehearse g c =
     rehearse_ends (texts c.args.words.now) (command_of c.in-Ok.command) c.obey.result c.number.result
+    (outside (g.D.Disk.state c.args.disk.now) (g.L.Link.seen c.args.link.now) (g.S.Source.state c.args.source.now) (g.K.Sink.state c.args.sink.now) c.args.book.now)
+    (outside (g.D.Disk.state c.obey.new.disk) (g.L.Link.seen c.obey.new.link) (g.S.Source.state c.obey.new.source) (g.K.Sink.state c.obey.new.sink) c.obey.new.book)
+    c.in-Ok.ensures.ok.0 c.number.ensures c.obey.ensures.ended
+
+pub returns-in-Ok-clause-record : goal.returns-in-Ok-clause-record
+returns-in-Ok-clause-record g c =
+    record_ends (texts c.args.words.now) (command_of c.in-Ok.command) c.obey.result c.number.result
+    (outside (g.D.Disk.state c.args.disk.now) (g.L.Link.seen c.args.link.now) (g.S.Source.state c.args.source.now) (g.K.Sink.state c.args.sink.now) c.args.book.now)
+    (outside (g.D.Disk.state c.obey.new.disk) (g.L.Link.seen c.obey.new.link) (g.S.Source.state c.obey.new.source) (g.K.Sink.state c.obey.new.sink) c.obey.new.book)
+    c.in-Ok.ensures.ok.0 c.number.ensures c.obey.ensures.ended
+
+pub returns-in-Ok-clause-audit : goal.returns-in-Ok-clause-audit
+returns-in-Ok-clause-audit g c =
+    audit_ends (texts c.args.words.now) (command_of c.in-Ok.command) c.obey.result c.number.result
     (outside (g.D.Disk.state c.args.disk.now) (g.L.Link.seen c.args.link.now) (g.S.Source.state c.args.source.now) (g.K.Sink.state c.args.sink.now) c.args.book.now)
     (outside (g.D.Disk.state c.obey.new.disk) (g.L.Link.seen c.obey.new.link) (g.S.Source.state c.obey.new.source) (g.K.Sink.state c.obey.new.sink) c.obey.new.book)
     c.in-Ok.ensures.ok.0 c.number.ensures c.obey.ensures.ended
@@ -97,7 +119,11 @@ returns-in-Err-clause-play g c = λ w window peers spelled.
 
 pub returns-in-Err-clause-check : goal.returns-in-Err-clause-check
 returns-in-Err-clause-check g c = λ store descriptor spelled.
-    absurd (none_spelled (texts c.args.words.now) (usage_of c.in-Err.usage) c.in-Err.ensures.err (Check store descriptor) refl spelled)
+    absurd (none_spelled (texts c.args.words.now) (usage_of c.in-Err.usage) c.in-Err.ensures.err (Check store (Sized descriptor)) refl spelled)
+
+pub returns-in-Err-clause-named_check : goal.returns-in-Err-clause-named_check
+returns-in-Err-clause-named_check g c = λ store name spelled.
+    absurd (none_spelled (texts c.args.words.now) (usage_of c.in-Err.usage) c.in-Err.ensures.err (Check store (Auto name)) refl spelled)
 
 pub returns-in-Err-clause-export : goal.returns-in-Err-clause-export
 returns-in-Err-clause-export g c = λ store descriptor spelled.
@@ -114,6 +140,14 @@ returns-in-Err-clause-replay g c = λ spelled.
 pub returns-in-Err-clause-rehearse : goal.returns-in-Err-clause-rehearse
 returns-in-Err-clause-rehearse g c = λ number spelled.
     absurd (none_spelled (texts c.args.words.now) (usage_of c.in-Err.usage) c.in-Err.ensures.err (Rehearse number) refl spelled)
+
+pub returns-in-Err-clause-record : goal.returns-in-Err-clause-record
+returns-in-Err-clause-record g c = λ peer life spelled.
+    absurd (none_spelled (texts c.args.words.now) (usage_of c.in-Err.usage) c.in-Err.ensures.err (Record peer life) refl spelled)
+
+pub returns-in-Err-clause-audit : goal.returns-in-Err-clause-audit
+returns-in-Err-clause-audit g c = λ spelled.
+    absurd (none_spelled (texts c.args.words.now) (usage_of c.in-Err.usage) c.in-Err.ensures.err Audit refl spelled)
 
 pub returns-in-Err-clause-untroubled : goal.returns-in-Err-clause-untroubled
 returns-in-Err-clause-untroubled g c = λ command spelled untroubled one.
