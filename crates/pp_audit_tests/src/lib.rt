@@ -13,4 +13,6 @@ mod stories;
 #[cfg(test)]
 mod traffic;
 #[cfg(test)]
+mod verdicts;
+#[cfg(test)]
 mod windows;

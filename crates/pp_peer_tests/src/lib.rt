@@ -15,8 +15,6 @@ mod by_rows;
 #[cfg(test)]
 mod dials;
 #[cfg(test)]
-mod parts;
-#[cfg(test)]
 mod side;
 #[cfg(test)]
 mod turns;

@@ -1,12 +1,13 @@
 //! A peer over memory devices, and what it sent. Its swarm is that of a content of 7,000 bytes, in six chunks of 1,024 bytes and
-//! one of 856.
+//! one of 856, or that of the content `abc`.
 
+use crate::by_datagrams::PEER;
 use arrayvec::ArrayVec;
 use pp_avail::Rank;
 use pp_core::Peer;
 use pp_outside::{Address, Event, Mark, MemoryDisk, MemoryLink, MemorySource};
 use pp_store::import;
-use pp_tree::{Descriptor, Digest, Method};
+use pp_tree::{Book, Descriptor, Digest, Method};
 use std::alloc::{AllocError, Global};
 use std::test::*;
 
@@ -14,6 +15,12 @@ use std::test::*;
 pub(crate) const ROOT: [u8; 32] = [
     0xb4, 0x2e, 0xff, 0xe6, 0xef, 0xb1, 0xb6, 0x0e, 0x31, 0x99, 0xb1, 0x81, 0x82, 0xc6, 0x3d, 0x95,
     0x77, 0xf6, 0xcd, 0xfe, 0xaa, 0xa0, 0xac, 0xb3, 0x39, 0x9a, 0xc8, 0xd8, 0x7b, 0x4d, 0x8f, 0x73,
+];
+
+// SHA-256 of `abc`.
+pub(crate) const ABC: [u8; 32] = [
+    0xba, 0x78, 0x16, 0xbf, 0x8f, 0x01, 0xcf, 0xea, 0x41, 0x41, 0x40, 0xde, 0x5d, 0xae, 0x22, 0x23,
+    0xb0, 0x03, 0x61, 0xa3, 0x96, 0x17, 0x7a, 0x9c, 0xb4, 0x10, 0xff, 0x61, 0xf2, 0x00, 0x15, 0xad,
 ];
 
 // Byte j of the content: 5, 12, 19 .., with a step more at each 256th.
@@ -41,14 +48,11 @@ pub(crate) fn joined(alloc: Global, parts: &[&[u8]]) -> Result<Vec<u8>, AllocErr
     Ok(bytes)
 }
 
-// A disk with the store of the content.
-fn full_disk(alloc: Global) -> Result<MemoryDisk, Fail> {
+// A disk with the store of a content in chunks of 1,024 bytes, and its swarm.
+fn stored(alloc: Global, content: &[u8]) -> Result<(Descriptor, MemoryDisk), Fail> {
     let mut disk = MemoryDisk::new(alloc, &[])?;
-    let swarm = import(1024, &mut MemorySource::new(&content()), &mut disk)?;
-    if swarm.root() != Digest::new(ROOT) {
-        return Err("another root".into());
-    }
-    Ok(disk)
+    let swarm = import(1024, &mut MemorySource::new(content), &mut disk)?;
+    Ok((swarm, disk))
 }
 
 // The swarm of the content.
@@ -57,7 +61,6 @@ pub(crate) fn swarm() -> Result<Descriptor, Fail> {
 }
 
 // A peer with its devices, and how many of the datagrams that it sent were looked at.
-#[derive(Drop)]
 pub(crate) struct Side {
     alloc: Global,
     pub(crate) peer: Peer,
@@ -65,6 +68,25 @@ pub(crate) struct Side {
     pub(crate) link: MemoryLink,
     seen: usize,
 }
+
+// It is let go by a function of its own: a test then has to show of one call, and not of all that a peer owns, that it is safe.
+impl Drop for Side {
+    fn drop(self) {
+        let Side {
+            alloc: _,
+            peer,
+            disk,
+            link,
+            seen: _,
+        } = self;
+        drop_book(peer.into_book());
+        drop_devices(disk, link);
+    }
+}
+
+fn drop_book(_book: Book) {}
+
+fn drop_devices(_disk: MemoryDisk, _link: MemoryLink) {}
 
 impl Side {
     // A peer of a swarm over a disk.
@@ -92,12 +114,30 @@ impl Side {
 
     // A peer that has all chunks.
     pub(crate) fn full(alloc: Global) -> Result<Side, Fail> {
-        Side::open(alloc, &swarm()?, None, &[], full_disk(alloc)?)
+        let (_, disk) = stored(alloc, &content())?;
+        Side::open(alloc, &swarm()?, None, &[], disk)
     }
 
-    // A peer that has no chunk.
-    pub(crate) fn empty(alloc: Global) -> Result<Side, Fail> {
-        Side::open(alloc, &swarm()?, None, &[], MemoryDisk::new(alloc, &[])?)
+    // A peer of a swarm that has no chunk.
+    pub(crate) fn empty(
+        alloc: Global,
+        swarm: &Descriptor,
+        asks: Option<Rank>,
+        dials: &[Address],
+    ) -> Result<Side, Fail> {
+        let disk = MemoryDisk::new(alloc, &[])?;
+        Side::open(alloc, swarm, asks, dials, disk)
+    }
+
+    // A fetcher of all seven chunks, which dials another peer.
+    pub(crate) fn fetcher(alloc: Global) -> Result<Side, Fail> {
+        Side::empty(alloc, &swarm()?, Some(Rank::Sequential), &[PEER])
+    }
+
+    // A peer that has the content `abc`, of one chunk.
+    pub(crate) fn of_abc(alloc: Global, asks: Option<Rank>) -> Result<Side, Fail> {
+        let (swarm, disk) = stored(alloc, b"abc")?;
+        Side::open(alloc, &swarm, asks, &[], disk)
     }
 
     // What is due goes.
@@ -111,7 +151,7 @@ impl Side {
     }
 
     // A datagram came at a moment. Whether the disk did what was to be done.
-    fn hear(&mut self, from: Address, at: u64, bytes: &[u8]) -> bool {
+    pub(crate) fn hear(&mut self, from: Address, at: u64, bytes: &[u8]) -> bool {
         if bytes.len() > 65536 {
             return false;
         }

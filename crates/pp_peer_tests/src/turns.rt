@@ -1,139 +1,68 @@
 //! Turns of a peer over memory devices. Its content is `abc`.
-use arrayvec::ArrayVec;
+use crate::side::Side;
 use pp_avail::Rank;
-use pp_core::Peer;
-use pp_outside::{Call, Event, MemoryDisk, MemoryLink, MemorySource};
-use pp_store::import;
+use pp_outside::{Call, Event};
 use pp_turns::{take_turn, take_turns};
-use std::alloc::Global;
 use std::test::*;
 
-#[derive(Drop)]
-struct Side {
-    peer: Peer,
-    disk: MemoryDisk,
-    link: MemoryLink,
-    buffer: Vec<u8>,
+// Takes so many turns.
+fn turns(side: &mut Side, count: u32, fetches: bool) -> bool {
+    let mut buffer = [0; 65536];
+    take_turns(
+        &mut side.peer,
+        count,
+        fetches,
+        &mut buffer,
+        &mut side.disk,
+        &mut side.link,
+    )
+    .is_ok()
 }
 
-impl Side {
-    fn open(alloc: Global, asks: Option<Rank>) -> Result<Side, Fail> {
-        let mut disk = MemoryDisk::new(alloc, &[])?;
-        let swarm = import(1024, &mut MemorySource::new(b"abc"), &mut disk)?;
-        let peer = Peer::open(alloc, &swarm, [0; 32], asks, &ArrayVec::new(), &mut disk)?;
-        Ok(Side {
-            peer,
-            disk,
-            link: MemoryLink::new(alloc)?,
-            buffer: vec![in alloc; 0; 65536]?,
-        })
-    }
-
-    // Takes so many turns.
-    fn turns(&mut self, count: u32, fetches: bool) -> bool {
-        if self.buffer.len() != 65536 {
-            return false;
-        }
-        take_turns(
-            &mut self.peer,
-            count,
-            fetches,
-            &mut self.buffer,
-            &mut self.disk,
-            &mut self.link,
-        )
-        .is_ok()
-    }
-
-    // Takes one.
-    fn turn(&mut self) -> bool {
-        if self.buffer.len() != 65536 {
-            return false;
-        }
-        take_turn(
-            &mut self.peer,
-            &mut self.buffer,
-            &mut self.disk,
-            &mut self.link,
-        )
-        .is_ok()
-    }
+// Takes one.
+fn turn(side: &mut Side) -> bool {
+    let mut buffer = [0; 65536];
+    take_turn(&mut side.peer, &mut buffer, &mut side.disk, &mut side.link).is_ok()
 }
 
-// What was counted.
-#[derive(Clone, Copy, Debug, PartialEq)]
-struct Counted {
-    turns: u64,
-    refused_waits: u64,
+// How many turns were counted, and how many refused waits.
+fn counted(side: &Side) -> [u64; 2] {
+    let counts = side.peer.counts();
+    [counts.turns, counts.receive_faults]
 }
 
-impl Side {
-    fn counted(&self) -> Counted {
-        let counts = self.peer.counts();
-        Counted {
-            turns: counts.turns,
-            refused_waits: counts.receive_faults,
-        }
-    }
-
-    // Nothing is to come twice.
-    fn expects_nothing_twice(&mut self) -> bool {
-        self.link.add(Event::Quiet { at: 100_000 }, &[]).is_ok()
-            && self.link.add(Event::Quiet { at: 200_000 }, &[]).is_ok()
-    }
-
-    // What is counted after two quiet turns, and after one more, whose wait the link refuses.
-    fn waits(&mut self) -> Option<[Counted; 2]> {
-        if !(self.expects_nothing_twice() && self.turn() && self.turns(1, false)) {
-            return None;
-        }
-        let quiet = self.counted();
-        self.link.fail_next(Call::Next);
-        if !self.turns(1, false) {
-            return None;
-        }
-        Some([quiet, self.counted()])
-    }
-
-    // What is counted where it fetches what it has.
-    fn fetches(&mut self) -> Option<Counted> {
-        if !self.turns(5, true) {
-            return None;
-        }
-        Some(self.counted())
-    }
+// Nothing is to come up to a moment.
+fn expects_nothing(side: &mut Side, at: u64) -> bool {
+    side.link.add(Event::Quiet { at }, &[]).is_ok()
 }
 
-fn waiting(alloc: Global) -> Result<Option<[Counted; 2]>, Fail> {
-    let mut side = Side::open(alloc, None)?;
-    Ok(side.waits())
+// Whether two turns in which nothing comes are counted.
+fn takes_two(side: &mut Side) -> bool {
+    expects_nothing(side, 100_000)
+        && expects_nothing(side, 200_000)
+        && turn(side)
+        && turns(side, 1, false)
+        && counted(side) == [2, 0]
 }
 
-fn fetching(alloc: Global) -> Result<Option<Counted>, Fail> {
-    let mut side = Side::open(alloc, Some(Rank::Sequential))?;
-    Ok(side.fetches())
+// Whether one more is counted, whose wait the link refuses.
+fn takes_a_refused_one(side: &mut Side) -> bool {
+    side.link.fail_next(Call::Next);
+    turns(side, 1, false) && counted(side) == [3, 1]
 }
 
 #[test]
 fn each_turn_waits_once(rt: HostRuntime) -> Result<(), Fail> {
-    let quiet = Counted {
-        turns: 2,
-        refused_waits: 0,
-    };
-    let refused = Counted {
-        turns: 3,
-        refused_waits: 1,
-    };
-    assert_eq!(rt; waiting(rt.alloc())?, Some([quiet, refused]));
+    let mut side = Side::of_abc(rt.alloc(), None)?;
+    assert!(rt; takes_two(&mut side));
+    assert!(rt; takes_a_refused_one(&mut side));
     Ok(())
 }
 
 #[test]
 fn a_fetch_that_has_all_takes_no_turn(rt: HostRuntime) -> Result<(), Fail> {
-    let counted = Counted {
-        turns: 0,
-        refused_waits: 0,
-    };
-    assert_eq!(rt; fetching(rt.alloc())?, Some(counted));
+    let mut side = Side::of_abc(rt.alloc(), Some(Rank::Sequential))?;
+    assert!(rt; turns(&mut side, 5, true));
+    assert_eq!(rt; counted(&side), [0, 0]);
     Ok(())
 }

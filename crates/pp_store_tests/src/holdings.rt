@@ -8,52 +8,6 @@ use pp_tree::Descriptor;
 use std::alloc::Global;
 use std::test::Fail;
 
-// The tests need little of what this call does, and a longer context costs the prover minutes.
-fn opened(alloc: Global, descriptor: &Descriptor, disk: &mut MemoryDisk) -> Result<Holding, Fail> {
-    Ok(Holding::open(alloc, descriptor, disk)?)
-}
-
-// Puts bytes as a chunk at moment 10, where the content has that chunk.
-fn put(
-    holding: &mut Holding,
-    ticket: Ticket,
-    bytes: &[u8],
-    claims: &Claims,
-    disk: &mut MemoryDisk,
-) -> bool {
-    let at = 10;
-    ticket.chunk < holding.chunks()
-        && holding
-            .put(&Parcel { ticket, bytes, at }, claims, disk)
-            .is_ok()
-}
-
-// Puts a chunk of a swarm, from the seat of its number's last digit.
-fn put_chunk(
-    alloc: Global,
-    swarm: &Swarm,
-    i: u32,
-    holding: &mut Holding,
-    disk: &mut MemoryDisk,
-) -> Result<bool, Fail> {
-    if i >= swarm.descriptor.chunks() {
-        return Ok(false);
-    }
-    let ticket = Ticket {
-        chunk: i,
-        seat: (i % 10) as u8,
-        delay: u64::from(i) + 1000,
-    };
-    let len = (swarm.descriptor.chunk_len(i) as usize).min(256);
-    let bytes = bytes_of(swarm.descriptor.chunk(), i);
-    let claims = claims_of(alloc, swarm, i)?;
-    Ok(put(holding, ticket, &bytes[..len], &claims, disk))
-}
-
-fn settle(holding: &mut Holding, is_quiet: bool, now: u64, disk: &mut MemoryDisk) -> bool {
-    holding.settle(is_quiet, now, disk).is_ok()
-}
-
 #[derive(Clone, Copy)]
 enum Step {
     // these chunks
@@ -67,45 +21,108 @@ enum Step {
 // How many chunks are committed and pending, and how many tickets and repeats there are.
 type Stand = (u32, u32, usize, usize);
 
-// Takes a step, and answers how it stands then.
-fn take(
+// A content, and what is held of it over a disk that was empty.
+#[derive(Drop)]
+struct Kept {
     alloc: Global,
-    swarm: &Swarm,
-    step: Step,
-    holding: &mut Holding,
-    disk: &mut MemoryDisk,
-) -> Result<Stand, Fail> {
-    match step {
-        Step::Put(first, last) => {
-            for i in first..last.min(1000) {
-                put_chunk(alloc, swarm, i, holding, disk)?;
-            }
-        }
-        Step::Settle(is_quiet, now) => {
-            settle(holding, is_quiet, now, disk);
-        }
-        Step::Forget => holding.forget_tickets(),
-        Step::Refuse => disk.fail_next(Call::Sync),
-    }
-    Ok((
-        holding.committed().count(),
-        holding.pending(),
-        holding.tickets().len(),
-        holding.repeats().len(),
-    ))
+    swarm: Swarm,
+    disk: MemoryDisk,
+    holding: Holding,
 }
 
-// Takes steps from a new store on. Whether each came to what is wanted, and the tickets are then those of the first chunks.
-fn keeps_to(alloc: Global, size: usize, steps: &[(Step, Stand)]) -> Result<bool, Fail> {
-    let swarm = small_chunks(alloc, size)?;
-    let mut disk = MemoryDisk::new(alloc, &[])?;
-    let mut holding = opened(alloc, &swarm.descriptor, &mut disk)?;
-    for (step, want) in steps {
-        if take(alloc, &swarm, *step, &mut holding, &mut disk)? != *want {
-            return Ok(false);
+// The tests need little of what this call does, and a longer context costs the prover minutes.
+fn opened(alloc: Global, descriptor: &Descriptor, disk: &mut MemoryDisk) -> Result<Holding, Fail> {
+    Ok(Holding::open(alloc, descriptor, disk)?)
+}
+
+impl Kept {
+    // Of so many bytes in chunks of 256.
+    fn new(alloc: Global, size: usize) -> Result<Kept, Fail> {
+        let swarm = small_chunks(alloc, size)?;
+        let mut disk = MemoryDisk::new(alloc, &[])?;
+        let holding = opened(alloc, &swarm.descriptor, &mut disk)?;
+        Ok(Kept {
+            alloc,
+            swarm,
+            disk,
+            holding,
+        })
+    }
+
+    // Puts bytes as a chunk at moment 10, where the content has that chunk.
+    fn put(&mut self, ticket: Ticket, bytes: &[u8], claims: &Claims) -> bool {
+        let parcel = Parcel {
+            ticket,
+            bytes,
+            at: 10,
+        };
+        ticket.chunk < self.holding.chunks()
+            && self.holding.put(&parcel, claims, &mut self.disk).is_ok()
+    }
+
+    // Puts a chunk of the content with these claims, from the seat of its number's last digit.
+    fn put_proven(&mut self, i: u32, claims: &Claims) -> bool {
+        if i >= self.swarm.descriptor.chunks() {
+            return false;
+        }
+        let ticket = Ticket {
+            chunk: i,
+            seat: (i % 10) as u8,
+            delay: u64::from(i) + 1000,
+        };
+        let len = (self.swarm.descriptor.chunk_len(i) as usize).min(256);
+        let bytes = bytes_of(self.swarm.descriptor.chunk(), i);
+        self.put(ticket, &bytes[..len], claims)
+    }
+
+    // Puts a chunk with what proves it.
+    fn put_chunk(&mut self, i: u32) -> bool {
+        match claims_of(self.alloc, &self.swarm, i) {
+            Ok(claims) => self.put_proven(i, &claims),
+            Err(_) => false,
         }
     }
-    Ok(are_in_order(holding.tickets()))
+
+    fn make(&mut self, step: Step) {
+        match step {
+            Step::Put(first, last) => {
+                for i in first..last {
+                    self.put_chunk(i);
+                }
+            }
+            Step::Settle(is_quiet, now) => {
+                let _ = self.holding.settle(is_quiet, now, &mut self.disk);
+            }
+            Step::Forget => self.holding.forget_tickets(),
+            Step::Refuse => self.disk.fail_next(Call::Sync),
+        }
+    }
+
+    fn stand(&self) -> Stand {
+        (
+            self.holding.committed().count(),
+            self.holding.pending(),
+            self.holding.tickets().len(),
+            self.holding.repeats().len(),
+        )
+    }
+
+    // Whether each step comes to what is wanted, and the tickets are then those of the first chunks.
+    fn keeps_to(&mut self, steps: &[(Step, Stand)]) -> bool {
+        for (step, want) in steps {
+            self.make(*step);
+            if self.stand() != *want {
+                return false;
+            }
+        }
+        are_in_order(self.holding.tickets())
+    }
+}
+
+// Takes steps from a new store on.
+fn keeps_to(alloc: Global, size: usize, steps: &[(Step, Stand)]) -> Result<bool, Fail> {
+    let mut kept = Kept::new(alloc, size)?;
+    Ok(kept.keeps_to(steps))
 }
 
 // Whether tickets are those of the first chunks by rising number, each with its seat and delay.

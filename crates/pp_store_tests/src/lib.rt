@@ -5,6 +5,8 @@
 #[cfg(test)]
 mod examples;
 #[cfg(test)]
+mod fresh;
+#[cfg(test)]
 mod holdings;
 #[cfg(test)]
 mod imports;

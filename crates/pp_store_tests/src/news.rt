@@ -40,28 +40,25 @@ fn are_in(committed: &ChunkSet, tickets: &[Ticket]) -> bool
     true
 }
 
-fn has_ranges(ranges: &[ChunkRange], want: &[(u32, u32)]) -> bool {
-    ranges.len() == want.len()
-        && ranges
-            .iter()
-            .zip(want)
-            .all(|(range, want)| (range.first(), range.last()) == *want)
+fn range(first: u32, last: u32) -> ChunkRange {
+    match ChunkRange::new(first, last) {
+        Some(range) => range,
+        None => ChunkRange::default(),
+    }
 }
 
-fn has_acknowledgements(acknowledgements: &[Acknowledgement], want: &[(u32, u32, u64)]) -> bool {
-    acknowledgements.len() == want.len()
-        && acknowledgements.iter().zip(want).all(|(one, want)| {
-            (one.range.first(), one.range.last(), one.delay) == *want
-        })
+fn acknowledged(first: u32, last: u32, delay: u64) -> Acknowledgement {
+    let range = range(first, last);
+    Acknowledgement { range, delay }
 }
 
 // Whether tickets are gathered in these ranges.
-fn is_gathered(news: &mut News, tickets: &[Ticket], want: &[(u32, u32)]) -> bool {
+fn is_gathered(news: &mut News, tickets: &[Ticket], want: &[ChunkRange]) -> bool {
     if tickets.len() > MOST_TICKETS {
         return false;
     }
     news.gather(tickets);
-    has_ranges(news.ranges(), want)
+    news.ranges() == want
 }
 
 // Whether a seat's tickets and repeats are acknowledged like that.
@@ -71,7 +68,7 @@ fn is_acknowledged(
     tickets: &[Ticket],
     repeats: &[Ticket],
     committed: &ChunkSet,
-    want: &[(u32, u32, u64)],
+    want: &[Acknowledgement],
 ) -> bool
     requires { length committed.now ≡ 20 }
 {
@@ -82,12 +79,11 @@ fn is_acknowledged(
         return false;
     }
     news.acknowledge(seat, tickets, repeats, committed);
-    has_acknowledgements(news.acknowledgements(), want)
+    news.acknowledgements() == want
 }
 
-#[test]
-fn gathers_runs(rt: HostRuntime) -> Result<(), Fail> {
-    let mut news = News::new(rt.alloc())?;
+// Whether runs of chunks are gathered, whatever their order and their seats.
+fn are_gathered(news: &mut News) -> bool {
     let some = [
         ticket(5, 1, 0),
         ticket(3, 2, 0),
@@ -95,35 +91,68 @@ fn gathers_runs(rt: HostRuntime) -> Result<(), Fail> {
         ticket(9, 1, 0),
         ticket(3, 1, 0),
     ];
-    assert!(rt; is_gathered(&mut news, &some, &[(3, 5), (9, 9)]));
+    is_gathered(news, &some, &[range(3, 5), range(9, 9)])
+}
+
+// Whether the first and the last chunk are.
+fn are_ends_gathered(news: &mut News) -> bool {
     let ends = [ticket(u32::MAX, 0, 0), ticket(0, 63, 0)];
-    assert!(rt; is_gathered(&mut news, &ends, &[(0, 0), (u32::MAX, u32::MAX)]));
+    let want = [range(0, 0), range(u32::MAX, u32::MAX)];
+    is_gathered(news, &ends, &want)
+}
+
+#[test]
+fn gathers_runs(rt: HostRuntime) -> Result<(), Fail> {
+    let mut news = News::new(rt.alloc())?;
+    assert!(rt; are_gathered(&mut news));
+    assert!(rt; are_ends_gathered(&mut news));
     assert!(rt; is_gathered(&mut news, &[], &[]));
     Ok(())
 }
 
-#[test]
-fn acknowledges_each_seat(rt: HostRuntime) -> Result<(), Fail> {
-    let mut news = News::new(rt.alloc())?;
-    let set = committed(rt.alloc())?;
-    let some = [
+fn some() -> [Ticket; 6] {
+    [
         ticket(4, 1, 100),
         ticket(2, 1, 200),
         ticket(9, 2, 300),
         ticket(8, 1, 400),
         ticket(12, 1, 500),
         ticket(3, 1, 50),
-    ];
-    let again = [
+    ]
+}
+
+fn again() -> [Ticket; 4] {
+    [
         ticket(1, 1, 70),
         ticket(9, 2, 80),
         ticket(0, 1, 90),
         ticket(1, 1, 60),
+    ]
+}
+
+// Whether seat 1 has its ranges, and its repeats behind them; seat 2 its own; and seat 3 none.
+fn are_acknowledged(news: &mut News, set: &ChunkSet) -> [bool; 3]
+    requires { length set.now ≡ 20 }
+{
+    let one = [
+        acknowledged(2, 4, 50),
+        acknowledged(8, 12, 500),
+        acknowledged(1, 1, 70),
+        acknowledged(0, 0, 90),
+        acknowledged(1, 1, 60),
     ];
-    let one = [(2, 4, 50), (8, 12, 500), (1, 1, 70), (0, 0, 90), (1, 1, 60)];
-    assert!(rt; is_acknowledged(&mut news, 1, &some, &again, &set, &one));
-    let two = [(9, 9, 300), (9, 9, 80)];
-    assert!(rt; is_acknowledged(&mut news, 2, &some, &again, &set, &two));
-    assert!(rt; is_acknowledged(&mut news, 3, &some, &again, &set, &[]));
+    let two = [acknowledged(9, 9, 300), acknowledged(9, 9, 80)];
+    [
+        is_acknowledged(news, 1, &some(), &again(), set, &one),
+        is_acknowledged(news, 2, &some(), &again(), set, &two),
+        is_acknowledged(news, 3, &some(), &again(), set, &[]),
+    ]
+}
+
+#[test]
+fn acknowledges_each_seat(rt: HostRuntime) -> Result<(), Fail> {
+    let mut news = News::new(rt.alloc())?;
+    let set = committed(rt.alloc())?;
+    assert_eq!(rt; are_acknowledged(&mut news, &set), [true; 3]);
     Ok(())
 }

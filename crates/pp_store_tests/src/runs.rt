@@ -3,48 +3,14 @@ ghost use Rattle.std.specs.Prelude.{◌≡◌, ℕ, ◌<◌, true, is_some, IsTr
 ghost use Rattle.pp_terms.specs.format.Descriptor.{chunks_of};
 ghost use Rattle.pp_tree.specs.Book.{entry};
 
-use crate::stopping::StoppingDisk;
-use pp_outside::{Disk, MemoryDisk, MemorySource};
-use pp_store::{ReadFault, Run, Store, import, read_run};
+use crate::fresh::Fresh;
+use crate::imports::imported;
+use crate::swarm::content_of_seven;
+use pp_outside::{Disk, MemoryDisk};
+use pp_store::{ReadFault, Run, read_run};
 use pp_tree::{Book, Descriptor, Node, leaf};
 use std::alloc::Global;
 use std::test::Fail;
-
-// 3, 16, 29 .., with a step more at each 256th
-fn content() -> [u8; 7000] {
-    let mut bytes = [0u8; 7000];
-    for (j, byte) in bytes.iter_mut().enumerate() {
-        *byte = ((3 + 13 * j + j / 256) % 256) as u8;
-    }
-    bytes
-}
-
-// A store with its book.
-#[derive(Drop)]
-struct Stored {
-    descriptor: Descriptor,
-    disk: MemoryDisk,
-    book: Book,
-}
-
-// The content's store. Since it was opened, the bytes at `at` of the file were changed to this one.
-fn changed(alloc: Global, at: u64, byte: u8) -> Result<Stored, Fail>
-    requires { at < 8192 }
-{
-    let mut disk = MemoryDisk::new(alloc, &[])?;
-    let descriptor = import(1024, &mut MemorySource::new(&content()), &mut disk)?;
-    let mut book = Book::empty(alloc);
-    book.prepare(alloc, &descriptor)?;
-    let _ = Store::open(alloc, &descriptor, &mut disk, &mut book)?;
-    if disk.write_at(at, &[byte]).is_err() {
-        return Err("refused".into());
-    }
-    Ok(Stored {
-        descriptor,
-        disk,
-        book,
-    })
-}
 
 // Whether the book has all leaves.
 fn has_leaves(descriptor: &Descriptor, book: &Book) -> bool
@@ -58,26 +24,24 @@ fn has_leaves(descriptor: &Descriptor, book: &Book) -> bool
     true
 }
 
-// The run, where it may be asked for.
-fn run_from(first: u32, out: &mut [u8], left: u32, stored: Stored) -> Option<Run> {
-    let Stored {
-        descriptor,
-        disk,
-        book,
-    } = stored;
-    let mut disk = StoppingDisk { inner: disk, left };
+// The run from a chunk on, where it may be asked for.
+fn run_from(first: u32, out: &mut [u8], fresh: &mut Fresh) -> Option<Run> {
+    let descriptor = fresh.descriptor;
     if first >= descriptor.chunks()
         || out.len() < descriptor.chunk() as usize
-        || !has_leaves(&descriptor, &book)
+        || !has_leaves(&descriptor, &fresh.book)
     {
         return None;
     }
-    Some(read_run(&descriptor, first, out, &book, &mut disk))
+    let run = read_run(&descriptor, first, out, &fresh.book, &mut fresh.disk);
+    Some(run)
 }
 
 // The number of the chunk that is changed, the first one of the run, the room for it and the disk's calls; how many chunks the run
 // has, and whether its end is a refused call or a damaged chunk.
-const RUNS: [(usize, usize, usize, u32, usize, Option<bool>); 14] = [
+type Case = (u32, u32, usize, u32, u32, Option<bool>);
+
+const RUNS: [Case; 14] = [
     // At the third one of the first four: one call reads all seven, and none is left for another.
     (2, 0, 8192, 9, 2, Some(false)),
     (2, 0, 8192, 1, 2, Some(false)),
@@ -98,45 +62,71 @@ const RUNS: [(usize, usize, usize, u32, usize, Option<bool>); 14] = [
     (2, 5, 2047, 9, 1, None),
 ];
 
+// So many chunks of the content.
+fn chunks_of_content<'c>(content: &'c [u8], first: u32, count: u32) -> &'c [u8] {
+    let begin = (first as usize).saturating_mul(1024);
+    let end = begin.saturating_add((count as usize).saturating_mul(1024));
+    content.get(begin..end.min(content.len())).unwrap_or(&[])
+}
+
+// The content with byte 500 of one chunk changed.
+fn damaged_content(damaged: u32) -> [u8; 7000] {
+    let mut content = content_of_seven();
+    if let Some(byte) = content.get_mut(
+        (damaged as usize).saturating_mul(1024).saturating_add(500),
+    ) {
+        *byte ^= 1;
+    }
+    content
+}
+
 // What ends a run.
-fn end_of(refused: Option<bool>, found: &[u8], kept: &[u8]) -> Option<ReadFault> {
+fn end_of(damaged: u32, refused: Option<bool>) -> Option<ReadFault> {
     match refused {
         Some(true) => Some(ReadFault::Disk),
         Some(false) => Some(ReadFault::Damaged {
-            found: leaf(found),
-            kept: leaf(kept),
+            found: leaf(chunks_of_content(&damaged_content(damaged), damaged, 1)),
+            kept: leaf(chunks_of_content(&content_of_seven(), damaged, 1)),
         }),
         None => None,
     }
 }
 
+// Writes byte 500 of one chunk with its lowest bit changed.
+fn damage(damaged: u32, disk: &mut MemoryDisk) -> bool {
+    let at = 64 + 1089 * u64::from(damaged) + 500;
+    let content = damaged_content(damaged);
+    match chunks_of_content(&content, damaged, 1).get(500) {
+        Some(byte) if at < 8192 => disk.write_at(at, &[*byte]).is_ok(),
+        _ => false,
+    }
+}
+
+// Whether the run behind what was damaged is what is wanted, and the bytes of so many chunks are the content's.
+fn reads_as(case: Case, fresh: &mut Fresh) -> bool {
+    let (damaged, first, room, _, count, refused) = case;
+    let mut out = [0u8; 8192];
+    let is_damaged = damage(damaged, &mut fresh.disk.inner);
+    let run = run_from(first, &mut out[..room.min(8192)], fresh);
+    let fault = end_of(damaged, refused);
+    is_damaged && run == Some(Run { count, fault }) && is_content(&out, first, count)
+}
+
+fn is_content(out: &[u8], first: u32, count: u32) -> bool {
+    let content = content_of_seven();
+    out.starts_with(chunks_of_content(&content, first, count))
+}
+
+fn is_wanted(alloc: Global, case: Case) -> Result<bool, Fail> {
+    let mut fresh = imported(alloc, case.3)?;
+    Ok(reads_as(case, &mut fresh))
+}
+
 // Byte 500 of one chunk is changed, and the disk takes so many calls.
 #[test]
 fn a_run_ends_before_a_damaged_chunk(rt: HostRuntime) -> Result<(), Fail> {
-    let content = content();
-    for (damaged, first, room, left, count, refused) in RUNS {
-        if damaged > 6 || first > 6 || room > 8192 || count > 7 {
-            return Err("no such chunks".into());
-        }
-        let begin = 1024 * damaged;
-        let end = 7000.min(begin + 1024);
-        let mut other = content;
-        other[begin + 500] ^= 1;
-        let at = 64 + 1089 * damaged as u64 + 500;
-        let stored = changed(rt.alloc(), at, other[begin + 500])?;
-        let mut out = [0u8; 8192];
-        let run = run_from(first as u32, &mut out[..room], left, stored);
-        let want = Run {
-            count: count as u32,
-            fault: end_of(refused, &other[begin..end], &content[begin..end]),
-        };
-        assert_eq!(rt; run, Some(want), "{damaged} from {first}");
-        let from = 1024 * first;
-        let to = 7000.min(from + 1024 * count);
-        assert!(rt;
-            out.starts_with(&content[from..to]),
-            "{damaged} from {first}"
-        );
+    for (k, case) in RUNS.iter().enumerate() {
+        assert!(rt; is_wanted(rt.alloc(), *case)?, "case {k}");
     }
     Ok(())
 }

@@ -1,87 +1,96 @@
 //! Scans of files for the store of `abc`.
 
-use crate::examples::{ABC_FRONT, store_of_abc};
+use crate::examples::{FIELDS, GAP, REST, STORE, abc, joined};
+use crate::swarm::prepared;
 use pp_outside::MemoryDisk;
 use pp_scan::{ScanFault, scan, verify};
-use pp_tree::{Book, Descriptor, Method, leaf};
+use pp_tree::ChunkSet;
 use std::alloc::Global;
 use std::test::Fail;
 
-// How many chunks a scan finds in a file of the descriptor's one.
-fn held(alloc: Global, image: &[u8]) -> Result<Result<u32, ScanFault>, Fail> {
-    let Ok(descriptor) = Descriptor::new(leaf(b"abc"), 1024, 3, Method::Range32) else {
-        return Err("no descriptor".into());
-    };
-    let mut disk = MemoryDisk::new(alloc, image)?;
-    let mut book = Book::empty(alloc);
-    book.prepare(alloc, &descriptor)?;
-    Ok(match scan(alloc, &descriptor, &mut disk, &mut book) {
-        Ok(set) => Ok(set.count()),
-        Err(fault) => Err(fault),
-    })
+// How chunks are found: by their gates, or by their hashes.
+#[derive(Clone, Copy)]
+enum Way {
+    Scan,
+    Verify,
 }
 
-// How many chunks hashing finds in a file of the descriptor's one.
-fn verified(alloc: Global, image: &[u8]) -> Result<Result<u32, ScanFault>, Fail> {
-    let Ok(descriptor) = Descriptor::new(leaf(b"abc"), 1024, 3, Method::Range32) else {
-        return Err("no descriptor".into());
-    };
-    let mut disk = MemoryDisk::new(alloc, image)?;
-    let mut book = Book::empty(alloc);
-    book.prepare(alloc, &descriptor)?;
-    Ok(match verify(alloc, &descriptor, &mut disk, &mut book) {
+// How many chunks were found.
+fn counted(found: Result<ChunkSet, ScanFault>) -> Result<u32, ScanFault> {
+    match found {
         Ok(set) => Ok(set.count()),
         Err(fault) => Err(fault),
-    })
-}
-
-// The store of `abc` with another byte at a place.
-fn with_byte(at: usize, byte: u8) -> [u8; 1153] {
-    let mut image = store_of_abc();
-    if at < 1153 {
-        image[at] = byte;
     }
-    image
 }
 
-fn other_byte(found: u8) -> Result<u32, ScanFault> {
-    Err(ScanFault::NotAStore {
-        at: 7,
-        found,
-        want: 50,
-    })
+// How many chunks are found on a disk.
+fn found(alloc: Global, way: Way, disk: &mut MemoryDisk) -> Result<Result<u32, ScanFault>, Fail> {
+    let descriptor = abc()?;
+    let mut book = prepared(alloc, &descriptor)?;
+    Ok(counted(match way {
+        Way::Scan => scan(alloc, &descriptor, disk, &mut book),
+        Way::Verify => verify(alloc, &descriptor, disk, &mut book),
+    }))
 }
 
-// A scan goes by the header and the gate, and reads no chunk.
+// How many chunks are found in a file of these parts.
+fn held(alloc: Global, way: Way, parts: &[&[u8]]) -> Result<Result<u32, ScanFault>, Fail> {
+    let file = joined(alloc, parts)?;
+    let mut disk = MemoryDisk::new(alloc, &file)?;
+    found(alloc, way, &mut disk)
+}
+
+const NAME: &[u8] = b"PPSTORE2";
+
+// The parts of a file, and how many chunks are found there. A scan goes by the header and the gate, and reads no chunk.
+const SCANNED: [(&[&[u8]], Result<u32, ScanFault>); 7] = [
+    (&STORE, Ok(1)),
+    (&[], Ok(0)),
+    // another byte in the chunk
+    (&[NAME, &FIELDS, &GAP, b"bbc", &REST, &[0x4f]], Ok(1)),
+    // The gate lies past the end.
+    (&[NAME, &FIELDS, &GAP, b"abc", &REST], Ok(0)),
+    // A gate with any other value is closed.
+    (&[NAME, &FIELDS, &GAP, b"abc", &REST, &[0x4e]], Ok(0)),
+    // the first byte that differs from the header
+    (
+        &[b"PPSTORE3", &FIELDS, &GAP, b"abc", &REST, &[0x4f]],
+        Err(ScanFault::NotAStore {
+            at: 7,
+            found: 51,
+            want: 50,
+        }),
+    ),
+    (
+        &[b"PPSTORE"],
+        Err(ScanFault::NotAStore {
+            at: 7,
+            found: 0,
+            want: 50,
+        }),
+    ),
+];
+
 #[test]
 fn a_scan_finds_chunks_by_their_gates(rt: HostRuntime) -> Result<(), Fail> {
-    let store = store_of_abc();
-    let cases: [(&[u8], Result<u32, ScanFault>); 7] = [
-        (&store, Ok(1)),
-        (&[], Ok(0)),
-        // another byte in the chunk
-        (&with_byte(64, b'b'), Ok(1)),
-        // The gate lies past the end.
-        (&store[..1152], Ok(0)),
-        // A gate with any other value is closed.
-        (&with_byte(1152, 0x4e), Ok(0)),
-        // the first byte that differs from the header
-        (&with_byte(7, b'3'), other_byte(51)),
-        (&ABC_FRONT[..7], other_byte(0)),
-    ];
-    for (k, (image, want)) in cases.iter().enumerate() {
-        assert_eq!(rt; held(rt.alloc(), image)?, *want, "case {k}");
+    for (k, (parts, want)) in SCANNED.iter().enumerate() {
+        assert_eq!(rt; held(rt.alloc(), Way::Scan, parts)?, *want, "case {k}");
     }
     Ok(())
 }
 
+const BLANK: [u8; 64] = [0; 64];
+
 // A file is verified by its chunk, whatever its header and its gates are.
 #[test]
 fn hashing_finds_chunks_by_their_bytes(rt: HostRuntime) -> Result<(), Fail> {
-    let mut image = [0u8; 67];
-    image[64..].copy_from_slice(b"abc");
-    assert_eq!(rt; verified(rt.alloc(), &image)?, Ok(1));
-    assert_eq!(rt; verified(rt.alloc(), &image[..66])?, Ok(0));
-    assert_eq!(rt; verified(rt.alloc(), &with_byte(64, b'b'))?, Ok(0));
+    let cases: [(&[&[u8]], u32); 3] = [
+        (&[&BLANK, b"abc"], 1),
+        (&[&BLANK, b"ab"], 0),
+        (&[NAME, &FIELDS, &GAP, b"bbc", &REST, &[0x4f]], 0),
+    ];
+    for (parts, want) in cases {
+        assert_eq!(rt; held(rt.alloc(), Way::Verify, parts)?, Ok(want));
+    }
     Ok(())
 }

@@ -1,5 +1,6 @@
 //! A disk for tests that refuses its calls from one on.
 use pp_outside::{Call, Disk, DiskFault, MemoryDisk};
+use std::alloc::{AllocError, Global};
 
 // A disk that takes `left` calls more and refuses each after them. A write that it refuses is pending all the same.
 #[derive(Drop)]
@@ -11,6 +12,12 @@ pub(crate) struct StoppingDisk {
 impl StoppingDisk {
     ghost use Rattle.std.specs.Prelude.{◌≡◌};
     ghost use Rattle.pp_outside.specs.MemoryDisk.{state_of};
+
+    // An empty disk.
+    pub(crate) fn new(alloc: Global, left: u32) -> Result<StoppingDisk, AllocError> {
+        let inner = MemoryDisk::new(alloc, &[])?;
+        Ok(StoppingDisk { inner, left })
+    }
 
     // Counts a call, and orders the inner disk to refuse it if none is left.
     fn count(&mut self, call: Call)

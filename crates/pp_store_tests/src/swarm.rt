@@ -6,9 +6,9 @@ ghost use Rattle.pp_tree.specs.Book.{entry, HasRootAlone};
 
 use pp_outside::{Disk, MemoryDisk, MemorySource};
 use pp_paths::Claims;
-use pp_store::{Store, import};
+use pp_store::{ImportFault, Store, import};
 use pp_tree::{Book, Descriptor, Node, peaks};
-use std::alloc::Global;
+use std::alloc::{AllocError, Global};
 use std::test::Fail;
 
 // A content and the book of a store of all of it.
@@ -36,7 +36,14 @@ pub(crate) fn fill(content: &mut [u8]) {
     }
 }
 
-pub(crate) fn content() -> [u8; 17_920] {
+// Seven chunks of 1,024 bytes at most.
+pub(crate) fn content_of_seven() -> [u8; 7000] {
+    let mut content = [0; 7000];
+    fill(&mut content);
+    content
+}
+
+fn content() -> [u8; 17_920] {
     let mut content = [0u8; 17_920];
     fill(&mut content);
     content
@@ -66,16 +73,27 @@ pub(crate) fn opened<D: Disk>(
     Ok(Store::open(alloc, descriptor, disk, book)?)
 }
 
-fn make_swarm(alloc: Global, chunk: u32, size: usize) -> Result<Swarm, Fail>
+fn import_content(chunk: u32, size: usize, disk: &mut MemoryDisk) -> Result<Descriptor, ImportFault>
     requires { IsChunkSize chunk }
 {
     let content = content();
     let size = size.min(content.len());
-    let mut disk = MemoryDisk::new(alloc, &[])?;
-    let descriptor = import(chunk, &mut MemorySource::new(&content[..size]), &mut disk)?;
+    import(chunk, &mut MemorySource::new(&content[..size]), disk)
+}
+
+// The swarm of the store on a disk.
+fn known(alloc: Global, descriptor: Descriptor, disk: &mut MemoryDisk) -> Result<Swarm, Fail> {
     let mut known = prepared(alloc, &descriptor)?;
-    opened(alloc, &descriptor, &mut disk, &mut known)?;
+    opened(alloc, &descriptor, disk, &mut known)?;
     Ok(Swarm { descriptor, known })
+}
+
+fn make_swarm(alloc: Global, chunk: u32, size: usize) -> Result<Swarm, Fail>
+    requires { IsChunkSize chunk }
+{
+    let mut disk = MemoryDisk::new(alloc, &[])?;
+    let descriptor = import_content(chunk, size, &mut disk)?;
+    known(alloc, descriptor, &mut disk)
 }
 
 // 7,000 bytes in chunks of 1,024
@@ -89,7 +107,7 @@ pub(crate) fn small_chunks(alloc: Global, size: usize) -> Result<Swarm, Fail> {
 }
 
 // What proves a chunk: the peaks, and the siblings on its way.
-pub(crate) fn claims_of(alloc: Global, swarm: &Swarm, i: u32) -> Result<Claims, Fail> {
+pub(crate) fn claims_of(alloc: Global, swarm: &Swarm, i: u32) -> Result<Claims, AllocError> {
     let mut claims = Claims::new(alloc)?;
     claim(&mut claims, swarm, &peaks(swarm.descriptor.chunks()));
     for layer in 0..swarm.descriptor.height() {

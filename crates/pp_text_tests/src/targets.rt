@@ -4,8 +4,8 @@ use hex::FromHex;
 use pp_paths::Claims;
 use pp_targets::{Learned, SwarmName, Target, learn};
 use pp_tree::{Descriptor, DescriptorFault, Digest, Method, Node, leaf, parent};
-use std::alloc::Global;
-use std::test::Fail;
+use std::alloc::{AllocError, Global};
+use std::test::*;
 
 const ABC: &str = "ba7816bf8f01cfea414140de5dae2223b00361a396177a9cb410ff61f20015ad";
 
@@ -34,56 +34,85 @@ const CHANGED: &str = "dfd98a901484b4888fee1b55158da00bf8be8cd83cdc803e507620fce
 // The root of seven chunks with the first leaf in the place of the last peak.
 const OTHER_ROOT: &str = "88613eeac5fb7f60eb775dfdd434b70ca01c6f202cf08098617c006d5ace2cff";
 
-fn digest(text: &str) -> Result<Digest, Fail> {
-    Ok(Digest::new(<[u8; 32]>::from_hex(text)?))
+// Zeros, where it is no digest's text.
+fn digest(text: &str) -> Digest {
+    match <[u8; 32]>::from_hex(text) {
+        Ok(bytes) => Digest::new(bytes),
+        Err(_) => Digest::new([0; 32]),
+    }
 }
 
 fn node(layer: u8, offset: u32) -> Node {
     Node { layer, offset }
 }
 
-// What bytes tell as the last chunk of a swarm with that root, in chunks of 1,024. None where they can't be a chunk.
-fn told(
-    alloc: Global,
-    claims: &Claims,
-    root: &str,
-    i: u32,
-    bytes: &[u8],
-) -> Result<Option<Learned>, Fail> {
-    let text = format!(in alloc; "ppspp1:{root}:1024:auto:2")?;
-    Ok(match Target::read(text.as_str()) {
+// The names of the swarms with these roots, in chunks of 1,024 bytes.
+const NAME_OF_ABC: &str =
+    "ppspp1:ba7816bf8f01cfea414140de5dae2223b00361a396177a9cb410ff61f20015ad:1024:auto:2";
+
+const NAME_OF_TWO: &str =
+    "ppspp1:554ab6a2299f66936d4ec8b2d0e5f0459d87babedf6b81ee3c101c29fe18f695:1024:auto:2";
+
+const NAME_OF_SIX: &str =
+    "ppspp1:a7b21c5bbd5d0c87e7a89e1028c503ab40c20e9569a7922a2570e75251a61d40:1024:auto:2";
+
+const NAME_OF_SEVEN: &str =
+    "ppspp1:b42effe6efb1b60e3199b18182c63d9577f6cdfeaaa0acb3399ac8d87b4d8f73:1024:auto:2";
+
+// What bytes tell as the last chunk of a swarm with that name. None where they can't be a chunk.
+fn told(claims: &Claims, name: &str, i: u32, bytes: &[u8]) -> Option<Learned> {
+    match Target::read(name) {
         Ok(Target::Auto(name)) => {
-            if i < 1 << 20 && !bytes.is_empty() && bytes.len() <= name.chunk as usize {
-                Some(learn(claims, &name, i, bytes))
-            } else {
-                None
+            if i >= 1 << 20 || bytes.is_empty() || bytes.len() > name.chunk as usize {
+                return None;
             }
+            Some(learn(claims, &name, i, bytes))
         }
         _ => None,
-    })
+    }
 }
 
-// what a swarm of so many bytes in chunks of 1,024 is learned to be
-fn size(root: &str, size: u64) -> Result<Option<Learned>, Fail> {
-    let descriptor = Descriptor::new(digest(root)?, 1024, size, Method::Range32);
-    Ok(descriptor.ok().map(Learned::Size))
+// What a swarm of so many bytes in chunks of 1,024 is learned to be.
+fn is_size(told: Option<Learned>, root: &str, size: u64) -> bool {
+    match Descriptor::new(digest(root), 1024, size, Method::Range32) {
+        Ok(descriptor) => told == Some(Learned::Size(descriptor)),
+        Err(_) => false,
+    }
 }
 
-fn wrong(found: &str, kept: &str) -> Result<Option<Learned>, Fail> {
-    let (found, kept) = (digest(found)?, digest(kept)?);
-    Ok(Some(Learned::Wrong { found, kept }))
+fn wrong(found: &str, kept: &str) -> Option<Learned> {
+    let (found, kept) = (digest(found), digest(kept));
+    Some(Learned::Wrong { found, kept })
 }
 
 fn missing(layer: u8, offset: u32) -> Option<Learned> {
     Some(Learned::Missing(node(layer, offset)))
 }
 
-fn claimed(alloc: Global, nodes: &[(u8, u32, &str)]) -> Result<Claims, Fail> {
-    let mut claims = Claims::new(alloc)?;
+fn claim_all(claims: &mut Claims, nodes: &[(u8, u32, &str)]) {
     for (layer, offset, text) in nodes {
-        claims.add(node(*layer, *offset), digest(text)?);
+        claims.add(node(*layer, *offset), digest(text));
     }
+}
+
+fn claimed(alloc: Global, nodes: &[(u8, u32, &str)]) -> Result<Claims, AllocError> {
+    let mut claims = Claims::new(alloc)?;
+    claim_all(&mut claims, nodes);
     Ok(claims)
+}
+
+// What bytes tell where these digests are claimed.
+fn told_by(
+    alloc: Global,
+    nodes: &[(u8, u32, &str)],
+    name: &str,
+    i: u32,
+    bytes: &[u8],
+) -> Option<Learned> {
+    match claimed(alloc, nodes) {
+        Ok(claims) => told(&claims, name, i, bytes),
+        Err(_) => None,
+    }
 }
 
 // the bytes of a whole chunk
@@ -96,99 +125,185 @@ fn chunk(i: u32) -> [u8; 1024] {
     bytes
 }
 
+// Names without a size, and the chunk's length and the method that they tell.
+const AUTOS: [(&str, u32, Method); 3] = [
+    (
+        "ppspp1:ba7816bf8f01cfea414140de5dae2223b00361a396177a9cb410ff61f20015ad:1024:auto:2",
+        1024,
+        Method::Range32,
+    ),
+    (
+        "ppspp1:ba7816bf8f01cfea414140de5dae2223b00361a396177a9cb410ff61f20015ad:256:auto:0",
+        256,
+        Method::Bin32,
+    ),
+    (
+        "ppspp1:ba7816bf8f01cfea414140de5dae2223b00361a396177a9cb410ff61f20015ad:8192:auto:4",
+        8192,
+        Method::Range64,
+    ),
+];
+
+fn is_auto(text: &str, chunk: u32, method: Method) -> bool {
+    let name = SwarmName {
+        root: leaf(b"abc"),
+        chunk,
+        method,
+    };
+    Target::read(text) == Ok(Target::Auto(name))
+}
+
+fn is_sized(text: &str) -> bool {
+    match Descriptor::new(leaf(b"abc"), 1024, 3, Method::Range32) {
+        Ok(descriptor) => Target::read(text) == Ok(Target::Sized(descriptor)),
+        Err(_) => false,
+    }
+}
+
+// How many of these are read, before one that isn't.
+fn autos_read(rows: &[(&str, u32, Method)]) -> u8 {
+    let mut right: u8 = 0;
+    for (text, chunk, method) in rows {
+        if !is_auto(text, *chunk, *method) {
+            return right;
+        }
+        right = right.saturating_add(1);
+    }
+    right
+}
+
+const SIZED: &str =
+    "ppspp1:ba7816bf8f01cfea414140de5dae2223b00361a396177a9cb410ff61f20015ad:1024:3:2";
+
 #[test]
 fn reads_both_forms(rt: HostRuntime) {
-    for (words, chunk, method) in [
-        ("1024:auto:2", 1024, Method::Range32),
-        ("256:auto:0", 256, Method::Bin32),
-        ("8192:auto:4", 8192, Method::Range64),
-    ] {
-        match format!(in rt.alloc(); "ppspp1:{ABC}:{words}") {
-            Ok(text) => {
-                let root = leaf(b"abc");
-                let want = Target::Auto(SwarmName {
-                    root,
-                    chunk,
-                    method,
-                });
-                assert_eq!(rt; Target::read(text.as_str()), Ok(want), "at {words}");
-            }
-            Err(_) => assert!(rt; false),
-        }
+    assert_eq!(rt; autos_read(&AUTOS), 3);
+    assert!(rt; is_sized(SIZED));
+}
+
+// Texts, and what is wrong with them.
+const FAULTS: [(&str, DescriptorFault); 18] = [
+    (
+        "ppspp1:ba7816bf8f01cfea414140de5dae2223b00361a396177a9cb410ff61f20015ad:1000:auto:2",
+        DescriptorFault::Chunk { at: 72 },
+    ),
+    (
+        "ppspp1:ba7816bf8f01cfea414140de5dae2223b00361a396177a9cb410ff61f20015ad:1000:3:2",
+        DescriptorFault::Chunk { at: 72 },
+    ),
+    (
+        "ppspp1:ba7816bf8f01cfea414140de5dae2223b00361a396177a9cb410ff61f20015ad:1024:0:2",
+        DescriptorFault::Size { at: 77 },
+    ),
+    (
+        "ppspp1:ba7816bf8f01cfea414140de5dae2223b00361a396177a9cb410ff61f20015ad:1024:auto:1",
+        DescriptorFault::Method { at: 82 },
+    ),
+    (
+        "ppspp1:ba7816bf8f01cfea414140de5dae2223b00361a396177a9cb410ff61f20015ad:1024:3:1",
+        DescriptorFault::Method { at: 79 },
+    ),
+    (
+        "ppspp1:ba7816bf8f01cfea414140de5dae2223b00361a396177a9cb410ff61f20015ad:1024:",
+        DescriptorFault::Form { at: 77 },
+    ),
+    (
+        "ppspp1:ba7816bf8f01cfea414140de5dae2223b00361a396177a9cb410ff61f20015ad:1024:xuto:2",
+        DescriptorFault::Form { at: 77 },
+    ),
+    (
+        "ppspp1:ba7816bf8f01cfea414140de5dae2223b00361a396177a9cb410ff61f20015ad:1024:aut",
+        DescriptorFault::Form { at: 80 },
+    ),
+    (
+        "ppspp1:ba7816bf8f01cfea414140de5dae2223b00361a396177a9cb410ff61f20015ad:1024:autx:2",
+        DescriptorFault::Form { at: 80 },
+    ),
+    (
+        "ppspp1:ba7816bf8f01cfea414140de5dae2223b00361a396177a9cb410ff61f20015ad:1024:Auto:2",
+        DescriptorFault::Form { at: 77 },
+    ),
+    (
+        "ppspp1:ba7816bf8f01cfea414140de5dae2223b00361a396177a9cb410ff61f20015ad:1024:3auto:2",
+        DescriptorFault::Form { at: 78 },
+    ),
+    (
+        "ppspp1:ba7816bf8f01cfea414140de5dae2223b00361a396177a9cb410ff61f20015ad:1024:auto",
+        DescriptorFault::Form { at: 81 },
+    ),
+    (
+        "ppspp1:ba7816bf8f01cfea414140de5dae2223b00361a396177a9cb410ff61f20015ad:1024:auto:",
+        DescriptorFault::Form { at: 82 },
+    ),
+    (
+        "ppspp1:ba7816bf8f01cfea414140de5dae2223b00361a396177a9cb410ff61f20015ad:1024:auto:02",
+        DescriptorFault::Form { at: 83 },
+    ),
+    (
+        "ppspp1:ba7816bf8f01cfea414140de5dae2223b00361a396177a9cb410ff61f20015ad:auto:auto:2",
+        DescriptorFault::Form { at: 72 },
+    ),
+    ("", DescriptorFault::Form { at: 0 }),
+    ("ppspp1:ba78", DescriptorFault::Form { at: 11 }),
+    ("auto", DescriptorFault::Form { at: 0 }),
+];
+
+fn has_fault(text: &str, want: DescriptorFault) -> bool {
+    match Target::read(text) {
+        Ok(_) => false,
+        Err(fault) => fault == want,
     }
-    match format!(in rt.alloc(); "ppspp1:{ABC}:1024:3:2") {
-        Ok(text) => {
-            let want = Descriptor::new(leaf(b"abc"), 1024, 3, Method::Range32);
-            assert_eq!(rt;
-                Target::read(text.as_str()).ok(),
-                want.ok().map(Target::Sized)
-            );
+}
+
+// How many of these have their fault, before one that hasn't.
+fn faults(rows: &[(&str, DescriptorFault)]) -> u8 {
+    let mut right: u8 = 0;
+    for (text, want) in rows {
+        if !has_fault(text, *want) {
+            return right;
         }
-        Err(_) => assert!(rt; false),
+        right = right.saturating_add(1);
     }
+    right
 }
 
 #[test]
 fn names_the_fault_of_a_text(rt: HostRuntime) {
-    for (words, want) in [
-        ("1000:auto:2", DescriptorFault::Chunk { at: 72 }),
-        ("1000:3:2", DescriptorFault::Chunk { at: 72 }),
-        ("1024:0:2", DescriptorFault::Size { at: 77 }),
-        ("1024:auto:1", DescriptorFault::Method { at: 82 }),
-        ("1024:3:1", DescriptorFault::Method { at: 79 }),
-        ("1024:", DescriptorFault::Form { at: 77 }),
-        ("1024:xuto:2", DescriptorFault::Form { at: 77 }),
-        ("1024:aut", DescriptorFault::Form { at: 80 }),
-        ("1024:autx:2", DescriptorFault::Form { at: 80 }),
-        ("1024:Auto:2", DescriptorFault::Form { at: 77 }),
-        ("1024:3auto:2", DescriptorFault::Form { at: 78 }),
-        ("1024:auto", DescriptorFault::Form { at: 81 }),
-        ("1024:auto:", DescriptorFault::Form { at: 82 }),
-        ("1024:auto:02", DescriptorFault::Form { at: 83 }),
-        ("auto:auto:2", DescriptorFault::Form { at: 72 }),
-    ] {
-        match format!(in rt.alloc(); "ppspp1:{ABC}:{words}") {
-            Ok(text) => assert_eq!(rt; Target::read(text.as_str()), Err(want), "at {words}"),
-            Err(_) => assert!(rt; false),
-        }
-    }
-    for (text, at) in [("", 0), ("ppspp1:ba78", 11), ("auto", 0)] {
-        assert_eq!(rt;
-            Target::read(text),
-            Err(DescriptorFault::Form { at }),
-            "at {text}"
-        );
-    }
+    assert_eq!(rt; faults(&FAULTS), 18);
 }
 
 // two digests joined
 fn both(left: &Digest, right: &Digest) -> [u8; 64] {
     let mut bytes = [0; 64];
-    for k in 0..32 {
-        bytes[k] = left.bytes()[k];
-        bytes[k + 32] = right.bytes()[k];
-    }
+    bytes[..32].copy_from_slice(left.bytes());
+    bytes[32..].copy_from_slice(right.bytes());
     bytes
 }
 
 #[test]
-fn learns_of_one_chunk(rt: HostRuntime) -> Result<(), Fail> {
-    let mut claims = Claims::new(rt.alloc())?;
-    assert_eq!(rt; told(rt.alloc(), &claims, ABC, 0, b"abc")?, missing(0, 0));
-    claims.add(node(0, 0), digest(ABC)?);
-    assert_eq!(rt; told(rt.alloc(), &claims, ABC, 0, b"abc")?, size(ABC, 3)?);
-    Ok(())
+fn learns_of_one_chunk(rt: HostRuntime) {
+    assert!(rt; told_by(rt.alloc(), &[], NAME_OF_ABC, 0, b"abc") == missing(0, 0));
+    assert!(rt;
+        is_size(
+            told_by(rt.alloc(), &[(0, 0, ABC)], NAME_OF_ABC, 0, b"abc"),
+            ABC,
+            3
+        )
+    );
 }
 
 #[test]
-fn takes_no_two_digests_for_a_chunk(rt: HostRuntime) -> Result<(), Fail> {
-    let (left, right) = (digest(LEAF_0)?, digest(LEAF_1)?);
-    assert_eq!(rt; parent(&left, &right), digest(TWO)?);
-    let mut claims = Claims::new(rt.alloc())?;
-    claims.add(node(0, 0), digest(TWO)?);
-    let told = told(rt.alloc(), &claims, TWO, 0, &both(&left, &right))?;
-    assert_eq!(rt; told, Some(Learned::SixtyFour));
-    Ok(())
+fn takes_no_two_digests_for_a_chunk(rt: HostRuntime) {
+    let (left, right) = (digest(LEAF_0), digest(LEAF_1));
+    assert!(rt; parent(&left, &right) == digest(TWO));
+    let told = told_by(
+        rt.alloc(),
+        &[(0, 0, TWO)],
+        NAME_OF_TWO,
+        0,
+        &both(&left, &right),
+    );
+    assert!(rt; told == Some(Learned::SixtyFour));
 }
 
 // the last of seven chunks
@@ -201,45 +316,44 @@ fn last_of_seven() -> [u8; 856] {
     bytes
 }
 
-#[test]
-fn learns_of_seven_chunks(rt: HostRuntime) -> Result<(), Fail> {
+const PEAKS: [(u8, u32, &str); 3] = [(2, 0, FIRST_FOUR), (1, 2, NEXT_TWO), (0, 6, LEAF_6)];
+
+// Whether the first peak is missing that isn't claimed.
+fn lacks_peaks(alloc: Global) -> bool {
     let last = last_of_seven();
-    let peaks = [(2, 0, FIRST_FOUR), (1, 2, NEXT_TWO), (0, 6, LEAF_6)];
-    for (first, end, want) in [
-        (0, 0, missing(2, 0)),
-        (1, 3, missing(2, 0)),
-        (0, 1, missing(1, 2)),
-        (0, 2, missing(0, 6)),
-        (0, 3, size(SEVEN, 7000)?),
-    ] {
-        let claims = claimed(rt.alloc(), &peaks[first..end])?;
-        assert_eq!(rt;
-            told(rt.alloc(), &claims, SEVEN, 6, &last)?,
-            want,
-            "at {end}"
-        );
-    }
-    let peaks = [(2, 0, FIRST_FOUR), (1, 2, NEXT_TWO), (0, 6, LEAF_0)];
-    let claims = claimed(rt.alloc(), &peaks)?;
-    assert_eq!(rt;
-        told(rt.alloc(), &claims, SEVEN, 6, &chunk(0))?,
-        wrong(OTHER_ROOT, SEVEN)?
-    );
-    Ok(())
+    told_by(alloc, &[], NAME_OF_SEVEN, 6, &last) == missing(2, 0)
+        && told_by(alloc, &PEAKS[1..3], NAME_OF_SEVEN, 6, &last) == missing(2, 0)
+        && told_by(alloc, &PEAKS[..1], NAME_OF_SEVEN, 6, &last) == missing(1, 2)
+        && told_by(alloc, &PEAKS[..2], NAME_OF_SEVEN, 6, &last) == missing(0, 6)
 }
 
 #[test]
-fn learns_of_six_chunks(rt: HostRuntime) -> Result<(), Fail> {
+fn learns_of_seven_chunks(rt: HostRuntime) {
+    assert!(rt; lacks_peaks(rt.alloc()));
+    let told = told_by(rt.alloc(), &PEAKS, NAME_OF_SEVEN, 6, &last_of_seven());
+    assert!(rt; is_size(told, SEVEN, 7000));
+}
+
+#[test]
+fn learns_of_no_wrong_peak(rt: HostRuntime) {
+    let peaks = [(2, 0, FIRST_FOUR), (1, 2, NEXT_TWO), (0, 6, LEAF_0)];
+    let told = told_by(rt.alloc(), &peaks, NAME_OF_SEVEN, 6, &chunk(0));
+    assert!(rt; told == wrong(OTHER_ROOT, SEVEN));
+}
+
+const NODES: [(u8, u32, &str); 3] = [(2, 0, FIRST_FOUR), (1, 2, NEXT_TWO), (0, 4, LEAF_4)];
+
+// The last of six chunks, and the same with one bit changed.
+fn learns_of_six(alloc: Global) -> bool {
     let mut last = chunk(5);
-    let nodes = [(2, 0, FIRST_FOUR), (1, 2, NEXT_TWO), (0, 4, LEAF_4)];
-    let claims = claimed(rt.alloc(), &nodes[..2])?;
-    assert_eq!(rt; told(rt.alloc(), &claims, SIX, 5, &last)?, missing(0, 4));
-    let claims = claimed(rt.alloc(), &nodes)?;
-    assert_eq!(rt; told(rt.alloc(), &claims, SIX, 5, &last)?, size(SIX, 6144)?);
+    let told = told_by(alloc, &NODES, NAME_OF_SIX, 5, &last);
     last[0] ^= 1;
-    assert_eq!(rt;
-        told(rt.alloc(), &claims, SIX, 5, &last)?,
-        wrong(CHANGED, NEXT_TWO)?
-    );
-    Ok(())
+    is_size(told, SIX, 6144)
+        && told_by(alloc, &NODES, NAME_OF_SIX, 5, &last) == wrong(CHANGED, NEXT_TWO)
+}
+
+#[test]
+fn learns_of_six_chunks(rt: HostRuntime) {
+    assert!(rt; told_by(rt.alloc(), &NODES[..2], NAME_OF_SIX, 5, &chunk(5)) == missing(0, 4));
+    assert!(rt; learns_of_six(rt.alloc()));
 }

@@ -11,32 +11,68 @@ const SMALL: [(u8, u32, u32); 5] = [
     (31, 0, 2147483647),
 ];
 
-// The number of a bin of 32 bits, and of one of 64 bits.
-fn numbers(layer: u8, offset: u32) -> (Option<u32>, Option<u64>) {
-    let narrow = Bin32::of(layer, offset).map(|b| b.number());
-    let wide = Bin64::of(layer, u64::from(offset)).map(|b| b.number());
-    (narrow, wide)
+// What stands for the number of no bin, in the tests. It is the number of none.
+const NONE_32: u32 = 4294967295;
+
+const NONE_64: u64 = 18446744073709551615;
+
+fn number_32(bin: Option<Bin32>) -> u32 {
+    match bin {
+        Some(bin) => bin.number(),
+        None => NONE_32,
+    }
 }
 
-// Where the bin of a number stands, of 32 bits and of 64 bits.
-fn places(number: u32) -> (Option<(u8, u32)>, Option<(u8, u64)>) {
-    let narrow = Bin32::read(number).map(|b| (b.layer(), b.offset()));
-    let wide = Bin64::read(u64::from(number)).map(|b| (b.layer(), b.offset()));
-    (narrow, wide)
+fn number_64(bin: Option<Bin64>) -> u64 {
+    match bin {
+        Some(bin) => bin.number(),
+        None => NONE_64,
+    }
+}
+
+// Whether a bin of 32 bits with this number is read, and stands there.
+fn stands_32(number: u32, layer: u8, offset: u32) -> bool {
+    match Bin32::read(number) {
+        Some(bin) => bin.layer() == layer && bin.offset() == offset,
+        None => false,
+    }
+}
+
+fn stands_64(number: u64, layer: u8, offset: u64) -> bool {
+    match Bin64::read(number) {
+        Some(bin) => bin.layer() == layer && bin.offset() == offset,
+        None => false,
+    }
+}
+
+fn is_numbered_32(layer: u8, offset: u32, number: u32) -> bool {
+    number_32(Bin32::of(layer, offset)) == number && stands_32(number, layer, offset)
+}
+
+fn is_numbered_64(layer: u8, offset: u64, number: u64) -> bool {
+    number_64(Bin64::of(layer, offset)) == number && stands_64(number, layer, offset)
+}
+
+fn is_numbered(layer: u8, offset: u32, number: u32) -> bool {
+    is_numbered_32(layer, offset, number)
+        && is_numbered_64(layer, u64::from(offset), u64::from(number))
+}
+
+// How many of these have their numbers, before one that hasn't.
+fn numbered() -> u8 {
+    let mut right: u8 = 0;
+    for (layer, offset, number) in SMALL {
+        if !is_numbered(layer, offset, number) {
+            return right;
+        }
+        right = right.saturating_add(1);
+    }
+    right
 }
 
 #[test]
 fn numbers_of_small_bins(rt: HostRuntime) {
-    for (layer, offset, number) in SMALL {
-        assert_eq!(rt;
-            numbers(layer, offset),
-            (Some(number), Some(u64::from(number)))
-        );
-        assert_eq!(rt;
-            places(number),
-            (Some((layer, offset)), Some((layer, u64::from(offset))))
-        );
-    }
+    assert_eq!(rt; numbered(), 5);
 }
 
 // Numbers and places past the greatest bin.
@@ -59,39 +95,43 @@ fn beyond_64_bits() -> [bool; 4] {
     ]
 }
 
-// The leaves of a bin, and the numbers of its parent and of its sibling.
-fn family_32(number: u32) -> Option<(u32, u32, Option<u32>, Option<u32>)> {
-    let bin = Bin32::read(number)?;
-    let parent = bin.parent().map(|b| b.number());
-    let sibling = bin.sibling().map(|b| b.number());
-    Some((bin.first(), bin.last(), parent, sibling))
+// The first leaf and the last of a bin, and the numbers of its parent and of its sibling.
+fn family_32(number: u32) -> [u32; 4] {
+    match Bin32::read(number) {
+        Some(bin) => [
+            bin.first(),
+            bin.last(),
+            number_32(bin.parent()),
+            number_32(bin.sibling()),
+        ],
+        None => [NONE_32; 4],
+    }
 }
 
-fn family_64(number: u64) -> Option<(u64, u64, Option<u64>, Option<u64>)> {
-    let bin = Bin64::read(number)?;
-    let parent = bin.parent().map(|b| b.number());
-    let sibling = bin.sibling().map(|b| b.number());
-    Some((bin.first(), bin.last(), parent, sibling))
+fn family_64(number: u64) -> [u64; 4] {
+    match Bin64::read(number) {
+        Some(bin) => [
+            bin.first(),
+            bin.last(),
+            number_64(bin.parent()),
+            number_64(bin.sibling()),
+        ],
+        None => [NONE_64; 4],
+    }
 }
 
 #[test]
 fn edges_of_32_bits(rt: HostRuntime) {
-    assert_eq!(rt; beyond_32_bits(), [true; 5]);
-    let top = Some((0, 2147483647, None, None));
-    assert_eq!(rt; family_32(2147483647), top);
-    let bin = Some((2, 3, Some(3), Some(1)));
-    assert_eq!(rt; family_32(5), bin);
-    let last = Some((0, 2147483647));
-    assert_eq!(rt; places(4294967294).0, last);
-    let ends = family_32(4294967294).map(|(first, last, _, _)| (first, last));
-    assert_eq!(rt; ends, Some((2147483647, 2147483647)));
+    assert!(rt; beyond_32_bits() == [true; 5]);
+    assert!(rt; family_32(2147483647) == [0, 2147483647, NONE_32, NONE_32]);
+    assert!(rt; family_32(5) == [2, 3, 3, 1]);
+    assert!(rt; stands_32(4294967294, 0, 2147483647));
+    assert!(rt; family_32(4294967294).starts_with(&[2147483647, 2147483647]));
 }
 
 #[test]
 fn edges_of_64_bits(rt: HostRuntime) {
-    assert_eq!(rt; beyond_64_bits(), [true; 4]);
-    let top = Some((0, 9223372036854775807, None, None));
-    assert_eq!(rt; family_64(9223372036854775807), top);
-    let all_ones = Some((32, 0));
-    assert_eq!(rt; places(4294967295).1, all_ones);
+    assert!(rt; beyond_64_bits() == [true; 4]);
+    assert!(rt; family_64(9223372036854775807) == [0, 9223372036854775807, NONE_64, NONE_64]);
+    assert!(rt; stands_64(4294967295, 32, 0));
 }

@@ -54,29 +54,43 @@ fn one_to_twenty_two() -> Counts {
     }
 }
 
-#[test]
-fn counts_of_some_notes(rt: HostRuntime) {
-    let mut counts = Counts::default();
-    assert_eq!(rt; counts, Counts::new());
+// A note is counted three times.
+fn counts_repeats(counts: &mut Counts) -> bool {
     for _ in 0..3 {
         counts.note(Note::Repeat);
     }
-    assert_eq!(rt;
-        counts,
-        Counts {
+    *counts
+        == (Counts {
             repeats: 3,
             ..Counts::new()
-        }
-    );
+        })
+}
+
+// A count goes to the greatest number and stands still there.
+fn stands_still(counts: &mut Counts) -> bool {
     counts.sent = 18446744073709551614;
     counts.note(Note::Sent);
-    assert_eq!(rt; counts.sent, 18446744073709551615);
+    let reached = counts.sent == 18446744073709551615;
     counts.note(Note::Sent);
     counts.note_all(Note::Sent, 4294967295);
-    assert_eq!(rt; counts.sent, 18446744073709551615);
-    counts = Counts::new();
-    for (note, times) in EACH.into_iter().zip(1..23) {
+    reached && counts.sent == 18446744073709551615
+}
+
+// Each note is counted, the first once, the second twice, and so on.
+fn counts_each(counts: &mut Counts) -> bool {
+    let mut times: u32 = 0;
+    for note in EACH {
+        times = times.saturating_add(1);
         counts.note_all(note, times);
     }
-    assert_eq!(rt; counts, one_to_twenty_two());
+    *counts == one_to_twenty_two()
+}
+
+#[test]
+fn counts_of_some_notes(rt: HostRuntime) {
+    let mut counts = Counts::default();
+    assert!(rt; counts == Counts::new());
+    assert!(rt; counts_repeats(&mut counts));
+    assert!(rt; stands_still(&mut counts));
+    assert!(rt; counts_each(&mut Counts::new()));
 }

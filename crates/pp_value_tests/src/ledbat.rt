@@ -2,11 +2,10 @@
 use pp_ledbat::{RoundTrips, Settled, Window, alone, gained, hits, oldest, settle};
 use pp_ranges::ChunkRange;
 use pp_traffic::Entry;
-use std::process::Abort;
 use std::test::*;
 
 // One call of a window.
-#[derive(Clone, Copy, Debug, PartialEq, Eq)]
+#[derive(Clone, Copy)]
 enum Call {
     // the chunk and the moment
     Sent(u32, u64),
@@ -46,14 +45,21 @@ fn made(window: &mut Window, call: Call) -> Option<u64> {
 // that keeps every chunk that was ever sent, and looks through them all.
 type Row = (Call, u64, u64, u64, u64);
 
-fn keeps_to(rt: &impl Abort, rows: &[Row]) {
-    let mut window = Window::new(1024);
+// The window, the flight and the timeout.
+fn seen(window: &Window) -> [u64; 3] {
+    [window.window(), window.flight(), window.timeout_us()]
+}
+
+// How many calls answer and leave what their rows say, before one that doesn't.
+fn kept(window: &mut Window, rows: &[Row]) -> usize {
+    let mut count: usize = 0;
     for (call, answer, bytes, flight, timeout) in rows {
-        assert_eq!(rt; made(&mut window, *call), Some(*answer), "{call:?}");
-        assert_eq!(rt; window.window(), *bytes, "the window after {call:?}");
-        assert_eq!(rt; window.flight(), *flight, "the flight after {call:?}");
-        assert_eq!(rt; window.timeout_us(), *timeout, "the timeout after {call:?}");
+        if made(window, *call) != Some(*answer) || seen(window) != [*bytes, *flight, *timeout] {
+            return count;
+        }
+        count = count.saturating_add(1);
     }
+    count
 }
 
 const FIFTY: [Row; 50] = [
@@ -179,7 +185,7 @@ const FIFTY: [Row; 50] = [
 // timeouts, the first at the microsecond; a chunk in flight twice; and a round trip of more than a minute.
 #[test]
 fn keeps_to_fifty_calls(rt: HostRuntime) {
-    keeps_to(&rt, &FIFTY);
+    assert_eq!(rt; kept(&mut Window::new(1024), &FIFTY), 50);
 }
 
 const MINUTES: [Row; 41] = [
@@ -313,65 +319,121 @@ const MINUTES: [Row; 41] = [
 // A sample a minute, for twelve minutes: the least one, of the first minute, is out of the base at the tenth minute behind it.
 #[test]
 fn forgets_old_minutes(rt: HostRuntime) {
-    keeps_to(&rt, &MINUTES);
+    assert_eq!(rt; kept(&mut Window::new(1024), &MINUTES), 41);
+}
+
+// A window, the time that a chunk of it waited in queues, and the window that its acknowledgement leaves. At the greatest window
+// the fall is 1024 * 1024 / 524288 * 1/2 = 1 at 150 milliseconds, and rounds up from there.
+const GAINS: [(u64, u64, u64); 8] = [
+    (2048, 0, 2560),
+    (2048, 50_000, 2304),
+    (2048, 100_000, 2048),
+    (2048, 200_000, 2048),
+    (524_288, 0, 524_288),
+    (524_288, 150_000, 524_287),
+    (524_288, 150_001, 524_286),
+    (524_288, u64::MAX, 2048),
+];
+
+// What the acknowledgement of one chunk makes of a window that is full.
+fn after_one(window: u64, queuing: u64) -> u64 {
+    if window == 0 || window > 524_288 {
+        return 0;
+    }
+    gained(window, 1024, queuing, 1024, window)
+}
+
+// How many of these are left, before one that isn't.
+fn gains() -> u8 {
+    let mut right: u8 = 0;
+    for (window, queuing, want) in GAINS {
+        if after_one(window, queuing) != want {
+            return right;
+        }
+        right = right.saturating_add(1);
+    }
+    right
 }
 
 #[test]
 fn gains_by_the_delay(rt: HostRuntime) {
-    for (queuing, want) in [(0, 2560), (50_000, 2304), (100_000, 2048), (200_000, 2048)] {
-        assert_eq!(rt; gained(2048, 1024, queuing, 1024, 2048), want, "{queuing}");
-    }
-    assert_eq!(rt; gained(524_288, 1024, 0, 1024, 524_288), 524_288);
-    // the fall is 1024 * 1024 / 524288 * 1/2 = 1 at 150 milliseconds, and rounds up from there
-    assert_eq!(rt; gained(524_288, 1024, 150_000, 1024, 524_288), 524_287);
-    assert_eq!(rt; gained(524_288, 1024, 150_001, 1024, 524_288), 524_286);
-    assert_eq!(rt; gained(524_288, 1024, u64::MAX, 1024, 524_288), 2048);
+    assert_eq!(rt; gains(), 8);
+}
+
+// The timeout after a round trip.
+fn noted(trips: &mut RoundTrips, now: u64, sent_at: Option<u64>) -> u64 {
+    trips.note(now, sent_at);
+    trips.timeout()
+}
+
+// The timeouts at first, after a trip of 200 milliseconds, after one of a second, and after one that isn't known.
+fn timeouts(trips: &mut RoundTrips) -> [u64; 4] {
+    [
+        trips.timeout(),
+        noted(trips, 300_000, Some(100_000)),
+        noted(trips, 1_300_000, Some(300_000)),
+        noted(trips, 1_300_000, None),
+    ]
+}
+
+fn backs_off(trips: &mut RoundTrips) -> bool {
+    trips.back_off();
+    trips.timeout() == 2_800_000 && trips.halving_time() == 300_000
 }
 
 #[test]
 fn times_round_trips(rt: HostRuntime) {
     let mut trips = RoundTrips::new();
-    assert_eq!(rt; trips.timeout(), 1_000_000);
-    trips.note(300_000, Some(100_000));
-    assert_eq!(rt; trips.timeout(), 1_000_000);
-    trips.note(1_300_000, Some(300_000));
-    assert_eq!(rt; trips.timeout(), 1_400_000);
-    trips.note(1_300_000, None);
-    assert_eq!(rt; trips.timeout(), 1_400_000);
-    trips.back_off();
-    assert_eq!(rt; trips.timeout(), 2_800_000);
-    assert_eq!(rt; trips.halving_time(), 300_000);
+    assert!(rt; timeouts(&mut trips) == [1_000_000, 1_000_000, 1_400_000, 1_400_000]);
+    assert!(rt; backs_off(&mut trips));
 }
 
-#[test]
-fn settles_slices(rt: HostRuntime) {
-    let entry = |chunk, overtaken| Entry {
+fn entry(chunk: u32, overtaken: u32) -> Entry {
+    Entry {
         chunk,
         overtaken,
         sent_at: u64::from(chunk),
-    };
-    let mut entries = [
+    }
+}
+
+fn six() -> [Entry; 6] {
+    [
         entry(4, 0),
         entry(5, 1),
         entry(6, 2),
         entry(7, 0),
         entry(8, 0),
         entry(9, 0),
-    ];
-    let Some(range) = ChunkRange::new(7, 8) else {
-        assert!(rt; false);
-        return;
-    };
-    assert_eq!(rt; hits(&entries, range), 2);
-    assert_eq!(rt; oldest(&entries, range), Some(7));
-    assert_eq!(rt; alone(&entries, range), None);
-    let settled = settle(&mut entries, range);
-    assert_eq!(rt;
-        settled,
-        Settled {
+    ]
+}
+
+// How many entries a range covers, and the earliest moment of these, if it isn't the only one.
+fn covered(entries: &[Entry], range: ChunkRange) -> bool {
+    hits(entries, range) == 2
+        && oldest(entries, range) == Some(7)
+        && alone(entries, range).is_none()
+}
+
+// Whether two entries are kept, one of which the others have overtaken, and one is lost.
+fn settles(entries: &mut [Entry; 6], range: ChunkRange) -> bool {
+    let settled = settle(entries, range);
+    settled
+        == (Settled {
             kept: 2,
-            has_lost: true
-        }
-    );
-    assert_eq!(rt; &entries[..2], [entry(4, 2), entry(9, 0)].as_slice());
+            has_lost: true,
+        })
+        && entries.starts_with(&[entry(4, 2), entry(9, 0)])
+}
+
+fn settles_six() -> bool {
+    let mut entries = six();
+    match ChunkRange::new(7, 8) {
+        Some(range) => covered(&entries, range) && settles(&mut entries, range),
+        None => false,
+    }
+}
+
+#[test]
+fn settles_slices(rt: HostRuntime) {
+    assert!(rt; settles_six());
 }

@@ -37,45 +37,68 @@ pub(crate) fn sent(root: &[u8]) -> Options<'_>
     }
 }
 
+// Whether these options are read of bytes, and all 55 of them.
+fn reads(bytes: &[u8]) -> bool {
+    read(bytes) == Ok((sent(&BYTES[7..39]), 55))
+}
+
 #[test]
 fn reads_in_both_orders(rt: HostRuntime) {
-    assert_eq!(rt; read(&BYTES), Ok((sent(&BYTES[7..39]), 55)));
-    assert_eq!(rt; read(&TURNED), Ok((sent(&BYTES[7..39]), 55)));
+    assert!(rt; reads(&BYTES));
+    assert!(rt; reads(&TURNED));
+}
+
+// Bytes, and their first fault.
+const FAULTS: [(&[u8], OptionFault); 5] = [
+    (
+        &[2, 0, 1, 9, 2, 0, 1, 9, 255],
+        OptionFault::Twice { at: 4, code: 2 },
+    ),
+    (&[8, 33, 0, 0], OptionFault::BadLength { at: 0, length: 33 }),
+    (&[0, 1, 5], OptionFault::Unknown { at: 2, code: 5 }),
+    (&[10, 255], OptionFault::Unknown { at: 0, code: 10 }),
+    (&[254, 255], OptionFault::Unknown { at: 0, code: 254 }),
+];
+
+fn has_fault(bytes: &[u8], want: OptionFault) -> bool {
+    match read(bytes) {
+        Ok(_) => false,
+        Err(fault) => fault == want,
+    }
+}
+
+// How many of these have their fault, before one that hasn't.
+fn faults(rows: &[(&[u8], OptionFault)]) -> u8 {
+    let mut count: u8 = 0;
+    for (bytes, want) in rows {
+        if !has_fault(bytes, *want) {
+            return count;
+        }
+        count = count.saturating_add(1);
+    }
+    count
 }
 
 #[test]
 fn names_the_first_fault(rt: HostRuntime) {
-    assert_eq!(rt; read(&BYTES[..54]), Err(OptionFault::Short { at: 54 }));
-    assert_eq!(rt; read(&BYTES[..53]), Err(OptionFault::Short { at: 49 }));
-    let twice = [2, 0, 1, 9, 2, 0, 1, 9, 255];
-    assert_eq!(rt; read(&twice), Err(OptionFault::Twice { at: 4, code: 2 }));
-    let long = [8, 33, 0, 0];
-    assert_eq!(rt;
-        read(&long),
-        Err(OptionFault::BadLength { at: 0, length: 33 })
-    );
-    assert_eq!(rt;
-        read(&[0, 1, 5]),
-        Err(OptionFault::Unknown { at: 2, code: 5 })
-    );
-    assert_eq!(rt;
-        read(&[10, 255]),
-        Err(OptionFault::Unknown { at: 0, code: 10 })
-    );
-    assert_eq!(rt;
-        read(&[254, 255]),
-        Err(OptionFault::Unknown { at: 0, code: 254 })
-    );
+    assert!(rt; has_fault(&BYTES[..54], OptionFault::Short { at: 54 }));
+    assert!(rt; has_fault(&BYTES[..53], OptionFault::Short { at: 49 }));
+    assert_eq!(rt; faults(&FAULTS), 5);
+}
+
+// Writes the options at place 2.
+fn puts(out: &mut [u8]) -> Result<usize, NoRoom> {
+    if out.len() < 2 {
+        return Err(NoRoom);
+    }
+    write(&sent(&BYTES[7..39]), out, 2)
 }
 
 #[test]
 fn writes_by_rising_codes(rt: HostRuntime) {
     let mut out = [7; 58];
-    assert_eq!(rt; write(&sent(&BYTES[7..39]), &mut out, 2), Ok(57));
-    assert_eq!(rt; &out[..2], [7, 7].as_slice());
-    assert_eq!(rt; &out[2..57], BYTES.as_slice());
-    assert_eq!(rt; out[57], 7);
+    assert!(rt; puts(&mut out) == Ok(57));
+    assert!(rt; out.starts_with(&[7, 7]) && out[2..].starts_with(&BYTES) && out[57] == 7);
     let mut short = [7; 56];
-    assert_eq!(rt; write(&sent(&BYTES[7..39]), &mut short, 2), Err(NoRoom));
-    assert_eq!(rt; short, [7; 56]);
+    assert!(rt; puts(&mut short) == Err(NoRoom) && short == [7; 56]);
 }

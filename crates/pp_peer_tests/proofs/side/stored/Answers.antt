@@ -1,5 +1,5 @@
 use Rattle.std.proofs.Common.{arith, refl}
-use Rattle.pp_peer_tests.proofs.side.full_disk.Goals as goal
+use Rattle.pp_peer_tests.proofs.side.stored.Goals as goal
 
 pub import-requires : goal.import-requires
 import-requires c = record {

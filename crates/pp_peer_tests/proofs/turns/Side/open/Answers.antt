@@ -1,5 +1,0 @@
-use Rattle.std.proofs.Common.{arith, refl}
-use Rattle.pp_peer_tests.proofs.turns.Side.open.Goals as goal
-
-pub import-requires : goal.import-requires
-import-requires c = record { exponent = 10; least = omega arith; greatest = omega arith; power = refl }
