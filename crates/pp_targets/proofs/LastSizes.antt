@@ -34,7 +34,7 @@ whole_parts n k =
     omega (arith, fits, is)
 
 -- beside the last peak, below the root, a book has the empty hash
-abbrev IsEmptyBeside : Descriptor → LookUp → ℕ → Type 0
+abbrev pub IsEmptyBeside : Descriptor → LookUp → ℕ → Type 0
 IsEmptyBeside e book i = last_layer (chunks_of e) < height_of e
     → book (last_layer (chunks_of e)) (2 * above (suc (last_layer (chunks_of e))) i + 1) ≡ Some empty_hash
 
@@ -54,7 +54,7 @@ empty_beside e known book i bytes count end is lt =
     ∙ filled_past (chunks_of e) known (last_layer (chunks_of e)) (2 * above (suc (last_layer (chunks_of e))) i + 1) past
 
 -- The content has no chunk behind the last one, or a node of its that covers one has the empty hash.
-few_chunks : (e : Descriptor) (content : List ℕ) (book : LookUp) (i : ℕ) (bytes : List ℕ) → Counted e → suc i ≡ chunks_of e
+pub few_chunks : (e : Descriptor) (content : List ℕ) (book : LookUp) (i : ℕ) (bytes : List ℕ) → Counted e → suc i ≡ chunks_of e
     → count_in content e.chunk ≤ 2 ^ 20 → IsEmptyBeside e book i
     → IsWayOf content e.chunk book i bytes (height_of e) (height_in content e.chunk)
     → (count_in content e.chunk ≤ chunks_of e) ⊎ HasZeroNode content e.chunk
@@ -98,7 +98,7 @@ few_chunks e content book i bytes count end few beside way = elim (cases_eq (las
     times (suc a) b some = omega arith
 
 -- as many chunks, and one last chunk
-one_size : (e : Descriptor) (content : List ℕ) (i : ℕ) (bytes : List ℕ) → 0 < e.chunk → suc i ≡ chunks_of e
+pub one_size : (e : Descriptor) (content : List ℕ) (i : ℕ) (bytes : List ℕ) → 0 < e.chunk → suc i ≡ chunks_of e
     → length bytes ≡ chunk_length e.size e.chunk i → bytes ≡ chunk_of content e.chunk i → count_in content e.chunk ≡ suc i → length content ≡ e.size
 one_size e content i bytes some end whole is count =
     let mine = last_part (length content) e.chunk i some count in

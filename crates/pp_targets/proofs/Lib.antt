@@ -5,6 +5,7 @@ pub mod ClimbSteps
 pub mod LastPeaks
 pub mod ClimbBooks
 pub mod LastSizes
+pub mod WholeBooks
 pub mod SizedClashes
 pub mod LearnedSizes
 pub mod Weighing

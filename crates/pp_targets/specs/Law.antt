@@ -1,9 +1,11 @@
 -- What a swarm that is named without its size can rely on.
-use Rattle.std.specs.Prelude.{◌≡◌, ◌⊎◌, ◌↔◌, ℕ, ◌+◌, ◌<◌, List, length}
+use Rattle.std.specs.Prelude.{◌≡◌, ◌⊎◌, ◌↔◌, ℕ, ◌+◌, ◌*◌, ◌^◌, ◌<◌, ◌≤◌, Some, List, length}
 use Rattle.pp_terms.specs.tree.Content.{chunk_of}
 use Rattle.pp_terms.specs.tree.Book.{LookUp, IsRooted, IsBacked, Clash}
 use Rattle.pp_terms.specs.tree.Proves.{Proves}
+use Rattle.pp_terms.specs.tree.Tree.{empty_hash}
 use Rattle.pp_terms.specs.format.Descriptor.{Descriptor, chunks_of, IsDescriptor, IsContentOf}
+use Rattle.pp_tree.specs.Book.{IsInTree}
 use Rattle.pp_targets.specs.Target.{SwarmName, Target, Fits, FitsName, IsOf, IsOfName}
 use Rattle.pp_targets.specs.Depth.{DepthClash, HasZeroNode}
 use Rattle.pp_targets.specs.ClimbBook.{climb_book}
@@ -30,6 +32,29 @@ TellsSize name e known i bytes = (content : List ℕ) → FitsName name content
 abbrev pub LastTellsSize : Type 0
 LastTellsSize = (name : SwarmName) (e : Descriptor) (known : LookUp) (i : ℕ) (bytes : List ℕ)
     → IsDescriptor e → IsOfName name e → i + 1 ≡ chunks_of e → Proves e known i bytes → TellsSize name e known i bytes
+
+-- each node of the book's tree that covers no chunk is 32 zero bytes
+abbrev pub IsShaped : Descriptor → LookUp → Type 0
+IsShaped e book = (k j : ℕ) (digest : List ℕ) → IsInTree e k j → chunks_of e ≤ j * 2 ^ k → book k j ≡ Some digest → digest ≡ empty_hash
+
+-- the bytes have the descriptor's size, and the book backs each of their chunks
+pub record BacksAll (e : Descriptor) (book : LookUp) (bytes : List ℕ) : Type 0 where
+  pub size : length bytes ≡ e.size
+  pub each : (i : ℕ) → i < chunks_of e → IsBacked e book i (chunk_of bytes e.chunk i)
+
+-- On the way to some chunk of the bytes two texts have one digest.
+pub record ClashesSomewhere (e : Descriptor) (content : List ℕ) (book : LookUp) (bytes : List ℕ) : Type 0 where
+  pub chunk : ℕ
+  pub within : chunk < chunks_of e
+  pub clash : DepthClash e content book chunk (chunk_of bytes e.chunk chunk)
+
+-- Bytes that a shaped book of a descriptor of a name backs are each content of the name, or two texts have one digest, or a node of
+-- the content that covers a chunk is as one that covers none.
+abbrev pub BackedIsContentOfName : Type 0
+BackedIsContentOfName = (name : SwarmName) (e : Descriptor) (book : LookUp) (bytes : List ℕ)
+    → IsDescriptor e → IsOfName name e → IsShaped e book → BacksAll e book bytes
+    → (content : List ℕ) → FitsName name content
+    → (bytes ≡ content) ⊎ (ClashesSomewhere e content book bytes ⊎ HasZeroNode content e.chunk)
 
 -- Where the descriptor tells the content's size, a clash at some depth is a clash in the words of the book's own tree, and the
 -- other way round.

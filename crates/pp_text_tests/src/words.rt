@@ -263,18 +263,16 @@ fn reads_import(alloc: Global) -> bool {
     is_read(alloc, &["import", "s", "8192"], &import)
 }
 
-fn reads_seed(alloc: Global, descriptor: Descriptor) -> bool {
+// Whether a seed of this target is read.
+fn reads_seed(alloc: Global, target: Target, described: &str) -> bool {
     let seed = Command::Seed {
         store: STORE,
-        descriptor,
+        target,
         listen: LISTEN,
         turns: 4294967295,
     };
-    is_read(
-        alloc,
-        &["seed", "s", D, "127.0.0.1:7000", "4294967295"],
-        &seed,
-    )
+    let line = ["seed", "s", described, "127.0.0.1:7000", "4294967295"];
+    is_read(alloc, &line, &seed)
 }
 
 // Whether a check of this target is read.
@@ -286,22 +284,34 @@ fn reads_check(alloc: Global, target: Target, described: &str) -> bool {
     is_read(alloc, &["check", "s", described], &check)
 }
 
-// Whether a check is read where the descriptor's swarm is named without its size.
-fn reads_check_by_name(alloc: Global, descriptor: Descriptor) -> bool {
-    let name = SwarmName {
+fn reads_export(alloc: Global, target: Target, described: &str) -> bool {
+    let export = Command::Export {
+        store: STORE,
+        target,
+    };
+    is_read(alloc, &["export", "s", described], &export)
+}
+
+// The descriptor's swarm, named without its size.
+fn named(descriptor: Descriptor) -> Target {
+    Target::Auto(SwarmName {
         root: descriptor.root(),
         chunk: 1024,
         method: Method::Range32,
-    };
-    reads_check(alloc, Target::Auto(name), NAME)
+    })
 }
 
-fn reads_export(alloc: Global, descriptor: Descriptor) -> bool {
-    let export = Command::Export {
-        store: STORE,
-        descriptor,
-    };
-    is_read(alloc, &["export", "s", D], &export)
+// Whether the commands on a target are read, of a descriptor, and of a name.
+fn reads_sized(alloc: Global, descriptor: Descriptor) -> bool {
+    reads_seed(alloc, Target::Sized(descriptor), D)
+        && reads_check(alloc, Target::Sized(descriptor), D)
+        && reads_export(alloc, Target::Sized(descriptor), D)
+}
+
+fn reads_named(alloc: Global, descriptor: Descriptor) -> bool {
+    reads_seed(alloc, named(descriptor), NAME)
+        && reads_check(alloc, named(descriptor), NAME)
+        && reads_export(alloc, named(descriptor), NAME)
 }
 
 fn reads_upgrade(alloc: Global, descriptor: Descriptor) -> bool {
@@ -347,10 +357,8 @@ fn reads_play(
 }
 
 fn reads_all_of_swarms(alloc: Global, descriptor: Descriptor) -> bool {
-    reads_seed(alloc, descriptor)
-        && reads_check(alloc, Target::Sized(descriptor), D)
-        && reads_check_by_name(alloc, descriptor)
-        && reads_export(alloc, descriptor)
+    reads_sized(alloc, descriptor)
+        && reads_named(alloc, descriptor)
         && reads_upgrade(alloc, descriptor)
         && reads_play(alloc, descriptor, (1, 4096), ["1", "4096"])
         && reads_play(alloc, descriptor, (4294967295, 1), ["4294967295", "1"])

@@ -91,18 +91,18 @@ import_only words store chunk one (Import store' chunk') two =
     ap (λ s. Import s chunk) first.0 ∙ ap (λ n. Import store' n) (chunk_same chunk chunk' one.size two.size second.0)
 import_only words store chunk one d two = absurd (true≢false (sym (name_is words (codes "import") _ d one.spelled two refl)))
 
-seed_only : (words : List (List ℕ)) (store : List ℕ) (descriptor : Descriptor) (listen : Address) (turns : ℕ) → IsSeed words store descriptor listen turns
-    → (d : Command) → Spells words d → Seed store descriptor listen turns ≡ d
-seed_only words store descriptor listen turns one (Seed store' descriptor' listen' turns') two =
+seed_only : (words : List (List ℕ)) (store : List ℕ) (target : Target) (listen : Address) (turns : ℕ) → IsSeed words store target listen turns
+    → (d : Command) → Spells words d → Seed store target listen turns ≡ d
+seed_only words store target listen turns one (Seed store' target' listen' turns') two =
     let a = cons_same _ _ _ _ (cons_same _ _ _ _ (sym one.spelled ∙ two.spelled)).1 in
     let b = cons_same _ _ _ _ a.1 in
     let c = cons_same _ _ _ _ b.1 in
     let d = cons_same _ _ _ _ c.1 in
-    ap (λ s. Seed s descriptor listen turns) a.0
-    ∙ ap (λ x. Seed store' x listen turns) (described_same _ _ _ _ b.0 one.descriptor_is two.descriptor_is)
-    ∙ ap (λ x. Seed store' descriptor' x turns) (listen_same _ _ _ _ c.0 one.listen_is two.listen_is)
-    ∙ ap (λ n. Seed store' descriptor' listen' n) (number_same turns turns' one.few two.few d.0)
-seed_only words store descriptor listen turns one d two = absurd (true≢false (sym (name_is words (codes "seed") _ d one.spelled two refl)))
+    ap (λ s. Seed s target listen turns) a.0
+    ∙ ap (λ x. Seed store' x listen turns) (named_same _ _ _ _ b.0 one.target_is two.target_is)
+    ∙ ap (λ x. Seed store' target' x turns) (listen_same _ _ _ _ c.0 one.listen_is two.listen_is)
+    ∙ ap (λ n. Seed store' target' listen' n) (number_same turns turns' one.few two.few d.0)
+seed_only words store target listen turns one d two = absurd (true≢false (sym (name_is words (codes "seed") _ d one.spelled two refl)))
 
 fetch_only : (words : List (List ℕ)) (store : List ℕ) (descriptor : Descriptor) (listen : Address) (turns : ℕ) (order : Order) (peers : List Address)
     → IsFetch words store descriptor listen turns order peers → (d : Command) → Spells words d → Fetch store descriptor listen turns order peers ≡ d
@@ -145,12 +145,12 @@ check_only words store target one (Check store' target') two =
     ap (λ s. Check s target) a ∙ ap (λ x. Check store' x) b
 check_only words store target one d two = absurd (true≢false (sym (name_is words (codes "check") _ d one.spelled two refl)))
 
-export_only : (words : List (List ℕ)) (store : List ℕ) (descriptor : Descriptor) → IsOnStore (codes "export") words store descriptor
-    → (d : Command) → Spells words d → Export store descriptor ≡ d
-export_only words store descriptor one (Export store' descriptor') two =
-    let (a, b) = on_store_same (codes "export") words store store' descriptor descriptor' one two in
-    ap (λ s. Export s descriptor) a ∙ ap (λ x. Export store' x) b
-export_only words store descriptor one d two = absurd (true≢false (sym (name_is words (codes "export") _ d one.spelled two refl)))
+export_only : (words : List (List ℕ)) (store : List ℕ) (target : Target) → IsOnTarget (codes "export") words store target
+    → (d : Command) → Spells words d → Export store target ≡ d
+export_only words store target one (Export store' target') two =
+    let (a, b) = on_target_same (codes "export") words store store' target target' one two in
+    ap (λ s. Export s target) a ∙ ap (λ x. Export store' x) b
+export_only words store target one d two = absurd (true≢false (sym (name_is words (codes "export") _ d one.spelled two refl)))
 
 upgrade_only : (words : List (List ℕ)) (store : List ℕ) (descriptor : Descriptor) → IsOnStore (codes "upgrade") words store descriptor
     → (d : Command) → Spells words d → Upgrade store descriptor ≡ d
@@ -201,10 +201,10 @@ audit_only words one d two = absurd (true≢false (sym (name_is words (codes "au
 
 pub one_command : (words : List (List ℕ)) (c d : Command) → Spells words c → Spells words d → c ≡ d
 one_command words (Import store chunk) d one two = import_only words store chunk one d two
-one_command words (Seed store descriptor listen turns) d one two = seed_only words store descriptor listen turns one d two
+one_command words (Seed store target listen turns) d one two = seed_only words store target listen turns one d two
 one_command words (Fetch store descriptor listen turns order peers) d one two = fetch_only words store descriptor listen turns order peers one d two
 one_command words (Check store target) d one two = check_only words store target one d two
-one_command words (Export store descriptor) d one two = export_only words store descriptor one d two
+one_command words (Export store target) d one two = export_only words store target one d two
 one_command words (Upgrade store descriptor) d one two = upgrade_only words store descriptor one d two
 one_command words Replay d one two = replay_only words one d two
 one_command words (Rehearse number) d one two = rehearse_only words number one d two

@@ -95,10 +95,10 @@ pub record AreWordsOf (words : List (List ℕ)) (shape : Shape) : Type 0 where
 
 pub words_of : (words : List (List ℕ)) (c : Command) → Spells words c → AreWordsOf words (shape_of c)
 words_of words (Import store chunk) is = record { rest = _; named = is.spelled; right = (is.named, ((chunk, refl, is.size), tt)) }
-words_of words (Seed store descriptor listen turns) is = record {
+words_of words (Seed store target listen turns) is = record {
   rest = _;
   named = is.spelled;
-  right = (is.named, ((descriptor, is.descriptor_is), ((listen, is.listen_is), ((turns, refl, is.some_turns, is.few), tt))));
+  right = (is.named, ((target, is.target_is), ((listen, is.listen_is), ((turns, refl, is.some_turns, is.few), tt))));
 }
 words_of words (Fetch store descriptor listen turns order peers) is = record {
   rest = _;
@@ -109,7 +109,7 @@ words_of words (Fetch store descriptor listen turns order peers) is = record {
   );
 }
 words_of words (Check store target) is = record { rest = _; named = is.spelled; right = (is.named, ((target, is.target_is), tt)) }
-words_of words (Export store descriptor) is = record { rest = _; named = is.spelled; right = (is.named, ((descriptor, is.descriptor_is), tt)) }
+words_of words (Export store target) is = record { rest = _; named = is.spelled; right = (is.named, ((target, is.target_is), tt)) }
 words_of words (Upgrade store descriptor) is = record { rest = _; named = is.spelled; right = (is.named, ((descriptor, is.descriptor_is), tt)) }
 words_of words Replay is = record { rest = []; named = is; right = tt }
 words_of words (Rehearse number) is = record { rest = _; named = is.spelled; right = ((number, refl, omega arith, is.low), tt) }

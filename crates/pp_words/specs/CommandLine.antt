@@ -46,13 +46,13 @@ pub record IsImport (words : List (List ℕ)) (store : List ℕ) (chunk : ℕ) :
   pub named : IsStore store
   pub size : IsChunkSize chunk
 
--- `seed STORE DESCRIPTOR LISTEN TURNS`
-pub record IsSeed (words : List (List ℕ)) (store : List ℕ) (descriptor : Descriptor) (listen : Address) (turns : ℕ) : Type 0 where
+-- `seed STORE TARGET LISTEN TURNS`
+pub record IsSeed (words : List (List ℕ)) (store : List ℕ) (target : Target) (listen : Address) (turns : ℕ) : Type 0 where
   pub described : List ℕ
   pub listening : List ℕ
   pub spelled : words ≡ codes "seed" ∷ store ∷ described ∷ listening ∷ decimal turns ∷ []
   pub named : IsStore store
-  pub descriptor_is : IsDescriptorText described descriptor
+  pub target_is : IsTargetText described target
   pub listen_is : IsAddress listening listen
   pub some_turns : 1 ≤ turns
   pub few : turns < 2 ^ 32
@@ -120,10 +120,10 @@ pub record IsRecord (words : List (List ℕ)) (peer life : ℕ) : Type 0 where
 -- the words spell the command
 abbrev pub Spells : List (List ℕ) → Command → Type 0
 Spells words (Import store chunk) = IsImport words store chunk
-Spells words (Seed store descriptor listen turns) = IsSeed words store descriptor listen turns
+Spells words (Seed store target listen turns) = IsSeed words store target listen turns
 Spells words (Fetch store descriptor listen turns order peers) = IsFetch words store descriptor listen turns order peers
 Spells words (Check store target) = IsOnTarget (codes "check") words store target
-Spells words (Export store descriptor) = IsOnStore (codes "export") words store descriptor
+Spells words (Export store target) = IsOnTarget (codes "export") words store target
 Spells words (Upgrade store descriptor) = IsOnStore (codes "upgrade") words store descriptor
 Spells words Replay = words ≡ codes "replay" ∷ []
 Spells words (Rehearse number) = IsRehearse words number
@@ -171,7 +171,7 @@ abbrev pub import_shape : Shape
 import_shape = record { name = codes "import"; slots = AStore ∷ AChunk ∷ []; peers = 0 }
 
 abbrev pub seed_shape : Shape
-seed_shape = record { name = codes "seed"; slots = AStore ∷ ADescriptor ∷ AnAddress ∷ ANumber 1 (2 ^ 32) ∷ []; peers = 0 }
+seed_shape = record { name = codes "seed"; slots = AStore ∷ ATarget ∷ AnAddress ∷ ANumber 1 (2 ^ 32) ∷ []; peers = 0 }
 
 abbrev pub fetch_shape : Shape
 fetch_shape = record {
@@ -184,7 +184,7 @@ abbrev pub check_shape : Shape
 check_shape = record { name = codes "check"; slots = AStore ∷ ATarget ∷ []; peers = 0 }
 
 abbrev pub export_shape : Shape
-export_shape = record { name = codes "export"; slots = AStore ∷ ADescriptor ∷ []; peers = 0 }
+export_shape = record { name = codes "export"; slots = AStore ∷ ATarget ∷ []; peers = 0 }
 
 abbrev pub upgrade_shape : Shape
 upgrade_shape = record { name = codes "upgrade"; slots = AStore ∷ ADescriptor ∷ []; peers = 0 }
@@ -216,10 +216,10 @@ commands =
 
 abbrev pub shape_of : Command → Shape
 shape_of (Import store chunk) = import_shape
-shape_of (Seed store descriptor listen turns) = seed_shape
+shape_of (Seed store target listen turns) = seed_shape
 shape_of (Fetch store descriptor listen turns order peers) = fetch_shape
 shape_of (Check store target) = check_shape
-shape_of (Export store descriptor) = export_shape
+shape_of (Export store target) = export_shape
 shape_of (Upgrade store descriptor) = upgrade_shape
 shape_of Replay = replay_shape
 shape_of (Rehearse number) = rehearse_shape

@@ -9,10 +9,10 @@ use Rattle.pp_targets.specs.Target.{Target}
 -- counts chunks.
 pub data Command : Type 0 where
   Import : (store : List ℕ) (chunk : ℕ) → Command
-  Seed : (store : List ℕ) (descriptor : Descriptor) (listen : Address) (turns : ℕ) → Command
+  Seed : (store : List ℕ) (target : Target) (listen : Address) (turns : ℕ) → Command
   Fetch : (store : List ℕ) (descriptor : Descriptor) (listen : Address) (turns : ℕ) (order : Order) (peers : List Address) → Command
   Check : (store : List ℕ) (target : Target) → Command
-  Export : (store : List ℕ) (descriptor : Descriptor) → Command
+  Export : (store : List ℕ) (target : Target) → Command
   Upgrade : (store : List ℕ) (descriptor : Descriptor) → Command
   Replay : Command
   Rehearse : (number : ℕ) → Command

@@ -26,13 +26,13 @@ pub(crate) fn seed(words: &[String]) -> Result<Command<'_>, Usage>
         IsWrongFrom seed_shape.slots seed_shape.peers 1 (drop 1 (texts words.now)) (usage_of u)) }
 {
     let store = slots::store(words, 1)?;
-    let descriptor = slots::descriptor(words, 2)?;
+    let target = slots::target(words, 2)?;
     let listen = slots::address(words, 3)?;
     let turns = slots::some_number(words, 4, 1 << 32)?;
     slots::end(words, 5)?;
     Ok(Command::Seed {
         store,
-        descriptor,
+        target,
         listen,
         turns,
     })
@@ -79,9 +79,9 @@ pub(crate) fn export(words: &[String]) -> Result<Command<'_>, Usage>
         IsWrongFrom export_shape.slots export_shape.peers 1 (drop 1 (texts words.now)) (usage_of u)) }
 {
     let store = slots::store(words, 1)?;
-    let descriptor = slots::descriptor(words, 2)?;
+    let target = slots::target(words, 2)?;
     slots::end(words, 3)?;
-    Ok(Command::Export { store, descriptor })
+    Ok(Command::Export { store, target })
 }
 
 pub(crate) fn upgrade(words: &[String]) -> Result<Command<'_>, Usage>

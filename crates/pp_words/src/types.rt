@@ -21,10 +21,10 @@ pub enum Command<'a> {
         store: &'a str,
         chunk: u32,
     },
-    /// `seed STORE DESCRIPTOR LISTEN TURNS`
+    /// `seed STORE TARGET LISTEN TURNS`, with a descriptor or a name without the size for the target
     Seed {
         store: &'a str,
-        descriptor: Descriptor,
+        target: Target,
         listen: Address,
         turns: u32,
     },
@@ -37,15 +37,15 @@ pub enum Command<'a> {
         order: Order,
         peers: ArrayVec<Address, 16>,
     },
-    /// `check STORE TARGET`, with a descriptor or a name without the size for the target
+    /// `check STORE TARGET`
     Check {
         store: &'a str,
         target: Target,
     },
-    /// `export STORE DESCRIPTOR`
+    /// `export STORE TARGET`
     Export {
         store: &'a str,
-        descriptor: Descriptor,
+        target: Target,
     },
     /// `upgrade STORE DESCRIPTOR`
     Upgrade {

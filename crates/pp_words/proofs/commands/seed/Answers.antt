@@ -1,7 +1,8 @@
 use Rattle.std.proofs.Common.{◌^◌, [], ◌∷◌}
 use Rattle.std.proofs.lemmas.Result.{err_from_is_err_and}
-use Rattle.pp_words.specs.CommandLine.{AStore, ANumber, ADescriptor, AnAddress}
+use Rattle.pp_words.specs.CommandLine.{AStore, ANumber, ATarget, AnAddress}
 use Rattle.pp_outside.specs.Outside.{address_of}
+use Rattle.pp_targets.specs.Names.{target_of}
 use Rattle.pp_words.specs.Views.{texts, usage_of}
 use Rattle.pp_words.proofs.WordSteps.{step}
 use Rattle.pp_words.proofs.commands.seed.Goals as goal
@@ -9,31 +10,31 @@ use Rattle.pp_words.proofs.commands.seed.Goals as goal
 pub returns-in_err-store-clause-err : goal.returns-in_err-store-clause-err
 returns-in_err-store-clause-err c =
     let p = err_from_is_err_and c.from_residual.result c.from_residual.ensures.1 in
-    rw (p.1, p.2) (c.in_err-store.ensures.err (ADescriptor ∷ AnAddress ∷ ANumber 1 (2 ^ 32) ∷ []) 0)
+    rw (p.1, p.2) (c.in_err-store.ensures.err (ATarget ∷ AnAddress ∷ ANumber 1 (2 ^ 32) ∷ []) 0)
 
-pub returns-in_err-descriptor-clause-err : goal.returns-in_err-descriptor-clause-err
-returns-in_err-descriptor-clause-err c =
-    let p = err_from_is_err_and c.from_residual-in_err-descriptor.result c.from_residual-in_err-descriptor.ensures.1 in
-    rw (p.1, p.2) (step AStore (ADescriptor ∷ AnAddress ∷ ANumber 1 (2 ^ 32) ∷ []) 0 1 (texts c.args.words.now) c.in_ok-store.store.now (usage_of c.in_err-descriptor.field-0.0)
+pub returns-in_err-target-clause-err : goal.returns-in_err-target-clause-err
+returns-in_err-target-clause-err c =
+    let p = err_from_is_err_and c.from_residual-in_err-target.result c.from_residual-in_err-target.ensures.1 in
+    rw (p.1, p.2) (step AStore (ATarget ∷ AnAddress ∷ ANumber 1 (2 ^ 32) ∷ []) 0 1 (texts c.args.words.now) c.in_ok-store.store.now (usage_of c.in_err-target.field-0.0)
     c.in_ok-store.ensures.ok.0 c.in_ok-store.ensures.ok.1
-    (c.in_err-descriptor.ensures.err (AnAddress ∷ ANumber 1 (2 ^ 32) ∷ []) 0))
+    (c.in_err-target.ensures.err (AnAddress ∷ ANumber 1 (2 ^ 32) ∷ []) 0))
 
 pub returns-in_err-listen-clause-err : goal.returns-in_err-listen-clause-err
 returns-in_err-listen-clause-err c =
     let p = err_from_is_err_and c.from_residual-in_err-listen.result c.from_residual-in_err-listen.ensures.1 in
-    rw (p.1, p.2) (step AStore (ADescriptor ∷ AnAddress ∷ ANumber 1 (2 ^ 32) ∷ []) 0 1 (texts c.args.words.now) c.in_ok-store.store.now (usage_of c.in_err-listen.field-0.0)
+    rw (p.1, p.2) (step AStore (ATarget ∷ AnAddress ∷ ANumber 1 (2 ^ 32) ∷ []) 0 1 (texts c.args.words.now) c.in_ok-store.store.now (usage_of c.in_err-listen.field-0.0)
     c.in_ok-store.ensures.ok.0 c.in_ok-store.ensures.ok.1
-    (step ADescriptor (AnAddress ∷ ANumber 1 (2 ^ 32) ∷ []) 0 2 (texts c.args.words.now) c.in_ok-descriptor.ensures.ok.0 (usage_of c.in_err-listen.field-0.0)
-    c.in_ok-descriptor.ensures.ok.1 (c.in_ok-descriptor.descriptor, c.in_ok-descriptor.ensures.ok.2)
+    (step ATarget (AnAddress ∷ ANumber 1 (2 ^ 32) ∷ []) 0 2 (texts c.args.words.now) c.in_ok-target.ensures.ok.0 (usage_of c.in_err-listen.field-0.0)
+    c.in_ok-target.ensures.ok.1 (target_of c.in_ok-target.target, c.in_ok-target.ensures.ok.2)
     (c.in_err-listen.ensures.err (ANumber 1 (2 ^ 32) ∷ []) 0)))
 
 pub returns-in_err-turns-clause-err : goal.returns-in_err-turns-clause-err
 returns-in_err-turns-clause-err c =
     let p = err_from_is_err_and c.from_residual-in_err-turns.result c.from_residual-in_err-turns.ensures.1 in
-    rw (p.1, p.2) (step AStore (ADescriptor ∷ AnAddress ∷ ANumber 1 (2 ^ 32) ∷ []) 0 1 (texts c.args.words.now) c.in_ok-store.store.now (usage_of c.in_err-turns.field-0.0)
+    rw (p.1, p.2) (step AStore (ATarget ∷ AnAddress ∷ ANumber 1 (2 ^ 32) ∷ []) 0 1 (texts c.args.words.now) c.in_ok-store.store.now (usage_of c.in_err-turns.field-0.0)
     c.in_ok-store.ensures.ok.0 c.in_ok-store.ensures.ok.1
-    (step ADescriptor (AnAddress ∷ ANumber 1 (2 ^ 32) ∷ []) 0 2 (texts c.args.words.now) c.in_ok-descriptor.ensures.ok.0 (usage_of c.in_err-turns.field-0.0)
-    c.in_ok-descriptor.ensures.ok.1 (c.in_ok-descriptor.descriptor, c.in_ok-descriptor.ensures.ok.2)
+    (step ATarget (AnAddress ∷ ANumber 1 (2 ^ 32) ∷ []) 0 2 (texts c.args.words.now) c.in_ok-target.ensures.ok.0 (usage_of c.in_err-turns.field-0.0)
+    c.in_ok-target.ensures.ok.1 (target_of c.in_ok-target.target, c.in_ok-target.ensures.ok.2)
     (step AnAddress (ANumber 1 (2 ^ 32) ∷ []) 0 3 (texts c.args.words.now) c.in_ok-listen.ensures.ok.0 (usage_of c.in_err-turns.field-0.0)
     c.in_ok-listen.ensures.ok.1 (address_of c.in_ok-listen.listen, c.in_ok-listen.ensures.ok.2)
     (c.in_err-turns.ensures.err [] 0))))
