@@ -1,7 +1,6 @@
 -- What is found of a store by its swarm's name, step by step.
-use Rattle.std.proofs.Common.{◌≡◌, ◌⊎◌, inl, inr, ℕ, ◌<◌, ◌≤◌, List, [], ◌∷◌, ◌++◌, length, get_or, Result, Ok, Err, OnOk, refl, sym, ◌∙◌, ap, subst, codes, decimal, append_assoc, arith}
+use Rattle.std.proofs.Common.{◌≡◌, inl, inr, ℕ, ◌<◌, ◌≤◌, List, [], ◌∷◌, ◌++◌, length, get_or, Result, Ok, Err, OnOk, refl, sym, ◌∙◌, ap, subst, codes, decimal, append_assoc, arith}
 use Rattle.std.specs.Prelude.{Bool, slice_index, Option, Some, None}
-use Rattle.pp_terms.specs.Count.{HasRisen}
 use Rattle.pp_terms.specs.command.Stream.{SinkState, Gains}
 use Rattle.pp_terms.specs.disk.Disk.{DiskState, History, IsKnown}
 use Rattle.pp_terms.specs.disk.Store.{header, HasHeader}
@@ -13,14 +12,13 @@ use Rattle.pp_scan.specs.Look.{KeepsAll}
 use Rattle.pp_scan.specs.declared.scanning.ScanFault.{ScanFault}
 use Rattle.pp_scan.specs.declared.scanning.ScanFault.TheVariants as scans
 use Rattle.pp_stream.proofs.Written.{gains_more}
-use Rattle.pp_targets.specs.Target.{SwarmName, IsOfName}
-use Rattle.pp_named.specs.Front.{sized, size_in, IsFixed}
-use Rattle.pp_named.specs.Shape.{IsMisshapen, IsFirstMisshapen}
+use Rattle.pp_targets.specs.Target.{SwarmName}
+use Rattle.pp_named.specs.Front.{sized, size_in}
 use Rattle.pp_named.specs.Told.{HasTold, TellsDescriptor}
 use Rattle.pp_named.specs.declared.probing.NameFault.{NameFault}
 use Rattle.pp_named.specs.declared.probing.NameFault.TheVariants as probes
 use Rattle.pp_node.specs.Looking.{HasLooked, IsFound, IsOther}
-use Rattle.pp_node.specs.Naming.{IsTold, IsOtherThan, IsChanged, IsOfNoSize, IsScanned, HasFound, IsOutOfShape, FindsNamed, IsInShape, IsRootedByName, fault_of_name, shape_line, ReportsNaming, NamedChecksIn}
+use Rattle.pp_node.specs.Naming.{IsTold, IsOtherThan, IsChanged, IsOfNoSize, IsScanned, HasFound, FindsNamed, IsInShape, fault_of_name, shape_line, ReportsNaming, NamedChecksIn}
 use Rattle.pp_node.specs.Outside.{Outside}
 use Rattle.pp_node.specs.declared.naming.Found.{Found}
 use Rattle.pp_node.specs.declared.naming.NamingFault.{NamingFault}
@@ -83,7 +81,7 @@ module _ (name : SwarmName) (old mid new : DiskState) (known_mid : IsKnown old �
     begins = λ known. is.begins (known_mid known);
   }
 
-  other_later : (at found want : ℕ) → IsOtherThan name at found want mid new → IsOtherThan name at found want old new
+  pub other_later : (at found want : ℕ) → IsOtherThan name at found want mid new → IsOtherThan name at found want old new
   other_later at found want is = record {
     within = is.within;
     fixed = is.fixed;
@@ -158,7 +156,7 @@ module _ (name : SwarmName) (old new : DiskState) (fresh : IsKnown old → IsFre
   }
 
   -- an empty file, whose first byte counts as a zero
-  fresh_other : (IsKnown old → old.history.reads ≡ []) → IsOtherThan name 0 0 80 old new
+  pub fresh_other : (IsKnown old → old.history.reads ≡ []) → IsOtherThan name 0 0 80 old new
   fresh_other empty = record {
     within = omega arith;
     fixed = inl (omega arith);
@@ -169,7 +167,7 @@ module _ (name : SwarmName) (old new : DiskState) (fresh : IsKnown old → IsFre
     untouched = kept_fresh;
   }
 
-  other_kept : (at found want : ℕ) → HasTold name old new (Err (probes.NotAStore at found want)) → IsOtherThan name at found want old new
+  pub other_kept : (at found want : ℕ) → HasTold name old new (Err (probes.NotAStore at found want)) → IsOtherThan name at found want old new
   other_kept at found want is = record {
     within = is.within;
     fixed = is.fixed;
@@ -180,7 +178,7 @@ module _ (name : SwarmName) (old new : DiskState) (fresh : IsKnown old → IsFre
     untouched = kept_fresh;
   }
 
-  size_kept : (size : ℕ) → HasTold name old new (Err (probes.Size size)) → IsOfNoSize name size old new
+  pub size_kept : (size : ℕ) → HasTold name old new (Err (probes.Size size)) → IsOfNoSize name size old new
   size_kept size is = record {
     cause = is.cause;
     some = λ known. subst (λ (r : List ℕ). 0 < length r) (sym (kept_found known)) (is.some known);

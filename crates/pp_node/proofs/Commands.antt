@@ -1,5 +1,5 @@
 -- How a run ended, from how the command ended that its words spell.
-use Rattle.std.proofs.Common.{◌≡◌, ◌⊎◌, ℕ, ◌+◌, List, [], ◌∷◌, codes, refl, sym, ◌∙◌, subst}
+use Rattle.std.proofs.Common.{◌≡◌, ◌⊎◌, inl, inr, ℕ, ◌+◌, List, [], ◌∷◌, codes, refl, sym, ◌∙◌, subst}
 use Rattle.pp_terms.specs.command.Order.{Order}
 use Rattle.pp_words.specs.Commands.{Command, Import, Seed, Fetch, Check, Export, Upgrade, Replay, Rehearse, Play, Record, Audit}
 use Rattle.pp_words.specs.CommandLine.{Spells, IsImport, IsSeed, IsFetch, IsPlay, IsOnStore, IsOnTarget, IsRehearse, IsRecord, IsOneOf, IsFirstWrong}
@@ -19,6 +19,8 @@ use Rattle.pp_node.specs.Outside.{Outside, outside}
 use Rattle.pp_node.specs.Checking.{ChecksIn, CheckEnds}
 use Rattle.pp_node.specs.Naming.{IsTold, IsRootedByName, NamedChecksIn, NamedCheckEnds}
 use Rattle.pp_node.specs.Exporting.{ExportsIn, ExportEnds}
+use Rattle.pp_node.specs.NamedExporting.{NamedExportsIn, NamedExportEnds}
+use Rattle.pp_node.specs.NamedSeeding.{NamedWords, UntoldIn, NamedSeedEnds}
 use Rattle.pp_node.specs.Playing.{PlaysIn, PlayEnds}
 use Rattle.pp_node.specs.Promising.{PeerWords, SeedsIn, SeedEnds, FetchesIn, FetchEnds}
 use Rattle.pp_world.specs.Rehearsal.{first_words, rehearsal_key, rehearsal_text}
@@ -70,6 +72,14 @@ module _ (status : Status) (store : List ℕ) (link : LinkState) (disk disk' : D
   export_ended d source book book' ends named unwritten lasts rooted =
       record { status = status; number = refl; ends = ends link source; named = named; unwritten = unwritten; lasts = lasts; unread = refl; rooted = rooted }
 
+  pub named_export_ended : (name : SwarmName) (source : SourceState) (book book' : BookState)
+      → ((l : LinkState) (s : SourceState) → NamedExportsIn status name (outside disk l s sink book) (outside disk' l s sink' book'))
+      → (IsKnown disk → GainsName disk.history.names store disk'.history.names) → IsUnwritten disk disk'
+      → (IsKnown disk → (e : Descriptor) → IsTold name e disk disk' → Lasts e disk'.history) → IsRootedByName name book book'
+      → NamedExportEnds (number_of status) store name (outside disk link source sink book) (outside disk' link source sink' book')
+  named_export_ended name source book book' ends named unwritten lasts rooted =
+      record { status = status; number = refl; ends = ends link source; named = named; unwritten = unwritten; lasts = lasts; unread = refl; rooted = rooted }
+
   pub upgrade_ended : (d : Descriptor) (source source' : SourceState) (book book' : BookState)
       → ((l : LinkState) → UpgradesIn status d (outside disk l source sink book) (outside disk' l source' sink' book'))
       → (IsKnown disk → GainsName disk.history.names store disk'.history.names) → IsUpgradeRun status d source source' disk disk' → (book' ≡ book) ⊎ IsBookOf d book'
@@ -109,8 +119,11 @@ module _ (words : List (List ℕ)) (command : Command) (status : Status) (result
   pub import_ends : (store : List ℕ) (chunk : ℕ) → IsImport words store chunk → ImportEnds result store chunk old new
   import_ends store chunk spelled = ended_as (Import store chunk) spelled
 
-  pub seed_ends : (w : PeerWords) → IsSeed words w.store w.descriptor w.listen w.turns → SeedEnds result w old new
-  seed_ends w spelled = ended_as (Seed w.store w.descriptor w.listen w.turns) spelled
+  pub seed_ends : (w : PeerWords) → IsSeed words w.store (Sized w.descriptor) w.listen w.turns → SeedEnds result w old new
+  seed_ends w spelled = ended_as (Seed w.store (Sized w.descriptor) w.listen w.turns) spelled
+
+  pub named_seed_ends : (w : NamedWords) → IsSeed words w.store (Auto w.name) w.listen w.turns → NamedSeedEnds result w old new
+  named_seed_ends w spelled = ended_as (Seed w.store (Auto w.name) w.listen w.turns) spelled
 
   pub fetch_ends : (w : PeerWords) (order : Order) (peers : List Address) → IsFetch words w.store w.descriptor w.listen w.turns order peers
       → FetchEnds result w peers old new
@@ -128,9 +141,13 @@ module _ (words : List (List ℕ)) (command : Command) (status : Status) (result
       → NamedCheckEnds result store name old new
   named_check_ends store name spelled = ended_as (Check store (Auto name)) spelled
 
-  pub export_ends : (store : List ℕ) (descriptor : Descriptor) → IsOnStore (codes "export") words store descriptor
+  pub export_ends : (store : List ℕ) (descriptor : Descriptor) → IsOnTarget (codes "export") words store (Sized descriptor)
       → ExportEnds result store descriptor old new
-  export_ends store descriptor spelled = ended_as (Export store descriptor) spelled
+  export_ends store descriptor spelled = ended_as (Export store (Sized descriptor)) spelled
+
+  pub named_export_ends : (store : List ℕ) (name : SwarmName) → IsOnTarget (codes "export") words store (Auto name)
+      → NamedExportEnds result store name old new
+  named_export_ends store name spelled = ended_as (Export store (Auto name)) spelled
 
   pub upgrade_ends : (store : List ℕ) (descriptor : Descriptor) → IsOnStore (codes "upgrade") words store descriptor
       → UpgradeEnds result store descriptor old new
@@ -168,13 +185,20 @@ usage_only NoLife is = absurd cc
 usage_only TooLarge is = absurd cc
 usage_only Shape is = absurd cc
 
+never_seeds : (w : PeerWords) (number : ℕ) (old new : Outside) → number ≡ 1 → SeedEnds number w old new → ⊥
+never_seeds w number old new one end =
+    subst (λ (s : Status). SeedsIn s w old new end.run.added) (usage_only end.run.status (sym end.run.number ∙ one)) end.ends
+
 -- no command ends as wrong words do
 never : (c : Command) (number : ℕ) (old new : Outside) → number ≡ 1 → HasEnded c number old new → ⊥
 never (Import store chunk) number old new one end =
     subst (λ (s : Status). ImportsIn s chunk old new) (usage_only end.status (sym end.number ∙ one)) end.ends
-never (Seed store descriptor listen turns) number old new one end =
-    subst (λ (s : Status). SeedsIn s (record { store = store; descriptor = descriptor; listen = listen; turns = turns }) old new end.run.added)
-    (usage_only end.run.status (sym end.run.number ∙ one)) end.ends
+never (Seed store (Sized descriptor) listen turns) number old new one end = never_seeds (record { store = store; descriptor = descriptor; listen = listen; turns = turns }) number old new one end
+never (Seed store (Auto name) listen turns) number old new one (inl untold) =
+    subst (λ (s : Status). UntoldIn s name old new) (usage_only untold.status (sym untold.number ∙ one)) untold.ends
+never (Seed store (Auto name) listen turns) number old new one (inr (e, told, inl end)) =
+    never_seeds (record { store = store; descriptor = e; listen = listen; turns = turns }) number old new one end.seeds
+never (Seed store (Auto name) listen turns) number old new one (inr (e, told, inr end)) = let number : number_of Shape ≡ 1 = sym end.number ∙ one in cc
 never (Check store (Sized descriptor)) number old new one end =
     subst (λ (s : Status). ChecksIn s descriptor old new) (usage_only end.status (sym end.number ∙ one)) end.ends
 never (Check store (Auto name)) number old new one end =
@@ -182,8 +206,10 @@ never (Check store (Auto name)) number old new one end =
 never (Fetch store descriptor listen turns order peers) number old new one end =
     subst (λ (s : Status). FetchesIn s (record { store = store; descriptor = descriptor; listen = listen; turns = turns }) old new end.run.added)
     (usage_only end.run.status (sym end.run.number ∙ one)) end.ends
-never (Export store descriptor) number old new one end =
+never (Export store (Sized descriptor)) number old new one end =
     subst (λ (s : Status). ExportsIn s descriptor old new) (usage_only end.status (sym end.number ∙ one)) end.ends
+never (Export store (Auto name)) number old new one end =
+    subst (λ (s : Status). NamedExportsIn s name old new) (usage_only end.status (sym end.number ∙ one)) end.ends
 never (Upgrade store descriptor) number old new one end =
     subst (λ (s : Status). UpgradesIn s descriptor old new) (usage_only end.status (sym end.number ∙ one)) end.ends
 never Replay number old new one end =

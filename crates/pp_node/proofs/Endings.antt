@@ -31,7 +31,7 @@ use Rattle.pp_node.specs.declared.preparing.SeedFault.{SeedFault}
 use Rattle.pp_node.specs.declared.preparing.SeedFault.TheVariants as fault
 use Rattle.pp_node.specs.declared.status.Status.{Status}
 use Rattle.pp_node.specs.declared.status.Status.TheVariants.{Done, Usage, NotAStore, Incomplete, DiskFault, LinkFault, SourceFault, SinkFault, NotEmpty, ContentSize, Schedule, Memory, Damaged, AuditNo, Recording, NoLife, TooLarge, Shape}
-use Rattle.pp_node.proofs.Peers.{WasReady, HasBook, b, start, d_is, went_closed, is_closed, early_now, all_taken, complete_now, missing_now, peer_ends, bound_now, run_now, stopped_now, asks_none_now, kept_to_now, dialled_now, asked_now, unkept, unwilling}
+use Rattle.pp_node.proofs.Peers.{WasReady, HasBook, b, start, d_is, found_same, went_closed, is_closed, early_now, all_taken, complete_now, missing_now, peer_ends, bound_now, run_now, stopped_now, asks_none_now, kept_to_now, dialled_now, asked_now, unkept, unwilling}
 
 -- ---- a fault is one of both commands
 
@@ -93,9 +93,16 @@ pub record HasFault (number : ℕ) (w : PeerWords) (old new : Outside) : Type 0 
   pub ends : FaultsIn run.status w old new run.added
   pub dials : (dial : List Address) → DialsAsTold w.descriptor dial old new run.added
   pub asks : AsksAsOffered w.descriptor old new run.added
+  pub none : run.added ≡ []
 
 pub seed_fault : (number : ℕ) (w : PeerWords) (old new : Outside) → HasFault number w old new → SeedEnds number w old new
 seed_fault number w old new f = record { run = f.run; kept_to = f.kept_to; asks_none = f.asks_none; ends = seeds_in f.run.status w old new f.run.added f.ends }
+
+-- with no record
+pub seed_unsent : (number : ℕ) (w : PeerWords) (old new : Outside) → HasFault number w old new
+    → (ends : SeedEnds number w old new) × (ends.run.added ≡ [])
+unfolding seed_fault
+seed_unsent number w old new f = (seed_fault number w old new f, f.none)
 
 pub fetch_fault : (number : ℕ) (w : PeerWords) (dial : List Address) (old new : Outside) → HasFault number w old new
     → FetchEnds number w dial old new
@@ -140,6 +147,7 @@ module _ (w : Peering) (old new : Outside) (leaves : Leaves w old new) where
     dials = λ dial few some. absurd (let same = unsent.nexts in omega (arith, some, same));
     asks = λ before tells steady counts.
         inl (asks_none (words_of w).descriptor _ (λ i. holds (words_of w).descriptor new.disk.history.reads i), tt);
+    none = refl;
   }
 
   pub unturned : IsUnsent old.link new.link → IsUnturned old new []
@@ -349,3 +357,24 @@ module _ (w : Peering) (old new : Outside) (opened : DiskState) (listens : LinkS
   fetch_served NoLife asked all s = absurd s
   fetch_served TooLarge asked all s = absurd s
   fetch_served Shape asked all s = absurd s
+
+  -- what reads gave at the attachment is remembered
+  pub found_served : (status : Status) → Served status → IsKnown old.disk → new.disk.history.found ≡ opened.history.found
+  found_served Done s known = found_same w old new opened listens first r s.0.takes.taken last (went_closed w old new opened listens first r w.turns fetches last s.0) k known
+  found_served Incomplete s known = found_same w old new opened listens first r s.0.takes.taken last (went_closed w old new opened listens first r w.turns fetches last s.0) k known
+  found_served SinkFault s known = found_same w old new opened listens first r s.0.takes.taken last (went_closed w old new opened listens first r w.turns fetches last s.0) k known
+  found_served DiskFault s known = found_same w old new opened listens first r s.0.taken last s.0.stops.went k known
+  found_served Usage s known = absurd s
+  found_served NotAStore s known = absurd s
+  found_served LinkFault s known = absurd s
+  found_served SourceFault s known = absurd s
+  found_served NotEmpty s known = absurd s
+  found_served ContentSize s known = absurd s
+  found_served Schedule s known = absurd s
+  found_served Memory s known = absurd s
+  found_served Damaged s known = absurd s
+  found_served AuditNo s known = absurd s
+  found_served Recording s known = absurd s
+  found_served NoLife s known = absurd s
+  found_served TooLarge s known = absurd s
+  found_served Shape s known = absurd s

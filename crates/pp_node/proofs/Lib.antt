@@ -7,11 +7,13 @@ pub mod ByName
 pub mod Readies
 pub mod Peers
 pub mod Endings
+pub mod NamedSeeds
 pub mod Spans
 pub mod Upgrades
 pub mod Commands
 pub mod Seeds
 pub mod Exports
+pub mod NamedExports
 pub mod Replays
 pub mod Untroubled
 pub mod Plays

@@ -1,5 +1,5 @@
 -- What is known of a peer that is made ready, step by step.
-use Rattle.std.proofs.Common.{◌≡◌, true, inl, inr, ℕ, zero, suc, ◌<◌, ◌≤◌, Option, List, [], ◌∷◌, length, drop, Result, Ok, Err, refl, sym, ◌∙◌, ap, subst, arith}
+use Rattle.std.proofs.Common.{◌≡◌, Bool, true, inl, inr, ℕ, zero, suc, ◌<◌, ◌≤◌, Option, List, [], ◌∷◌, length, drop, Result, Ok, Err, refl, sym, ◌∙◌, ap, subst, arith}
 use Rattle.pp_terms.specs.format.Descriptor.{Descriptor}
 use Rattle.pp_terms.specs.disk.Disk.{DiskState, History, Epoch, IsImage, WasImage, MayLeaveSince, IsKnown, moment_of}
 use Rattle.pp_terms.specs.format.Traffic.{Address, LinkState, GainsAddress}
@@ -21,6 +21,8 @@ use Rattle.pp_scan.specs.Header.{IsDifference}
 use Rattle.pp_scan.specs.declared.scanning.ScanFault.{ScanFault}
 use Rattle.pp_scan.specs.declared.scanning.ScanFault.TheVariants as scans
 use Rattle.pp_scan.specs.Scan.{IsScanned}
+use Rattle.pp_scan.specs.Layers.{HasKnown}
+use Rattle.pp_terms.specs.tree.Book.{LookUp}
 use Rattle.pp_store.specs.Probe.{HasProbed}
 use Rattle.pp_store.specs.declared.findings.ProbeFault.{ProbeFault}
 use Rattle.pp_store.specs.declared.findings.ProbeFault.TheVariants as probes
@@ -125,6 +127,9 @@ module _ (w : Peering) (old new : DiskState) (fresh : IsKnown old → IsFreshlyA
   pub found_opened : IsKnown old → new.history.found ≡ old.history.reads
   found_opened known = (attachment known).found ∙ (fresh known).showed
 
+  pub known_opened : (book : LookUp) (set : List Bool) → IsScanned d old book set → IsKnown old → HasKnown d new.history.found book
+  known_opened book set scanned known = subst (λ (reads : List ℕ). HasKnown d reads book) (sym (found_opened known)) (scanned.known known)
+
   pub begins_opened : IsKnown old → IsOf d new.history.found
   begins_opened known = subst (IsOf d) (sym (found_opened known)) (begins known)
 
@@ -181,7 +186,7 @@ module _ (w : Peering) (old mid new : DiskState) (seen seen' : LinkState) (tells
   known_mid : IsKnown old → IsKnown mid
   known_mid = known_on old mid tells honest
 
-  ready_since : (p : PeerState) (room : ℕ) → IsReady w mid new p room → IsReady w old new p room
+  pub ready_since : (p : PeerState) (room : ℕ) → IsReady w mid new p room → IsReady w old new p room
   ready_since p room r = record {
     begun = r.begun;
     stands = r.stands;
@@ -199,6 +204,7 @@ module _ (w : Peering) (old mid new : DiskState) (seen seen' : LinkState) (tells
     hard = let more = r.hard in omega (arith, hard, more);
     buffer = r.buffer;
     held = r.held;
+    knows = λ known. r.knows (known_mid known);
   }
 
   pub prepared_since : (result : Result Ready SeedFault) → HasPrepared w mid new seen seen' result → HasPrepared w old new seen seen' result

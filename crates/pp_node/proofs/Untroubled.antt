@@ -26,10 +26,13 @@ use Rattle.pp_node.specs.Checking.{ChecksIn}
 use Rattle.pp_node.specs.Commanding.{HasEnded}
 use Rattle.pp_node.specs.Exporting.{ExportsIn}
 use Rattle.pp_node.specs.Looking.{IsOf, IsOther}
-use Rattle.pp_node.specs.Naming.{IsOtherThan, IsChanged, NamedChecksIn}
+use Rattle.pp_node.specs.Naming.{IsTold, IsOtherThan, IsChanged, NamedChecksIn}
+use Rattle.pp_node.specs.NamedExporting.{NamedExportsIn}
+use Rattle.pp_node.proofs.ByName.{told_once}
 use Rattle.pp_node.specs.Outside.{Outside}
 use Rattle.pp_node.specs.Playing.{PlaysIn}
-use Rattle.pp_node.specs.Promising.{PeerWords, SeedsIn, FetchesIn}
+use Rattle.pp_node.specs.NamedSeeding.{NamedWords, words_with, UntoldIn, NamedSeedEnds}
+use Rattle.pp_node.specs.Promising.{PeerWords, SeedsIn, SeedEnds, FetchesIn}
 use Rattle.pp_recording.specs.Recording as recordings
 use Rattle.pp_recording.specs.Recording.{Recorded, recording_text, IsWithin}
 use Rattle.pp_node.specs.Auditing.{AuditsIn, AuditsText}
@@ -135,6 +138,36 @@ module _ (old new : Outside) (u : IsUntroubled old new) where
   seeded w added NoSchedule own ends = absurd ends
   seeded w added Damaged own ends = absurd ends
 
+  seeds_well : (w : PeerWords) (result : ℕ) → FindsOwn w.descriptor old new → SeedEnds result w old new → IsDoneOrShort result
+  seeds_well w result own end = subst IsDoneOrShort (sym end.run.number) (seeded w end.run.added end.run.status own end.ends)
+
+  untold : (name : SwarmName) (s : Status) → FindsOfName name old new → UntoldIn s name old new → number_of s ≡ number_of ContentSize
+  untold name NotAStore own ends = absurd (none_differs_named name ends.at ends.found ends.want old.disk new.disk own.known own.size own.begins ends.other)
+  untold name DiskFault own ends = absurd (u.disk ends.risen)
+  untold name ContentSize own ends = refl
+  untold name Done own ends = absurd ends
+  untold name Usage own ends = absurd ends
+  untold name Incomplete own ends = absurd ends
+  untold name LinkFault own ends = absurd ends
+  untold name SourceFault own ends = absurd ends
+  untold name SinkFault own ends = absurd ends
+  untold name NotEmpty own ends = absurd ends
+  untold name NoSchedule own ends = absurd ends
+  untold name Memory own ends = absurd ends
+  untold name Damaged own ends = absurd ends
+  untold name Shape own ends = absurd ends
+  untold name AuditNo own ends = absurd ends
+  untold name NoRecording own ends = absurd ends
+  untold name NoLife own ends = absurd ends
+  untold name TooLarge own ends = absurd ends
+
+  seeds_by_name : (w : NamedWords) (result : ℕ) → FindsOfName w.name old new → NamedSeedEnds result w old new
+      → IsDoneOrShort result ⊎ (result ≡ number_of ContentSize) ⊎ (result ≡ number_of Shape)
+  seeds_by_name w result own (inl none) = inr (inl (none.number ∙ untold w.name none.status own none.ends))
+  seeds_by_name w result own (inr (e, told, inl end)) =
+      inl (seeds_well (words_with w e) result (record { known = own.known; begins = inr (told.begins own.known) }) end.seeds)
+  seeds_by_name w result own (inr (e, told, inr end)) = inr (inr end.number)
+
   fetched : (w : PeerWords) (added : List Record) (s : Status) → FindsOwn w.descriptor old new → FetchesIn s w old new added → IsDoneOrMissing (number_of s)
   fetched w added Done own ends = inl (inl refl)
   fetched w added Incomplete own ends = inr refl
@@ -177,6 +210,35 @@ module _ (old new : Outside) (u : IsUntroubled old new) where
   exported d NotEmpty own ends = absurd ends
   exported d ContentSize own ends = absurd ends
   exported d NoSchedule own ends = absurd ends
+
+  abbrev IsExportAnswer : SwarmName → ℕ → Type 0
+  IsExportAnswer name n = IsDoneOrMissing n ⊎ (n ≡ number_of ContentSize) ⊎ (n ≡ number_of Shape)
+      ⊎ ((n ≡ number_of Damaged) × ((e : Descriptor) → IsTold name e old.disk new.disk → BeganSound e new.disk.history → ⊥))
+
+  named_exported : (name : SwarmName) (s : Status) → FindsOfName name old new → NamedExportsIn s name old new → IsExportAnswer name (number_of s)
+  named_exported name Done own ends = inl (inl (inl refl))
+  named_exported name Incomplete own ends = inl (inr refl)
+  named_exported name NotAStore own ends = absurd (none_differs_named name ends.at ends.found ends.want old.disk new.disk own.known own.size own.begins ends.other)
+  named_exported name DiskFault own (inl ends) = absurd (u.disk ends.risen)
+  named_exported name DiskFault own (inr ends) = absurd (u.disk ends.ends.refused.risen)
+  named_exported name SinkFault own ends = absurd (u.sink ends.ends.risen)
+  named_exported name ContentSize own ends = inr (inl refl)
+  named_exported name Memory own ends = inl (inl (inr refl))
+  named_exported name Damaged own ends = inr (inr (inr (
+    refl,
+    λ e told began. ends.ends.damaged.never own.known
+        (subst (λ (d : Descriptor). BeganSound d new.disk.history) (told_once name e ends.descriptor old.disk new.disk own.known told ends.scanned.told) began),
+  )))
+  named_exported name Shape own ends = inr (inr (inl refl))
+  named_exported name Usage own ends = absurd ends
+  named_exported name LinkFault own ends = absurd ends
+  named_exported name SourceFault own ends = absurd ends
+  named_exported name NotEmpty own ends = absurd ends
+  named_exported name NoSchedule own ends = absurd ends
+  named_exported name AuditNo own ends = absurd ends
+  named_exported name NoRecording own ends = absurd ends
+  named_exported name NoLife own ends = absurd ends
+  named_exported name TooLarge own ends = absurd ends
 
   imported : (chunk : ℕ) (s : Status) → FindsEmpty old new → (content : List ℕ) → old.source.left ≡ Some content → IsContentSize chunk (length content)
       → ImportsIn s chunk old new → number_of s ≡ 0
@@ -392,15 +454,16 @@ module _ (old new : Outside) (u : IsUntroubled old new) where
   -- what each command answers
   answers : (c : Command) (result : ℕ) → HasEnded c result old new → AnswersWell c result old new
   answers (Import store chunk) result end = λ own content left fits. end.number ∙ imported chunk end.status own content left fits end.ends
-  answers (Seed store d listen turns) result end = λ own. subst IsDoneOrShort (sym end.run.number)
-      (seeded (record { store = store; descriptor = d; listen = listen; turns = turns }) end.run.added end.run.status own end.ends)
+  answers (Seed store (Sized d) listen turns) result end = λ own. seeds_well (record { store = store; descriptor = d; listen = listen; turns = turns }) result own end
+  answers (Seed store (Auto name) listen turns) result end = λ own. seeds_by_name (record { store = store; name = name; listen = listen; turns = turns }) result own end
   answers (Fetch store d listen turns order peers) result end = λ own. subst IsDoneOrMissing (sym end.run.number)
       (fetched (record { store = store; descriptor = d; listen = listen; turns = turns }) end.run.added end.run.status own end.ends)
   answers (Check store (Sized d)) result end = λ own. subst IsDoneOrShort (sym end.number) (checked d end.status own end.ends)
   answers (Check store (Auto name)) result end = λ own. subst
       (λ (n : ℕ). IsDoneOrShort n ⊎ (n ≡ number_of ContentSize) ⊎ (n ≡ number_of Shape)) (sym end.number) (named_checked name end.status own end.ends)
-  answers (Export store d) result end = λ own. subst
+  answers (Export store (Sized d)) result end = λ own. subst
       (λ (n : ℕ). IsDoneOrMissing n ⊎ ((n ≡ number_of Damaged) × (BeganSound d new.disk.history → ⊥))) (sym end.number) (exported d end.status own end.ends)
+  answers (Export store (Auto name)) result end = λ own. subst (IsExportAnswer name) (sym end.number) (named_exported name end.status own end.ends)
   answers (Upgrade store d) result end = λ own bytes left has. subst IsDoneOrShort (sym end.number) (upgraded d end.status own bytes left has end.ends)
   answers Replay result end = λ content schedule left read. subst IsDoneOrShort (sym end.number) (replayed content schedule end.status left read end.ends)
   answers (Rehearse number) result end = subst IsDoneOrShort (sym end.is_number)

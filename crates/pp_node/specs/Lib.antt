@@ -13,6 +13,8 @@ pub mod Seeding
 pub mod Promising
 pub mod Playing
 pub mod Exporting
+pub mod NamedExporting
+pub mod NamedSeeding
 pub mod Upgrading
 pub mod Commanding
 pub mod Replaying

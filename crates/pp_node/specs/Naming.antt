@@ -1,5 +1,5 @@
 -- What a run of `check STORE DESC` does where DESC names a swarm without its size, which the store's header tells.
-use Rattle.std.specs.Prelude.{◌≡◌, ◌⊎◌, ℕ, ◌<◌, Bool, Ok, Err, List, ◌++◌, length, codes, decimal, slice_index, Result}
+use Rattle.std.specs.Prelude.{◌≡◌, ◌⊎◌, ℕ, ◌<◌, ◌≤◌, Bool, true, Ok, Err, List, ◌++◌, length, codes, decimal, slice_index, Result}
 use Rattle.pp_terms.specs.Count.{HasRisen}
 use Rattle.pp_terms.specs.command.Report.{line, disk_fault_line, content_size_line, not_a_store_line, SaysHeld}
 use Rattle.pp_terms.specs.command.Stream.{SinkState}
@@ -7,7 +7,6 @@ use Rattle.pp_terms.specs.disk.Disk.{DiskState, IsKnown, GainsName}
 use Rattle.pp_terms.specs.disk.Store.{header, HasHeader}
 use Rattle.pp_terms.specs.disk.Untouched.{IsFreshlyAttached}
 use Rattle.pp_terms.specs.format.Descriptor.{Descriptor, IsDescriptor}
-use Rattle.pp_terms.specs.tree.Book.{LookUp}
 use Rattle.pp_tree.specs.Book.{BookState, IsBookOf, entry}
 use Rattle.pp_targets.specs.Target.{SwarmName, Target, Sized, Auto, IsOfName}
 use Rattle.pp_named.specs.Front.{sized, size_in, IsFixed, IsNoSize}
@@ -15,6 +14,7 @@ use Rattle.pp_named.specs.Shape.{IsMisshapen, IsFirstMisshapen}
 use Rattle.pp_named.specs.declared.probing.NameFault.{NameFault}
 use Rattle.pp_named.specs.declared.probing.NameFault.TheVariants as names
 use Rattle.pp_node.specs.Checking.{CheckEnds}
+use Rattle.pp_node.specs.Faults.{Tells}
 use Rattle.pp_node.specs.Looking.{IsFound, IsOther, IsUnwritten, Lasts}
 use Rattle.pp_node.specs.Outside.{Outside}
 use Rattle.pp_node.specs.Status.{number_of}
@@ -100,6 +100,24 @@ IsInShape d set book (Err (fault.Shape node)) = IsFirstMisshapen d (entry book) 
 IsInShape d set book (Err fault.Disk) = ⊥
 IsInShape d set book (Err fault.Memory) = ⊥
 
+-- The store was attached by its name, and only read since.
+pub record HasAttached (store : List ℕ) (old new : DiskState) : Type 0 where
+  pub tells : new.tells ≡ old.tells
+  pub honest : new.honest ≡ old.honest
+  pub faults : old.faults ≤ new.faults
+  pub hard : old.hard ≤ new.hard
+  pub named : IsKnown old → GainsName old.history.names store new.history.names
+  pub fresh : IsKnown old → IsFreshlyAttached new.history
+
+-- The descriptor of the name that the header tells, or why it tells none.
+abbrev pub TellsNamed : SwarmName → DiskState → DiskState → Result Descriptor NamingFault → Type 0
+TellsNamed name old new (Ok e) = IsTold name e old new
+TellsNamed name old new (Err (fault.NotAStore at found want)) = IsOtherThan name at found want old new
+TellsNamed name old new (Err (fault.Size size)) = IsOfNoSize name size old new
+TellsNamed name old new (Err (fault.Shape node)) = ⊥
+TellsNamed name old new (Err fault.Disk) = HasRisen old.faults new.faults
+TellsNamed name old new (Err fault.Memory) = ⊥
+
 -- the book is as it was, or of a descriptor of the name
 abbrev pub IsRootedByName : SwarmName → BookState → BookState → Type 0
 IsRootedByName name old new = (new ≡ old) ⊎ ((e : Descriptor) × IsOfName name e × IsBookOf e new)
@@ -130,27 +148,28 @@ pub record IsUnsaidByName (name : SwarmName) (old new : Outside) : Type 0 where
   pub found : HasFound name descriptor set old.disk new.disk new.book
   pub risen : HasRisen old.sink.faults new.sink.faults
 
-pub record IsOtherFile (name : SwarmName) (old new : Outside) : Type 0 where
+-- Why nothing was found by the name, and what a command said of it that says its faults.
+pub record IsOtherFile (says : Bool) (name : SwarmName) (old new : Outside) : Type 0 where
   pub at : ℕ
   pub found : ℕ
   pub want : ℕ
   pub other : IsOtherThan name at found want old.disk new.disk ⊎ IsChanged name at found want old.disk new.disk
-  pub said : Says (not_a_store_line at found want) old.sink new.sink
+  pub said : Tells says (not_a_store_line at found want) old.sink new.sink
 
-pub record IsWrongSize (name : SwarmName) (old new : Outside) : Type 0 where
+pub record IsWrongSize (says : Bool) (name : SwarmName) (old new : Outside) : Type 0 where
   pub size : ℕ
   pub is : IsOfNoSize name size old.disk new.disk
-  pub said : Says (content_size_line size) old.sink new.sink
+  pub said : Tells says (content_size_line size) old.sink new.sink
 
-pub record IsMisshaped (name : SwarmName) (old new : Outside) : Type 0 where
+pub record IsMisshaped (says : Bool) (name : SwarmName) (old new : Outside) : Type 0 where
   pub layer : ℕ
   pub offset : ℕ
   pub is : IsOutOfShape name layer offset old.disk new.disk new.book
-  pub said : Says (shape_line layer offset) old.sink new.sink
+  pub said : Tells says (shape_line layer offset) old.sink new.sink
 
-pub record IsRefusedByDisk (old new : Outside) : Type 0 where
+pub record IsRefusedByDisk (says : Bool) (old new : Outside) : Type 0 where
   pub risen : HasRisen old.disk.faults new.disk.faults
-  pub said : Says disk_fault_line old.sink new.sink
+  pub said : Tells says disk_fault_line old.sink new.sink
 
 pub record IsOutOfMemory (name : SwarmName) (old new : Outside) : Type 0 where
   pub descriptor : Descriptor
@@ -160,12 +179,12 @@ pub record IsOutOfMemory (name : SwarmName) (old new : Outside) : Type 0 where
 -- When each status comes, and what was said.
 abbrev pub NamedChecksIn : Status → SwarmName → Outside → Outside → Type 0
 NamedChecksIn Done name old new = IsCheckedByName name old new
-NamedChecksIn NotAStore name old new = IsOtherFile name old new
-NamedChecksIn DiskFault name old new = IsRefusedByDisk old new
+NamedChecksIn NotAStore name old new = IsOtherFile true name old new
+NamedChecksIn DiskFault name old new = IsRefusedByDisk true old new
 NamedChecksIn SinkFault name old new = IsUnsaidByName name old new
-NamedChecksIn ContentSize name old new = IsWrongSize name old new
+NamedChecksIn ContentSize name old new = IsWrongSize true name old new
 NamedChecksIn Memory name old new = IsOutOfMemory name old new
-NamedChecksIn Shape name old new = IsMisshaped name old new
+NamedChecksIn Shape name old new = IsMisshaped true name old new
 NamedChecksIn _ name old new = ⊥
 
 -- A run of `check` by a name, by the number that it answers. The store was attached by its name. Since then nothing was written to it,

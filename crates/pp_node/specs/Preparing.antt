@@ -8,6 +8,8 @@ use Rattle.pp_terms.specs.disk.Untouched.{IsFreshlyAttached}
 use Rattle.pp_terms.specs.format.Traffic.{Address, LinkState, GainsAddress}
 use Rattle.pp_terms.specs.disk.Sound.{BeganSound}
 use Rattle.pp_traffic.specs.Keeping.{StoodThroughout}
+use Rattle.pp_tree.specs.Book.{entry}
+use Rattle.pp_scan.specs.Layers.{HasKnown}
 use Rattle.pp_scan.specs.declared.scanning.ScanFault.{ScanFault}
 use Rattle.pp_scan.specs.declared.scanning.ScanFault.TheVariants as scans
 use Rattle.pp_store.specs.Store.{is_committed}
@@ -61,6 +63,8 @@ pub record IsReady (w : Peering) (disk disk' : DiskState) (p : PeerState) (room 
   pub buffer : room ≡ 65536
   -- what a peer that fetches has is what it holds
   pub held : HasHeld p.parts
+  -- its book has exactly the nodes that were known at the attachment
+  pub knows : IsKnown disk → HasKnown w.descriptor.now disk'.history.found (entry p.parts.holding.book)
 
 -- When each answer comes.
 abbrev pub HasPrepared : Peering → DiskState → DiskState → LinkState → LinkState → Result Ready SeedFault → Type 0

@@ -14,6 +14,7 @@ use Rattle.pp_recording.specs.Recording.{Recorded, recording_text, IsWithin}
 use Rattle.pp_targets.specs.Target.{SwarmName, Sized, Auto}
 use Rattle.pp_named.specs.Front.{sized}
 use Rattle.pp_node.specs.Looking.{IsOf}
+use Rattle.pp_node.specs.Naming.{IsTold}
 use Rattle.pp_node.specs.Outside.{Outside}
 use Rattle.pp_node.specs.Status.{number_of}
 use Rattle.pp_node.specs.declared.status.Status.TheVariants.{Done, Incomplete, ContentSize, Memory, Damaged, Shape, AuditNo, NoLife, TooLarge}
@@ -58,13 +59,18 @@ abbrev pub AnswersWell : Command → ℕ → Outside → Outside → Type 0
 AnswersWell (Import store chunk) result old new =
     FindsEmpty old new → (content : List ℕ) → old.source.left ≡ Some content → IsContentSize chunk (length content)
     → result ≡ number_of Done
-AnswersWell (Seed store d listen turns) result old new = FindsOwn d old new → IsDoneOrShort result
+AnswersWell (Seed store (Sized d) listen turns) result old new = FindsOwn d old new → IsDoneOrShort result
+AnswersWell (Seed store (Auto name) listen turns) result old new =
+    FindsOfName name old new → IsDoneOrShort result ⊎ (result ≡ number_of ContentSize) ⊎ (result ≡ number_of Shape)
 AnswersWell (Fetch store d listen turns order peers) result old new = FindsOwn d old new → IsDoneOrMissing result
 AnswersWell (Check store (Sized d)) result old new = FindsOwn d old new → IsDoneOrShort result
 AnswersWell (Check store (Auto name)) result old new =
     FindsOfName name old new → IsDoneOrShort result ⊎ (result ≡ number_of ContentSize) ⊎ (result ≡ number_of Shape)
-AnswersWell (Export store d) result old new =
+AnswersWell (Export store (Sized d)) result old new =
     FindsOwn d old new → IsDoneOrMissing result ⊎ ((result ≡ number_of Damaged) × (BeganSound d new.disk.history → ⊥))
+AnswersWell (Export store (Auto name)) result old new =
+    FindsOfName name old new → IsDoneOrMissing result ⊎ (result ≡ number_of ContentSize) ⊎ (result ≡ number_of Shape)
+    ⊎ ((result ≡ number_of Damaged) × ((e : Descriptor) → IsTold name e old.disk new.disk → BeganSound e new.disk.history → ⊥))
 AnswersWell (Upgrade store d) result old new =
     FindsEmpty old new → (bytes : List ℕ) → old.source.left ≡ Some bytes → HasOldHeader d bytes → IsDoneOrShort result
 AnswersWell Replay result old new =

@@ -80,8 +80,8 @@ fn status_of(fault: ScanFault) -> Status
     }
 }
 
-// Writes the content, if the set has every chunk.
-fn put_found<D: Disk, K: Sink>(
+/// Writes the content, if the set has every chunk.
+pub(crate) fn put_found<D: Disk, K: Sink>(
     set: &ChunkSet,
     descriptor: &Descriptor,
     disk: &mut D,

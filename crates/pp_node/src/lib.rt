@@ -8,6 +8,8 @@ mod counting;
 mod exporting;
 mod importing;
 mod looking;
+mod named_exporting;
+mod named_seeding;
 mod naming;
 mod playing;
 mod preparing;

@@ -8,13 +8,14 @@ ghost use Rattle.pp_terms.specs.disk.Untouched.{IsFreshlyAttached};
 ghost use Rattle.pp_terms.specs.format.Descriptor as terms;
 ghost use Rattle.pp_terms.specs.format.Traffic.{LinkState};
 ghost use Rattle.pp_terms.specs.tree.Content.{IsChunkSize};
+ghost use Rattle.pp_scan.specs.Look.{KeepsAll};
 ghost use Rattle.pp_tree.specs.Book.{empty_book, IsBookOf};
 ghost use Rattle.pp_targets.specs.Target as targets;
 ghost use Rattle.pp_targets.specs.Names.{name_of, target_of};
 ghost use Rattle.pp_targets.specs.TargetText.{IsTarget};
 ghost use Rattle.pp_named.specs.Told.{TellsDescriptor};
 ghost use Rattle.pp_node.specs.Looking.{IsUnwritten, Lasts};
-ghost use Rattle.pp_node.specs.Naming.{IsTold, FindsNamed, IsRootedByName, IsInShape, fault_of_name, ReportsNaming, NamedChecksIn, TargetCheckEnds, shape_line};
+ghost use Rattle.pp_node.specs.Naming.{IsTold, FindsNamed, HasAttached, TellsNamed, IsRootedByName, IsInShape, fault_of_name, ReportsNaming, NamedChecksIn, TargetCheckEnds, shape_line};
 ghost use Rattle.pp_node.specs.Outside.{outside};
 ghost use Rattle.pp_node.specs.Status.{number_of};
 
@@ -52,6 +53,13 @@ pub(crate) enum NamingFault {
     /// There was no memory.
     Memory,
 }
+
+// The first byte of an empty file counts as a zero.
+const EMPTY: NamingFault = NamingFault::NotAStore {
+    at: 0,
+    found: 0,
+    want: b'P',
+};
 
 impl NamingFault {
     fn of_name(fault: NameFault) -> NamingFault
@@ -117,8 +125,8 @@ fn check_by_name<D: Disk, K: Sink>(
     }
 }
 
-// Attaches the named store and finds out which chunks it holds. It writes nothing, and syncs the store before it reads it.
-fn look_by_name<D: Disk>(
+/// Attaches the named store and finds out which chunks it holds. It writes nothing, and syncs the store before it reads it.
+pub(crate) fn look_by_name<D: Disk>(
     alloc: Global,
     store: &str,
     name: &SwarmName,
@@ -159,12 +167,36 @@ fn look_attached<D: Disk>(
 {
     match probe_name(name, disk) {
         Ok(Some(descriptor)) => look_told(alloc, descriptor, disk, book),
-        // The first byte of an empty file counts as a zero.
-        Ok(None) => Err(NamingFault::NotAStore {
-            at: 0,
-            found: 0,
-            want: b'P',
-        }),
+        Ok(None) => Err(EMPTY),
+        Err(fault) => Err(NamingFault::of_name(fault)),
+    }
+}
+
+/// Attaches the named store and reads which descriptor of the name its header tells. An empty file tells none.
+pub(crate) fn tell_descriptor<D: Disk>(
+    store: &str,
+    name: &SwarmName,
+    disk: &mut D,
+) -> Result<Descriptor, NamingFault>
+    requires { IsChunkSize name.now.chunk }
+    ensures told { TellsNamed (name_of name.now) (D.state disk.old) (D.state disk.new) result }
+    ensures attached { HasAttached store.now (D.state disk.old) (D.state disk.new) }
+{
+    match disk.attach(store) {
+        Ok(()) => tell_attached(name, disk),
+        Err(_) => Err(NamingFault::Disk),
+    }
+}
+
+fn tell_attached<D: Disk>(name: &SwarmName, disk: &mut D) -> Result<Descriptor, NamingFault>
+    requires size { IsChunkSize name.now.chunk }
+    requires attached { IsKnown (D.state disk.old) → IsFreshlyAttached (D.state disk.old).history }
+    ensures told { TellsNamed (name_of name.now) (D.state disk.old) (D.state disk.new) result }
+    ensures looks { KeepsAll (D.state disk.old) (D.state disk.new) }
+{
+    match probe_name(name, disk) {
+        Ok(Some(descriptor)) => Ok(descriptor),
+        Ok(None) => Err(EMPTY),
         Err(fault) => Err(NamingFault::of_name(fault)),
     }
 }
@@ -208,8 +240,8 @@ fn in_shape(descriptor: Descriptor, set: ChunkSet, book: &Book) -> Result<Found,
     }
 }
 
-// Says what was at fault. A line that the sink refuses is given up.
-fn report<K: Sink>(fault: NamingFault, sink: &mut K) -> Status
+/// Says what was at fault. A line that the sink refuses is given up.
+pub(crate) fn report<K: Sink>(fault: NamingFault, sink: &mut K) -> Status
     ensures { ReportsNaming fault result (K.state sink.old) (K.state sink.new) }
 {
     match fault {
@@ -233,8 +265,8 @@ fn report<K: Sink>(fault: NamingFault, sink: &mut K) -> Status
     }
 }
 
-// Says which node of a book covers no chunk and isn't 32 zero bytes.
-fn put_shape<K: Sink>(node: Node, sink: &mut K) -> Result<(), SinkFault>
+/// Says which node of a book covers no chunk and isn't 32 zero bytes.
+pub(crate) fn put_shape<K: Sink>(node: Node, sink: &mut K) -> Result<(), SinkFault>
     ensures gained { OnOk result (Gains (K.state sink.old).taken (shape_line node.layer node.offset) (K.state sink.new).taken) }
     ensures cause { HasCause (K.state sink.old).faults (K.state sink.new).faults result }
 {

@@ -118,8 +118,8 @@ fn prepare_attached<D: Disk, L: Link>(
     }
 }
 
-// The file is empty or begins with the header.
-fn listen_and_open<D: Disk, L: Link>(
+/// Begins to listen, takes all memory and opens the store, whose file is empty or begins with the header.
+pub(crate) fn listen_and_open<D: Disk, L: Link>(
     alloc: Global,
     words: &Peering<'_>,
     disk: &mut D,
@@ -133,6 +133,7 @@ fn listen_and_open<D: Disk, L: Link>(
         → IsSyncedAtMost (D.state disk.new).history }
     ensures disk { IsKnown (D.state disk.old) → LeavesDisk words.now.descriptor.now (D.state disk.new).history result }
     ensures names { IsKnown (D.state disk.old) → (D.state disk.new).history.names ≡ (D.state disk.old).history.names }
+    ensures found { IsKnown (D.state disk.old) → (D.state disk.new).history.found ≡ (D.state disk.old).history.found }
     ensures link { LeavesLink (L.seen link.old).bound (address_of words.now.listen.now) (L.seen link.new).bound result }
     ensures unsent { IsUnsent (L.seen link.old) (L.seen link.new) }
 {
@@ -157,6 +158,7 @@ fn open<D: Disk>(alloc: Global, words: &Peering<'_>, disk: &mut D) -> Result<Rea
         → IsSyncedAtMost (D.state disk.new).history }
     ensures disk { IsKnown (D.state disk.old) → LeavesDisk words.now.descriptor.now (D.state disk.new).history result }
     ensures names { IsKnown (D.state disk.old) → (D.state disk.new).history.names ≡ (D.state disk.old).history.names }
+    ensures found { IsKnown (D.state disk.old) → (D.state disk.new).history.found ≡ (D.state disk.old).history.found }
 {
     let Ok(buffer) = room(alloc) else {
         return Err(SeedFault::Memory);

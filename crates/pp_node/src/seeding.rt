@@ -55,8 +55,8 @@ pub(crate) fn share<D: Disk, L: Link, K: Sink>(
     }
 }
 
-// Takes the turns, closes the channels and reports; the book becomes the peer's.
-fn serve<D: Disk, L: Link, K: Sink>(
+/// Takes the turns, closes the channels and reports; the book becomes the peer's.
+pub(crate) fn serve<D: Disk, L: Link, K: Sink>(
     ready: Ready,
     words: &Peering<'_>,
     disk: &mut D,
@@ -147,8 +147,8 @@ fn judge<K: Sink>(peer: &Peer, fetches: bool, sink: &mut K) -> Status
     }
 }
 
-// Says what was at fault. A line that the sink refuses is given up.
-fn report<K: Sink>(fault: SeedFault, sink: &mut K) -> Status
+/// Says what was at fault. A line that the sink refuses is given up.
+pub(crate) fn report<K: Sink>(fault: SeedFault, sink: &mut K) -> Status
     ensures { ReportsSeed fault result (K.state sink.old) (K.state sink.new) }
 {
     match fault {

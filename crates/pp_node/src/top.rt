@@ -19,6 +19,8 @@ ghost use Rattle.pp_targets.specs.Target.{SwarmName, Sized, Auto};
 ghost use Rattle.pp_node.specs.Checking.{CheckEnds};
 ghost use Rattle.pp_node.specs.Naming.{NamedCheckEnds};
 ghost use Rattle.pp_node.specs.Exporting.{ExportEnds};
+ghost use Rattle.pp_node.specs.NamedExporting.{NamedExportEnds};
+ghost use Rattle.pp_node.specs.NamedSeeding.{NamedWords, NamedSeedEnds};
 ghost use Rattle.pp_node.specs.Upgrading.{UpgradeEnds};
 ghost use Rattle.pp_node.specs.Playing.{PlayEnds};
 ghost use Rattle.pp_node.specs.Promising.{PeerWords, SeedEnds, FetchEnds};
@@ -29,8 +31,9 @@ ghost use Rattle.pp_node.specs.Untroubled.{IsUntroubled, AnswersWell};
 
 use crate::auditing::audit;
 use crate::built::read_built;
-use crate::exporting::export;
 use crate::importing::import;
+use crate::named_exporting::export_target;
+use crate::named_seeding::{Sharing, seed_target};
 use crate::naming::check_target;
 use crate::playing::play;
 use crate::preparing::Peering;
@@ -40,7 +43,6 @@ use crate::replaying::{rehearse, replay};
 use crate::seeding::share;
 use crate::status::Status;
 use crate::upgrading::upgrade;
-use arrayvec::ArrayVec;
 use pp_avail::Rank;
 use pp_outside::{Disk, Link, Sink, Source};
 use pp_tree::Book;
@@ -81,8 +83,12 @@ pub fn run<D: Disk, L: Link, S: Source, K: Sink>(
         → ImportEnds result store chunk (outside (D.state disk.old) (L.seen link.old) (S.state source.old) (K.state sink.old) book.old)
         (outside (D.state disk.new) (L.seen link.new) (S.state source.new) (K.state sink.new) book.new) }
 
-    ensures seed { (w : PeerWords) → IsSeed (texts words.now) w.store w.descriptor w.listen w.turns
+    ensures seed { (w : PeerWords) → IsSeed (texts words.now) w.store (Sized w.descriptor) w.listen w.turns
         → SeedEnds result w (outside (D.state disk.old) (L.seen link.old) (S.state source.old) (K.state sink.old) book.old)
+        (outside (D.state disk.new) (L.seen link.new) (S.state source.new) (K.state sink.new) book.new) }
+
+    ensures named_seed { (w : NamedWords) → IsSeed (texts words.now) w.store (Auto w.name) w.listen w.turns
+        → NamedSeedEnds result w (outside (D.state disk.old) (L.seen link.old) (S.state source.old) (K.state sink.old) book.old)
         (outside (D.state disk.new) (L.seen link.new) (S.state source.new) (K.state sink.new) book.new) }
 
     ensures fetch { (w : PeerWords) (order : orders.Order) (peers : List Address)
@@ -103,8 +109,12 @@ pub fn run<D: Disk, L: Link, S: Source, K: Sink>(
         → NamedCheckEnds result store name (outside (D.state disk.old) (L.seen link.old) (S.state source.old) (K.state sink.old) book.old)
         (outside (D.state disk.new) (L.seen link.new) (S.state source.new) (K.state sink.new) book.new) }
 
-    ensures export { (store : List ℕ) (descriptor : Descriptor) → IsOnStore (codes "export") (texts words.now) store descriptor
+    ensures export { (store : List ℕ) (descriptor : Descriptor) → IsOnTarget (codes "export") (texts words.now) store (Sized descriptor)
         → ExportEnds result store descriptor (outside (D.state disk.old) (L.seen link.old) (S.state source.old) (K.state sink.old) book.old)
+        (outside (D.state disk.new) (L.seen link.new) (S.state source.new) (K.state sink.new) book.new) }
+
+    ensures named_export { (store : List ℕ) (name : SwarmName) → IsOnTarget (codes "export") (texts words.now) store (Auto name)
+        → NamedExportEnds result store name (outside (D.state disk.old) (L.seen link.old) (S.state source.old) (K.state sink.old) book.old)
         (outside (D.state disk.new) (L.seen link.new) (S.state source.new) (K.state sink.new) book.new) }
 
     ensures upgrade { (store : List ℕ) (descriptor : Descriptor) → IsOnStore (codes "upgrade") (texts words.now) store descriptor
@@ -168,20 +178,18 @@ fn obey<D: Disk, L: Link, S: Source, K: Sink>(
         Command::Import { store, chunk } => import(store, *chunk, disk, source, sink),
         Command::Seed {
             store,
-            descriptor,
+            target,
             listen,
             turns,
         } => {
-            let words = Peering {
+            let words = Sharing {
                 store,
-                descriptor,
+                target,
                 listen,
                 turns: *turns,
-                asks: None,
-                dial: &ArrayVec::new(),
                 random,
             };
-            share(alloc, &words, disk, link, sink, book)
+            seed_target(alloc, &words, disk, link, sink, book)
         }
         Command::Fetch {
             store,
@@ -203,9 +211,7 @@ fn obey<D: Disk, L: Link, S: Source, K: Sink>(
             share(alloc, &words, disk, link, sink, book)
         }
         Command::Check { store, target } => check_target(alloc, store, target, disk, sink, book),
-        Command::Export { store, descriptor } => {
-            export(alloc, store, descriptor, disk, sink, book)
-        }
+        Command::Export { store, target } => export_target(alloc, store, target, disk, sink, book),
         Command::Upgrade { store, descriptor } => {
             upgrade(alloc, store, descriptor, disk, source, sink, book)
         }

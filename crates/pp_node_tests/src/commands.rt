@@ -141,7 +141,7 @@ fn says_what_a_store_holds(rt: HostRuntime) -> Result<(), Fail> {
 }
 
 // A swarm that is named without its size, which the store's header tells.
-const NAME_OF_ABC: &str =
+pub(crate) const NAME_OF_ABC: &str =
     "ppspp1:ba7816bf8f01cfea414140de5dae2223b00361a396177a9cb410ff61f20015ad:1024:auto:2";
 
 // Whether a check by that name answers this status and says this line.
@@ -219,19 +219,22 @@ fn gives_a_content_back(rt: HostRuntime) -> Result<(), Fail> {
     Ok(())
 }
 
-const NAME_OF_SEVEN: &str =
+pub(crate) const NAME_OF_SEVEN: &str =
     "ppspp1:b42effe6efb1b60e3199b18182c63d9577f6cdfeaaa0acb3399ac8d87b4d8f73:1024:auto:2";
 
-// The store of seven chunks, with 6,000 bytes for the size in its header.
-fn says_six(alloc: Global) -> Result<Ran, AllocError> {
+// The store of seven chunks, with this size in its header.
+pub(crate) fn seven_saying(alloc: Global, size: u16) -> Result<[u8; 8776], AllocError> {
     let stored = import_of(alloc, &generated(), MemoryDisk::new(alloc, &[])?)?;
     let mut image = [0; 8776];
     for (byte, was) in image.iter_mut().zip(stored.disk.bytes()) {
         *byte = *was;
     }
-    image[18] = 0x17;
-    image[19] = 0x70;
-    check_of(alloc, NAME_OF_SEVEN, &image)
+    [image[18], image[19]] = size.to_be_bytes();
+    Ok(image)
+}
+
+fn says_six(alloc: Global) -> Result<Ran, AllocError> {
+    check_of(alloc, NAME_OF_SEVEN, &seven_saying(alloc, 6000)?)
 }
 
 #[test]
@@ -239,6 +242,33 @@ fn names_a_node_of_another_size(rt: HostRuntime) -> Result<(), Fail> {
     let ran = says_six(rt.alloc())?;
     assert_eq!(rt; ran.status, 13);
     assert_eq!(rt; ran.sink.bytes(), b"shape: node 0 6\n".as_slice());
+    Ok(())
+}
+
+// What is written of the store of seven chunks that says this size, by the name of its swarm.
+fn export_by_name(alloc: Global, size: u16) -> Result<Ran, AllocError> {
+    import_over(
+        alloc,
+        &["export", "s", NAME_OF_SEVEN],
+        MemoryDisk::new(alloc, &seven_saying(alloc, size)?)?,
+        MemorySink::new(alloc),
+        &mut MemorySource::new(&[]),
+    )
+}
+
+#[test]
+fn gives_a_content_back_by_name(rt: HostRuntime) -> Result<(), Fail> {
+    let ran = export_by_name(rt.alloc(), 7000)?;
+    assert_eq!(rt; ran.status, 0);
+    assert_eq!(rt; ran.sink.bytes(), generated().as_slice());
+    Ok(())
+}
+
+#[test]
+fn gives_nothing_of_another_size(rt: HostRuntime) -> Result<(), Fail> {
+    let ran = export_by_name(rt.alloc(), 6000)?;
+    assert_eq!(rt; ran.status, 13);
+    assert_eq!(rt; ran.sink.bytes(), b"".as_slice());
     Ok(())
 }
 

@@ -15,6 +15,7 @@ mod failing;
 mod fetching;
 mod joining;
 mod methods;
+mod naming;
 mod playing;
 mod refusing;
 mod stopping;

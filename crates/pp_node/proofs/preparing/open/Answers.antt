@@ -1,5 +1,6 @@
 use Rattle.std.proofs.Common.{inl}
-use Rattle.pp_node.proofs.Readies.{lasts_fresh, lasts_opened, is_fresh, opened_fault, leaves_fault, unwritten_opened}
+use Rattle.pp_tree.specs.Book.{entry}
+use Rattle.pp_node.proofs.Readies.{known_opened, lasts_fresh, lasts_opened, is_fresh, opened_fault, leaves_fault, unwritten_opened}
 use Rattle.pp_node.proofs.preparing.open.Goals as goal
 
 pub returns-in-Ok-open-clause-opened : goal.returns-in-Ok-open-clause-opened
@@ -14,6 +15,8 @@ returns-in-Ok-open-clause-opened g c = record {
   hard = c.open.ensures.disk.hard;
   buffer = c.in-Ok.ensures;
   held = c.in-Ok-open.ensures.had;
+  knows = known_opened c.args.words.now (g.D.Disk.state c.args.disk.now) (g.D.Disk.state c.open.new.disk) c.requires.attached c.open.ensures.disk.attachment
+      c.requires.begins (entry c.in-Ok-open.peer.parts.holding.book) c.in-Ok-open.peer.parts.holding.store.committed c.in-Ok-open.ensures.scanned;
 }
 
 pub returns-in_default-clause-lasts : goal.returns-in_default-clause-lasts

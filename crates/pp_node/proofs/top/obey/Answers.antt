@@ -8,7 +8,7 @@ pub import-requires : goal.import-requires
 import-requires g c = (subst (Spells c.requires.spelled.0) (ap command_of c.in-Import.is) c.requires.spelled.1).size
 
 pub returns-in-Fetch-clause-ended : goal.returns-in-Fetch-clause-ended
-returns-in-Fetch-clause-ended g c = rw c.in-Fetch.is (c.share-in-Fetch.ensures.fetches refl (g.S.Source.state c.args.source.now))
+returns-in-Fetch-clause-ended g c = rw c.in-Fetch.is (c.share.ensures.fetches refl (g.S.Source.state c.args.source.now))
 
 pub returns-in-Upgrade-clause-ended : goal.returns-in-Upgrade-clause-ended
 returns-in-Upgrade-clause-ended g c =
@@ -39,6 +39,18 @@ pub returns-in-Audit-clause-ended : goal.returns-in-Audit-clause-ended
 returns-in-Audit-clause-ended g c =
     rw c.in-Audit.is (audit_ended c.audit.result (g.L.Link.seen c.args.link.now) (g.D.Disk.state c.args.disk.now) (g.S.Source.state c.args.source.now)
     (g.S.Source.state c.audit.new.source) (g.K.Sink.state c.args.sink.now) (g.K.Sink.state c.audit.new.sink) c.args.book.now c.audit.ensures.ends c.audit.ensures.takes)
+
+pub export_target-requires-clause-valid : goal.export_target-requires-clause-valid
+export_target-requires-clause-valid g c = (subst (Spells c.requires.spelled.0) (ap command_of c.in-Export.is) c.requires.spelled.1).target_is.valid
+
+pub returns-in-Export-clause-ended : goal.returns-in-Export-clause-ended
+returns-in-Export-clause-ended g c = rw c.in-Export.is (c.export_target.ensures (g.L.Link.seen c.args.link.now) (g.S.Source.state c.args.source.now))
+
+pub seed_target-requires-clause-valid : goal.seed_target-requires-clause-valid
+seed_target-requires-clause-valid g c = (subst (Spells c.requires.spelled.0) (ap command_of c.in-Seed.is) c.requires.spelled.1).target_is.valid
+
+pub returns-in-Seed-clause-ended : goal.returns-in-Seed-clause-ended
+returns-in-Seed-clause-ended g c = rw c.in-Seed.is (c.seed_target.ensures (g.S.Source.state c.args.source.now))
 
 pub check_target-requires-clause-valid : goal.check_target-requires-clause-valid
 check_target-requires-clause-valid g c = (subst (Spells c.requires.spelled.0) (ap command_of c.in-Check.is) c.requires.spelled.1).target_is.valid

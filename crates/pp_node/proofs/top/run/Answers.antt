@@ -3,7 +3,7 @@ use Rattle.pp_targets.specs.Target.{Sized, Auto}
 use Rattle.pp_words.specs.Commands.{Audit, Check, Export, Fetch, Seed, Upgrade, Record, Replay, Rehearse, Play}
 use Rattle.pp_words.specs.Views.{texts, command_of, usage_of}
 use Rattle.pp_node.specs.Outside.{outside}
-use Rattle.pp_node.proofs.Commands.{none_spelled, import_ends, seed_ends, fetch_ends, play_ends, check_ends, named_check_ends, export_ends, upgrade_ends, replay_ends, rehearse_ends, record_ends, audit_ends}
+use Rattle.pp_node.proofs.Commands.{none_spelled, import_ends, seed_ends, named_seed_ends, fetch_ends, play_ends, check_ends, named_check_ends, export_ends, named_export_ends, upgrade_ends, replay_ends, rehearse_ends, record_ends, audit_ends}
 use Rattle.pp_node.proofs.Untroubled.{answers_well}
 use Rattle.pp_node.proofs.top.run.Goals as goal
 
@@ -17,6 +17,13 @@ returns-in-Ok-clause-import g c =
 pub returns-in-Ok-clause-seed : goal.returns-in-Ok-clause-seed
 returns-in-Ok-clause-seed g c =
     seed_ends (texts c.args.words.now) (command_of c.in-Ok.command) c.obey.result c.number.result
+    (outside (g.D.Disk.state c.args.disk.now) (g.L.Link.seen c.args.link.now) (g.S.Source.state c.args.source.now) (g.K.Sink.state c.args.sink.now) c.args.book.now)
+    (outside (g.D.Disk.state c.obey.new.disk) (g.L.Link.seen c.obey.new.link) (g.S.Source.state c.obey.new.source) (g.K.Sink.state c.obey.new.sink) c.obey.new.book)
+    c.in-Ok.ensures.ok.0 c.number.ensures c.obey.ensures.ended
+
+pub returns-in-Ok-clause-named_seed : goal.returns-in-Ok-clause-named_seed
+returns-in-Ok-clause-named_seed g c =
+    named_seed_ends (texts c.args.words.now) (command_of c.in-Ok.command) c.obey.result c.number.result
     (outside (g.D.Disk.state c.args.disk.now) (g.L.Link.seen c.args.link.now) (g.S.Source.state c.args.source.now) (g.K.Sink.state c.args.sink.now) c.args.book.now)
     (outside (g.D.Disk.state c.obey.new.disk) (g.L.Link.seen c.obey.new.link) (g.S.Source.state c.obey.new.source) (g.K.Sink.state c.obey.new.sink) c.obey.new.book)
     c.in-Ok.ensures.ok.0 c.number.ensures c.obey.ensures.ended
@@ -52,6 +59,13 @@ returns-in-Ok-clause-named_check g c =
 pub returns-in-Ok-clause-export : goal.returns-in-Ok-clause-export
 returns-in-Ok-clause-export g c =
     export_ends (texts c.args.words.now) (command_of c.in-Ok.command) c.obey.result c.number.result
+    (outside (g.D.Disk.state c.args.disk.now) (g.L.Link.seen c.args.link.now) (g.S.Source.state c.args.source.now) (g.K.Sink.state c.args.sink.now) c.args.book.now)
+    (outside (g.D.Disk.state c.obey.new.disk) (g.L.Link.seen c.obey.new.link) (g.S.Source.state c.obey.new.source) (g.K.Sink.state c.obey.new.sink) c.obey.new.book)
+    c.in-Ok.ensures.ok.0 c.number.ensures c.obey.ensures.ended
+
+pub returns-in-Ok-clause-named_export : goal.returns-in-Ok-clause-named_export
+returns-in-Ok-clause-named_export g c =
+    named_export_ends (texts c.args.words.now) (command_of c.in-Ok.command) c.obey.result c.number.result
     (outside (g.D.Disk.state c.args.disk.now) (g.L.Link.seen c.args.link.now) (g.S.Source.state c.args.source.now) (g.K.Sink.state c.args.sink.now) c.args.book.now)
     (outside (g.D.Disk.state c.obey.new.disk) (g.L.Link.seen c.obey.new.link) (g.S.Source.state c.obey.new.source) (g.K.Sink.state c.obey.new.sink) c.obey.new.book)
     c.in-Ok.ensures.ok.0 c.number.ensures c.obey.ensures.ended
@@ -107,7 +121,11 @@ returns-in-Err-clause-usage g c = (
 
 pub returns-in-Err-clause-seed : goal.returns-in-Err-clause-seed
 returns-in-Err-clause-seed g c = λ w spelled.
-    absurd (none_spelled (texts c.args.words.now) (usage_of c.in-Err.usage) c.in-Err.ensures.err (Seed w.store w.descriptor w.listen w.turns) refl spelled)
+    absurd (none_spelled (texts c.args.words.now) (usage_of c.in-Err.usage) c.in-Err.ensures.err (Seed w.store (Sized w.descriptor) w.listen w.turns) refl spelled)
+
+pub returns-in-Err-clause-named_seed : goal.returns-in-Err-clause-named_seed
+returns-in-Err-clause-named_seed g c = λ w spelled.
+    absurd (none_spelled (texts c.args.words.now) (usage_of c.in-Err.usage) c.in-Err.ensures.err (Seed w.store (Auto w.name) w.listen w.turns) refl spelled)
 
 pub returns-in-Err-clause-fetch : goal.returns-in-Err-clause-fetch
 returns-in-Err-clause-fetch g c = λ w order peers spelled.
@@ -127,7 +145,11 @@ returns-in-Err-clause-named_check g c = λ store name spelled.
 
 pub returns-in-Err-clause-export : goal.returns-in-Err-clause-export
 returns-in-Err-clause-export g c = λ store descriptor spelled.
-    absurd (none_spelled (texts c.args.words.now) (usage_of c.in-Err.usage) c.in-Err.ensures.err (Export store descriptor) refl spelled)
+    absurd (none_spelled (texts c.args.words.now) (usage_of c.in-Err.usage) c.in-Err.ensures.err (Export store (Sized descriptor)) refl spelled)
+
+pub returns-in-Err-clause-named_export : goal.returns-in-Err-clause-named_export
+returns-in-Err-clause-named_export g c = λ store name spelled.
+    absurd (none_spelled (texts c.args.words.now) (usage_of c.in-Err.usage) c.in-Err.ensures.err (Export store (Auto name)) refl spelled)
 
 pub returns-in-Err-clause-upgrade : goal.returns-in-Err-clause-upgrade
 returns-in-Err-clause-upgrade g c = λ store descriptor spelled.
