@@ -5,7 +5,7 @@ use pp_avail::Rank;
 use pp_core::Peer;
 use pp_outside::{Address, Event, MemoryDisk, MemoryLink, MemorySource};
 use pp_store::import;
-use pp_tree::{Descriptor, Digest, Method};
+use pp_tree::{Book, Descriptor, Digest, Method};
 use pp_turns::take_turn;
 use std::alloc::{AllocError, Global};
 use std::test::*;
@@ -103,7 +103,6 @@ fn options_of(alloc: Global, swarm: &Descriptor) -> Result<Vec<u8>, AllocError> 
 }
 
 /// A peer with its devices, the options of a handshake that fits its swarm, and how many of the datagrams that it sent were looked at.
-#[derive(Drop)]
 pub(crate) struct Side {
     pub(crate) alloc: Global,
     pub(crate) peer: Peer,
@@ -113,6 +112,27 @@ pub(crate) struct Side {
     buffer: Vec<u8>,
     seen: usize,
 }
+
+// It is let go by a function of its own: a test then has to show of one call, and not of all that a peer owns, that it is safe.
+impl Drop for Side {
+    fn drop(self) {
+        let Side {
+            alloc: _,
+            peer,
+            link,
+            options: _,
+            disk,
+            buffer: _,
+            seen: _,
+        } = self;
+        drop_book(peer.into_book());
+        drop_devices(disk, link);
+    }
+}
+
+fn drop_book(_book: Book) {}
+
+fn drop_devices(_disk: MemoryDisk, _link: MemoryLink) {}
 
 impl Side {
     /// A peer of a swarm over a disk.
