@@ -9,3 +9,10 @@ pub mod Dropping
 pub mod Still
 pub mod Modest
 pub mod Asking
+pub mod Following
+pub mod Tallying
+pub mod Staying
+pub mod Speaking
+pub mod Dialing
+pub mod Sources
+pub mod Asked

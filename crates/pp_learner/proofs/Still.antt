@@ -35,7 +35,7 @@ still_dropped c e t seat other there ne s = still_after c (Some e) (channel_at t
 
 -- ---- channels whose time is over
 
-over_there : (now : ℕ) (t : Seats) (k : ℕ) → position (is_over now) t.channels ≡ Some k → is_over now (channel_at t k) ≡ true
+pub over_there : (now : ℕ) (t : Seats) (k : ℕ) → position (is_over now) t.channels ≡ Some k → is_over now (channel_at t k) ≡ true
 over_there now t k over = (position-Some (is_over now) t.channels k None over).1
 
 marked_over : (now : ℕ) (c : Channel) (mark : Bool) → is_over now (Some (record c { shadowed = mark })) ≡ is_over now (Some c)

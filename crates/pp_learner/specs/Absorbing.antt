@@ -118,6 +118,7 @@ pub record TakesArrival (sender : Address) (bytes : List ℕ) (answer : Option D
   pub opens_none : OpensNone arrival
   pub proven : IsOnProven arrival table
   pub after : new ≡ after_arrival arrival bytes (record old { lives = table; counts = after_some (counted arrival) old.counts })
+  pub answers : answer ≡ learned_from arrival bytes (record old { lives = table; counts = after_some (counted arrival) old.counts })
   pub learned : (e : Descriptor) → (answer ≡ Some e) ↔ TellsBy arrival bytes old e
 
 -- A datagram for channel 0 is refused and counted, and changes nothing else.

@@ -7,3 +7,5 @@ pub mod Absorbing
 pub mod Sending
 pub mod Dialling
 pub mod Flushing
+pub mod Following
+pub mod Laws

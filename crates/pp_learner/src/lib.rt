@@ -7,6 +7,7 @@ mod dialling;
 mod dials;
 mod due;
 mod flushing;
+mod laws;
 mod learner;
 mod outbox;
 mod parts;
@@ -15,4 +16,5 @@ mod row;
 mod rows;
 mod sending;
 
+pub use laws::laws_of_learning;
 pub use learner::Learner;
