@@ -81,8 +81,8 @@ impl Ending<'_> {
         self.has_made && (self.is_of("check") || self.is_of("export") || self.is_of("seed"))
     }
 
-    /// Whether something is to be told. That a file is no store `check`, `seed` and `fetch` tell on standard output, and `check` what its
-    /// header and its tree come to.
+    /// Whether something is to be told. That a file is no store `check`, `seed` and `fetch` tell on standard output, and `check` and
+    /// `seed` what its header and its tree come to.
     pub(crate) fn is_told(&self) -> bool {
         match self.status {
             Status::Done => self.lacks_its_store(),
@@ -90,8 +90,8 @@ impl Ending<'_> {
                 || self.is_of("upgrade")
                 || self.is_of("play")
                 || self.lacks_its_store(),
-            Status::ContentSize => self.is_of("import"),
-            Status::Shape => false,
+            Status::ContentSize => self.is_of("import") || self.is_of("export"),
+            Status::Shape => self.is_of("export"),
             _ => true,
         }
     }
@@ -111,7 +111,7 @@ impl Ending<'_> {
             Status::SourceFault => put_refused(f, "standard input", &self.source),
             Status::SinkFault => put_refused(f, "standard output", &self.sink),
             Status::NotEmpty => write!(f, "{store}: not empty, and left as it is"),
-            Status::ContentSize => f.write_str("standard input: empty, or longer than 2^20 chunks"),
+            Status::ContentSize => self.put_size(f),
             Status::Schedule => f.write_str("standard input: no schedule"),
             Status::Memory => f.write_str("memory ran out"),
             Status::Damaged => write!(f, "{store}: a chunk is damaged"),
@@ -131,6 +131,15 @@ impl Ending<'_> {
             self.word(1)
         };
         write!(f, "{read}: not a store of this descriptor")
+    }
+
+    // A store that is exported by its swarm's name tells the size.
+    fn put_size<W: fmt::Write>(&self, f: &mut fmt::Formatter<W>) -> fmt::Result {
+        if self.is_of("export") {
+            write!(f, "{}: no content has the size that it tells", self.word(1))
+        } else {
+            f.write_str("standard input: empty, or longer than 2^20 chunks")
+        }
     }
 
     // With what the link refused, where it was in use.

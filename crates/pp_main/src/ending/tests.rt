@@ -28,7 +28,7 @@ fn ended(words: &[String], status: Status) -> Ending<'_> {
 }
 
 // Commands, how they ended, whether the store's file was made, and what is told.
-const ENDINGS: [(&str, Status, bool, &str); 16] = [
+const ENDINGS: [(&str, Status, bool, &str); 18] = [
     (
         "export s d",
         Status::NotAStore,
@@ -91,6 +91,18 @@ const ENDINGS: [(&str, Status, bool, &str); 16] = [
         "ppspp: s: a chunk is damaged",
     ),
     (
+        "export s d",
+        Status::ContentSize,
+        false,
+        "ppspp: s: no content has the size that it tells",
+    ),
+    (
+        "export s d",
+        Status::Shape,
+        false,
+        "ppspp: s: no content's tree",
+    ),
+    (
         "replay",
         Status::Schedule,
         false,
@@ -149,12 +161,17 @@ fn tells_what_a_device_said(rt: HostRuntime) -> Result<(), Fail> {
 #[test]
 fn tells_nothing_more(rt: HostRuntime) -> Result<(), Fail> {
     let words = words(rt.alloc(), "check s d")?;
-    for status in [Status::Done, Status::NotAStore] {
+    for status in [
+        Status::Done,
+        Status::NotAStore,
+        Status::ContentSize,
+        Status::Shape,
+    ] {
         assert!(rt; !ended(&words, status).is_told());
     }
     assert_eq!(rt;
-        (status_of(12), status_of(13)),
-        (Some(Status::Damaged), None)
+        (status_of(17), status_of(18)),
+        (Some(Status::TooLarge), None)
     );
     Ok(())
 }
