@@ -361,7 +361,8 @@ impl<R: Net + Clock + Eprint> Link for UdpLink<R> {
     }
 
     /// A wait that a signal cut short brought no datagram, and one behind a datagram ends after a millisecond, or at once
-    /// where the one before was there already: a burst is over then. The first one ends after a millisecond too. `at` is in microseconds since the link was made, and never falls.
+    /// where the one before was there already: a burst is over then. The first one ends after a millisecond too. `at` is in
+    /// microseconds since the link was made, and never falls.
     fn next(&mut self, limit_us: u64, buffer: &mut [u8]) -> Result<Event, LinkFault>
         requires { 65536 ≤ length buffer.old }
         ensures does { DoesNext (silent_link self.old) buffer.new result (silent_link self.new) }

@@ -34,6 +34,7 @@ use Rattle.pp_lives.specs.Standing.{Standing, read_at}
 use Rattle.pp_lives.proofs.Arrivals.{living_of, there_of}
 use Rattle.pp_lives.proofs.Begun.{begun_dropped}
 use Rattle.pp_lives.proofs.Changing.{changed_is, dropped_is, within}
+use Rattle.pp_lives.proofs.Edits.{still_opened}
 use Rattle.pp_lives.proofs.Kept.{again_keeps, begun_kept, sent_keeps}
 use Rattle.pp_lives.proofs.Own.{stands_of}
 use Rattle.pp_lives.proofs.Staying.{proven_known}
@@ -182,10 +183,6 @@ asked_follows method n moment chunk ms (Some story) row same names f =
 
 -- ---- one seat
 
-still_dialled : (o : Opening) → is_dialled (with_handshake o) ≡ is_dialled o
-still_dialled (Dialled handshakes) = refl
-still_dialled (Answered at) = refl
-
 -- no handshake stands first
 begins_none : (number : ℕ) (spans : List Span) → begins_as number (map (λ span. plain.Request span) spans) ≡ false
 begins_none number [] = refl
@@ -203,7 +200,7 @@ module _ (p : LearnerState) (past : List Record) (whole : IsWhole p) (s : Stands
   low = let lt = within p.lives.channels seat c there in omega (arith, lt, s.standing.seated.are.seats, whole.seats)
 
   noted_dialled : (handshake : Bool) → AllDialled (noted handshake)
-  noted_dialled true = dialled_twice p.lives seat c (λ x. record x { wrote = p.moment }) (λ x. record x { opening = with_handshake x.opening }) there (still_dialled c.opening) s.dialled
+  noted_dialled true = dialled_twice p.lives seat c (λ x. record x { wrote = p.moment }) (λ x. record x { opening = with_handshake x.opening }) there (still_opened c.opening) s.dialled
   noted_dialled false = dialled_changed p.lives (noted false) seat c (record c { wrote = p.moment }) there refl
       (changed_is p.lives seat c (λ x. record x { wrote = p.moment }) there) s.dialled
 

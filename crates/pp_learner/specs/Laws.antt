@@ -91,7 +91,7 @@ abbrev pub AllAsked : Descriptor → List Record → Type 0
 AllAsked d past = (life : Life) → life.is_dialled ≡ true → IsPlainNow d life past → is_choked_by_peer (read_story d life past) ≡ false
     → (chunk : ℕ) → offered (read_story d life past) ≡ Some chunk → is_some (last_requested (read_story d life past)) ≡ true
 
--- So it is at the end of a turn, unless the link refused something in it.
+-- The end of a turn: the REQUESTs that were due to channels that offered a chunk are sent, unless the link refused something in the turn.
 abbrev pub FlushAsks : Type 0
 FlushAsks = (moment : ℕ) (old new : Scene) (past : List Record) → IsWhole old.parts → Flushes moment old new → StandsFor old.parts past
     → (x : StandsOn old new past)

@@ -136,7 +136,7 @@ impl Ending<'_> {
     // A store that is exported by its swarm's name tells the size.
     fn put_size<W: fmt::Write>(&self, f: &mut fmt::Formatter<W>) -> fmt::Result {
         if self.is_of("export") {
-            write!(f, "{}: no content has the size that it tells", self.word(1))
+            write!(f, "{}: no content of this name has its size", self.word(1))
         } else {
             f.write_str("standard input: empty, or longer than 2^20 chunks")
         }

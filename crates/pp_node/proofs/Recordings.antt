@@ -20,6 +20,7 @@ use Rattle.pp_world.specs.Worlds.{swarm_of}
 use Rattle.pp_actor.specs.Actor.{ShowLives, ShowsLife}
 use Rattle.pp_actor.specs.declared.life.Life.{Life}
 use Rattle.pp_outcome.specs.declared.outcome.PeerEnd as code
+use Rattle.pp_outcome.proofs.Ends.{shown_count}
 use Rattle.pp_play.specs.Keeping.{KeepsRun}
 use Rattle.pp_play.specs.Recording.{lives_in, lives_of}
 use Rattle.pp_play.specs.Replaying.{IsReplayed, ShowEnds}
@@ -63,12 +64,6 @@ lives_reverse (x ∷ xs) (s ∷ ss) show =
     subst (λ (ys : List Life). ShowLives ys (reverse (s ∷ ss))) (sym (reverse-append (x ∷ []) xs))
     (subst (λ (ts : List Session). ShowLives (reverse xs ++ x ∷ []) ts) (sym (reverse-append (s ∷ []) ss))
     (lives_append (reverse xs) (x ∷ []) (reverse ss) (s ∷ []) (lives_reverse xs ss show.1) (show.0, tt)))
-
-lives_count : (xs : List Life) (ss : List Session) → ShowLives xs ss → length xs ≡ length ss
-lives_count [] [] show = refl
-lives_count [] (s ∷ ss) show = absurd show
-lives_count (x ∷ xs) [] show = absurd show
-lives_count (x ∷ xs) (s ∷ ss) show = ap (λ (n : ℕ). suc n) (lives_count xs ss show.1)
 
 -- A life that is there shows a session that is there.
 pub record IsShown (sessions : List Session) (n : ℕ) (life : Life) : Type 0 where
@@ -182,7 +177,7 @@ module _ (text : List ℕ) (peer life : ℕ) (outcome : Outcome) (is : IsReplaye
     where
       few : (life ≡ 0) ⊎ (length (lives_of outcome peer) < life) → (life ≡ 0) ⊎ (length (sessions_of peers peer) < life)
       few (inl none) = inl none
-      few (inr less) = inr (subst (λ (n : ℕ). n < life) (lives_count (lives_of outcome peer) (sessions_of peers peer) shown) less)
+      few (inr less) = inr (subst (λ (n : ℕ). n < life) (shown_count (lives_of outcome peer) (sessions_of peers peer) shown) less)
   life_taped TooLarge old new put =
       let large = put.0.3 in
       let found = life_at (lives_of outcome peer) (sessions_of peers peer) (life - 1) large.life shown large.is.there in record {

@@ -1,4 +1,4 @@
-// The command `check STORE DESC`, also where DESC names a swarm without its size, which the store's header tells.
+// What a store tells of a swarm that is named without its size, and the command `check STORE DESC` for both kinds of name.
 ghost use Rattle.std.specs.Prelude.{◌≡◌, ◌⊎◌, ℕ, OnOk};
 ghost use Rattle.pp_terms.specs.Count.{HasCause};
 ghost use Rattle.pp_terms.specs.command.Stream.{SourceState, Gains};

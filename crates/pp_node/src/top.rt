@@ -54,10 +54,9 @@ use std::alloc::Global;
 /// disk refused a call, 5 where the link refused to listen, 6 where the source refused a read, 7 where the sink refused a
 /// write, 8 for a store that isn't empty, 9 for a content of no swarm, 10 for a text that is no schedule, 11 where memory
 /// ran out, 12 where a chunk was read back with another digest, 13 for a store whose size its header tells with a node that
-/// covers no chunk and isn't 32 zero bytes, 14 for a recording in which a chunk wasn't served by the
-/// rules, 15 for a text that is no recording, 16 for a life that a peer doesn't have, 17 for one whose recording is too
-/// large. The book is empty at entry, and `random` are 32 bytes that
-/// nobody can guess, from which channel numbers are drawn.
+/// covers no chunk and isn't 32 zero bytes, 14 for a recording in which a chunk wasn't served by the rules, 15 for a text
+/// that is no recording, 16 for a life that a peer doesn't have, 17 for one whose recording is too large. The book is
+/// empty at entry, and `random` are 32 bytes that nobody can guess, from which channel numbers are drawn.
 pub fn run<D: Disk, L: Link, S: Source, K: Sink>(
     alloc: Global,
     words: &[String],

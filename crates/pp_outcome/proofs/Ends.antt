@@ -37,7 +37,7 @@ counted test n set size each =
 
 -- ---- lives as sessions
 
-shown_count : (lives : List Life) (ss : List Session) → ShowLives lives ss → length lives ≡ length ss
+pub shown_count : (lives : List Life) (ss : List Session) → ShowLives lives ss → length lives ≡ length ss
 shown_count [] [] shows = refl
 shown_count [] (s ∷ ss) shows = absurd shows
 shown_count (life ∷ lives) [] shows = absurd shows

@@ -12,8 +12,8 @@ use crate::slots::word;
 use crate::types::{Command, Usage, UsageKind};
 
 /// The command that the words spell, without the program's name, or the first wrong word from the left. Each word is
-/// judged before the next one, and a word is missing only where all before it are right. `check` takes a descriptor or a
-/// name without the size, with `auto` where the size stands; the other commands take a descriptor alone.
+/// judged before the next one, and a word is missing only where all before it are right. `check`, `export` and `seed` take a
+/// descriptor or a name without the size, with `auto` where the size stands; the other commands take a descriptor alone.
 pub fn read_words(words: &[String]) -> Result<Command<'_>, Usage>
     // A command is answered exactly where the words spell it.
     ensures ok { IfOk result (λ c. Spells (texts words.now) (command_of c)) }

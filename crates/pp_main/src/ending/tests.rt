@@ -94,7 +94,7 @@ const ENDINGS: [(&str, Status, bool, &str); 18] = [
         "export s d",
         Status::ContentSize,
         false,
-        "ppspp: s: no content has the size that it tells",
+        "ppspp: s: no content of this name has its size",
     ),
     (
         "export s d",
