@@ -1,5 +1,5 @@
 -- At the end of a turn each channel that may be asked was asked.
-use Rattle.std.proofs.Common.{◌≡◌, ◌≢◌, ◌⊎◌, inl, inr, ⊎_elim, ℕ, zero, suc, ◌<◌, ◌≤◌, Bool, true, false, Option, Some, None, List, ◌++◌, length, refl, sym, ◌∙◌, ap, subst, arith}
+use Rattle.std.proofs.Common.{◌≡◌, ◌≢◌, ◌⊎◌, inl, inr, ⊎_elim, ℕ, zero, suc, ◌<◌, ◌≤◌, Bool, true, false, Option, Some, None, List, length, refl, sym, ◌∙◌, ap, subst, arith}
 use Rattle.std.specs.Prelude.{is_some, not, nat_lt, ◌&&◌, ◌||◌, option_map, if◌then◌else◌, unwrap_or}
 use Rattle.std.proofs.lemmas.Bool.{cases_lt, false≢true}
 use Rattle.std.proofs.lemmas.Option.{same_Some}
@@ -24,14 +24,14 @@ use Rattle.pp_targets.specs.Names.{name_of}
 use Rattle.pp_learner.specs.Dialling.{Dials, DialsAt, DialsFree, StepsDial, Tries}
 use Rattle.pp_learner.specs.declared.dials.Dial.{Dial}
 use Rattle.pp_learner.specs.Following.{FollowsIf, StandsFor}
-use Rattle.pp_learner.specs.Laws.{AllAsked, FlushAsks}
-use Rattle.pp_learner.specs.Learners.{LearnerState}
+use Rattle.pp_learner.specs.Flushing.{Flushes}
+use Rattle.pp_learner.specs.Laws.{AllAsked}
+use Rattle.pp_learner.specs.Learners.{IsWhole, LearnerState}
 use Rattle.pp_learner.specs.Reading.{row_at}
 use Rattle.pp_learner.specs.Rows.{RowState}
 use Rattle.pp_learner.specs.Sending.{EachBelow, Scene, SendsDue, SendsOn, SpeaksAt, after_sending, asks, due_at, due_of, greeting_due, is_handshake, note_for, on_channel, on_proven, row_said, speaks, was_asked}
 use Rattle.pp_learner.specs.Standing.{stand_in}
 use Rattle.pp_learner.specs.declared.due.Due.{Due}
-use Rattle.pp_learner.proofs.Dialing.{flush_stands}
 use Rattle.pp_learner.proofs.Modest.{dial_keeps, each_keeps, match_cases, speak_keeps}
 use Rattle.pp_learner.proofs.Staying.{row_other, row_same}
 use Rattle.pp_learner.proofs.Still.{sent_other}
@@ -193,7 +193,7 @@ dialled_proven c dialled known = by (is_greeted c.state) (sym (ap (λ (b : Bool)
     by true e = absurd (false≢true (sym e))
     by false e = refl
 
-all_asked : (p : LearnerState) (past : List Record) → StandsFor p past → ((seat : ℕ) → seat < 64 → IsAskedOn p seat) → AllAsked (stand_in (name_of p.name)) past
+pub all_asked : (p : LearnerState) (past : List Record) → StandsFor p past → ((seat : ℕ) → seat < 64 → IsAskedOn p seat) → AllAsked (stand_in (name_of p.name)) past
 all_asked p past s asked life dialled plain free chunk offers =
     let h = s.standing.plains.plain life plain in
     let lt = within p.lives.channels h.seat h.channel h.there in
@@ -228,17 +228,15 @@ unfolding EachBelow
 each_rows zero moment old new each = ap (λ (x : Scene). length x.parts.rows) each
 each_rows (suc n) moment old new each = dial_rows moment n each.0 new each.2 ∙ each_rows n moment old each.0 each.1
 
-pub flush_asks : FlushAsks
-flush_asks moment old new past whole f s =
-    let x = flush_stands moment old new past whole f s in
+-- at the end of a turn
+pub turn_asked : (moment : ℕ) (old new : Scene) → IsWhole old.parts → Flushes moment old new
+    → HasRisen old.link.faults new.link.faults ⊎ ((seat : ℕ) → seat < 64 → IsAskedOn new.parts seat)
+turn_asked moment old new whole f =
     let start : Scene = record { parts = f.dropped; link = old.link } in
     let dials = each_keeps moment (length old.parts.dials) (DialsAt moment) start f.mid (dial_keeps moment) f.dials in
     let rows : length f.mid.parts.rows ≡ 64 = each_rows (length old.parts.dials) moment start f.mid f.dials
     ∙ ap (λ (p : LearnerState). length p.rows) f.dropped_is ∙ whole.seats in
-    let asked = each_asked moment 64 f.mid new (omega (arith, rows)) f.speaks in (
-      x,
-      ⊎_elim
-          (λ risen. inl (risen_less old.link.faults f.mid.link.faults new.link.faults dials.sends.later risen))
-          (λ all. inr (all_asked new.parts (x.added ++ past) x.stands all))
-          asked.asked,
-    )
+    ⊎_elim
+    (λ risen. inl (risen_less old.link.faults f.mid.link.faults new.link.faults dials.sends.later risen))
+    (λ all. inr all)
+    (each_asked moment 64 f.mid new (omega (arith, rows)) f.speaks).asked

@@ -1,16 +1,21 @@
 -- A learner that stands for its traffic still does once it dialled.
-use Rattle.std.proofs.Common.{◌≡◌, ◌≢◌, ⊎_elim, ℕ, ◌<◌, eqb, Bool, true, false, Option, Some, None, List, [], ◌∷◌, ◌++◌, length, refl, sym, ◌∙◌, ap, subst}
-use Rattle.std.specs.Prelude.{if◌then◌else◌, nat_lt, option_map, MatchBool}
+use Rattle.std.proofs.Common.{◌≡◌, ◌≢◌, ◌⊎◌, inl, inr, ⊎_elim, ℕ, ◌<◌, eqb, Bool, true, false, Option, Some, None, List, [], ◌∷◌, ◌++◌, refl, sym, ◌∙◌, ap, subst, arith}
+use Rattle.std.specs.Prelude.{if◌then◌else◌, nat_lt, option_map, MatchBool, ◌&&◌, ◌||◌}
 use Rattle.std.specs.List.{list_any}
-use Rattle.std.proofs.lemmas.Bool.{cases_Bool, eqb-true, eqb-false, eq-eqb, ne_eqb}
+use Rattle.std.proofs.lemmas.Bool.{cases_Bool, eqb-true, eqb-false, eq-eqb, ne_eqb, false≢true}
+use Rattle.std.proofs.lemmas.Bool.Decides.{nat_tests}
 use Rattle.std.proofs.lemmas.Option.{same_Some}
 use Rattle.pp_terms.specs.format.Messages as plain
 use Rattle.pp_terms.specs.format.Messages.{Message, Datagram}
 use Rattle.pp_terms.specs.format.Descriptor.{Descriptor}
 use Rattle.pp_terms.specs.format.Traffic.{Record, Sent, GainsRecords}
+use Rattle.pp_terms.specs.Count.{HasRisen}
 use Rattle.pp_terms.proofs.Addressed.{same_self}
 use Rattle.pp_terms.proofs.Risings.{gains_nothing}
 use Rattle.pp_traffic.specs.Life.{Life}
+use Rattle.pp_traffic.specs.Past.{is_number, read}
+use Rattle.pp_traffic.specs.Plain.{is_handshake}
+use Rattle.pp_promises.specs.Asked.{dials}
 use Rattle.pp_traffic.specs.Story.{Line}
 use Rattle.pp_counts.specs.Counts.{after_note}
 use Rattle.pp_counts.specs.declared.counts.Counts.{Counts}
@@ -28,15 +33,15 @@ use Rattle.pp_lives.specs.Standing.{Standing, read_at, read_of}
 use Rattle.pp_lives.proofs.Changing.{IsMade, made_is}
 use Rattle.pp_lives.proofs.Kept.{begun_kept, dial_keeps, first_keeps, refused_keeps}
 use Rattle.pp_targets.specs.Names.{name_of}
-use Rattle.pp_learner.specs.Dialling.{Dials, DialsAt, DialsFree, StepsDial, Tries, with_dial}
+use Rattle.pp_learner.specs.Dialling.{Dials, DialsFree, StepsDial, Tries, dial_to, with_dial}
 use Rattle.pp_learner.specs.Following.{AllDialled, AreTallied, FollowsIf, StandsFor}
-use Rattle.pp_learner.specs.Laws.{FlushStands}
+use Rattle.pp_learner.specs.Laws.{SendsAlone, Speaks}
 use Rattle.pp_learner.specs.Learners.{IsWhole, LearnerState}
 use Rattle.pp_learner.specs.Reading.{row_at}
-use Rattle.pp_learner.specs.Sending.{Scene, SpeaksAt}
+use Rattle.pp_learner.specs.Sending.{Scene}
 use Rattle.pp_learner.specs.Standing.{stand_in}
 use Rattle.pp_learner.specs.declared.dials.Dial.{Dial}
-use Rattle.pp_learner.proofs.Speaking.{Goes, GoesAt, drops_stand, each_goes, goes_same, goes_twice, speak_goes}
+use Rattle.pp_learner.proofs.Speaking.{Goes, due_alone, goes_none, said_speaks}
 use Rattle.pp_learner.proofs.Staying.{dialled_closed, dialled_twice}
 use Rattle.pp_learner.proofs.Tallying.{other_tallied, sent_tallied}
 
@@ -141,83 +146,119 @@ module _ (old new : Scene) (past : List Record) (moment : ℕ) (whole : IsWhole 
   whole_as : (lives : Seats) (counts : Counts) → new.parts ≡ record old.parts { lives = lives; counts = counts } → IsWhole new.parts
   whole_as lives counts is = subst IsWhole (sym is) (record { size = whole.size; swarm = whole.swarm; seats = whole.seats })
 
-  dials_goes : (address : Address) (sent : Bool) → list_any (has_address address) old.parts.lives.channels ≡ false → Dials address moment sent old new → Goes old new past
-  dials_goes address true none x = record {
-    whole = whole_as _ _ x.is;
-    on = record {
-      added = Sent moment (address_of address) x.sends.bytes ∷ [];
-      gained = x.sends.sends.outcome;
-      stands = subst (λ (q : LearnerState). StandsFor q (Sent moment (address_of address) x.sends.bytes ∷ past)) (sym x.is)
-          (dialled_stands old.parts past whole s address moment x.seat x.free none x.source x.sends.bytes (after_note counts.Sent old.parts.counts) x.local
-          (subst (λ (xs : List Message). IsDatagram old.parts.outbox 0 xs x.sends.bytes) x.sends.said x.sends.written));
-      tallies = λ refused a. subst (λ (q : LearnerState). AreTallied refused q.counts (Sent moment (address_of address) x.sends.bytes ∷ past)) (sym x.is)
-          (sent_tallied refused moment (address_of address) x.sends.bytes past old.parts.counts a);
-    };
-  }
-  dials_goes address false none x = record {
-    whole = whole_as _ _ x.is;
-    on = record {
-      added = [];
-      gained = gains_nothing old.link.traffic new.link.traffic x.sends.sends.outcome.0;
-      stands = subst (λ (q : LearnerState). StandsFor q past) (sym x.is)
-          (refused_stands old.parts past whole s address moment x.seat x.free none (after_note counts.SendFault old.parts.counts));
-      tallies = λ refused a. subst (λ (q : LearnerState). AreTallied refused q.counts past) (sym x.is)
-          (other_tallied refused past counts.SendFault old.parts.counts tt a);
-    };
-  }
+  sent_speaks : (address : Address) (sent : Bool) → (x : Dials address moment sent old new)
+      → Speaks (stand_in (name_of old.parts.name)) (Sent moment (address_of address) x.sends.bytes)
+  sent_speaks address sent x = said_speaks old.parts (dial_to address x.source) moment sent old.link new.link whole tt x.sends
 
-  same_goes : new ≡ old → Goes old new past
-  same_goes same = record { whole = subst (λ (x : Scene). IsWhole x.parts) (sym same) whole; on = goes_same old new past same s }
-
-  free_goes : (o : Option ℕ) (dial : Dial) (from : Option ℕ) → list_any (has_address dial.address) old.parts.lives.channels ≡ false → DialsFree o dial from moment old new → Goes old new past
-  free_goes None dial from none x = same_goes x.0
-  free_goes (Some at) dial from none x = match_with (nat_lt old.parts.moment at) x
-      (λ early (n : (new ≡ old) × (from ≡ dial.from)). same_goes n.0)
-      (λ late (y : Tries dial from moment old new). ⊎_elim
-      (λ (z : (sent : Bool) × Dials dial.address moment sent old new × (from ≡ None)). dials_goes dial.address z.0 none z.1)
-      (λ (n : (free_seat old.parts.lives ≡ None) × (new ≡ old) × (from ≡ dial.from)). same_goes n.1) y)
-
-  steps_goes : (dial : Dial) (from : Option ℕ) → StepsDial dial from moment old new → Goes old new past
-  steps_goes dial from x = match_with (list_any (has_address dial.address) old.parts.lives.channels) x
-      (λ there (n : (new ≡ old) × (from ≡ None)). same_goes n.0)
-      (λ none (y : DialsFree dial.from dial from moment old new). free_goes dial.from dial from none y)
-
-pub dial_goes : (moment : ℕ) → GoesAt (DialsAt moment)
-dial_goes moment i old new past x whole s =
-    let mid = steps_goes old x.mid past moment whole s x.dial x.from x.steps in
-    let stands = mid.on.stands in
+  -- a handshake was sent, or refused; and where it was sent, the address was dialled
+  pub dials_goes : (address : Address) (sent : Bool) → list_any (has_address address) old.parts.lives.channels ≡ false → Dials address moment sent old new
+      → (g : Goes old new past) × (sent ≡ true → list_any (dials (stand_in (name_of old.parts.name)) (address_of address)) g.on.added ≡ true)
+  dials_goes address true none x =
+      let own = subst (λ (xs : List Message). IsDatagram old.parts.outbox 0 xs x.sends.bytes) x.sends.said x.sends.written in (
+        record {
+          whole = whole_as _ _ x.is;
+          on = record {
+            added = Sent moment (address_of address) x.sends.bytes ∷ [];
+            gained = x.sends.sends.outcome;
+            stands = subst (λ (q : LearnerState). StandsFor q (Sent moment (address_of address) x.sends.bytes ∷ past)) (sym x.is)
+                (dialled_stands old.parts past whole s address moment x.seat x.free none x.source x.sends.bytes (after_note counts.Sent old.parts.counts) x.local own);
+            tallies = λ refused a. subst (λ (q : LearnerState). AreTallied refused q.counts (Sent moment (address_of address) x.sends.bytes ∷ past)) (sym x.is)
+                (sent_tallied refused moment (address_of address) x.sends.bytes past old.parts.counts a);
+          };
+          name = ap (λ (q : LearnerState). q.name) x.is;
+          speaks = (sent_speaks address true x, tt);
+          alone = due_alone old.parts.outbox (dial_to address x.source) moment true old.link new.link x.sends;
+        },
+        λ same. ap (λ (b : Bool). b || false) (dials_it address x.source moment x.sends.bytes
+            (subst (λ (y : Descriptor). IsDatagram y 0 (plain.Handshake x.source (own_options old.parts.outbox) ∷ []) x.sends.bytes) whole.swarm own)),
+      )
+    where
+      dials_it : (a : Address) (source moment : ℕ) (bytes : List ℕ)
+          → IsDatagram (stand_in (name_of old.parts.name)) 0 (plain.Handshake source (own_options old.parts.outbox) ∷ []) bytes
+          → dials (stand_in (name_of old.parts.name)) (address_of a) (Sent moment (address_of a) bytes) ≡ true
+      dials_it a source moment bytes v =
+          ap (λ (b : Bool). b && is_number 0 (read (stand_in (name_of old.parts.name)) (Sent moment (address_of a) bytes)).channel
+          && list_any is_handshake (read (stand_in (name_of old.parts.name)) (Sent moment (address_of a) bytes)).messages.read) (same_self (address_of a))
+          ∙ ap (λ (x : Datagram). true && is_number 0 x.channel && list_any is_handshake x.messages.read) v.read
+  dials_goes address false none x = (
     record {
-      whole = subst (λ (y : Scene). IsWhole y.parts) (sym x.is) (record { size = mid.whole.size; swarm = mid.whole.swarm; seats = mid.whole.seats });
+      whole = whole_as _ _ x.is;
       on = record {
-        added = mid.on.added;
-        gained = subst (λ (y : Scene). GainsRecords old.link.traffic mid.on.added y.link.traffic) (sym x.is) mid.on.gained;
-        stands = subst (λ (y : Scene). StandsFor y.parts (mid.on.added ++ past)) (sym x.is) (record {
-          now_is = stands.now_is;
-          lives = stands.lives;
-          standing = stands.standing;
-          begun = stands.begun;
-          dialled = stands.dialled;
-          follows = stands.follows;
-        });
-        tallies = λ refused a. subst (λ (y : Scene). AreTallied refused y.parts.counts (mid.on.added ++ past)) (sym x.is) (mid.on.tallies refused a);
+        added = [];
+        gained = gains_nothing old.link.traffic new.link.traffic x.sends.sends.outcome.0;
+        stands = subst (λ (q : LearnerState). StandsFor q past) (sym x.is)
+            (refused_stands old.parts past whole s address moment x.seat x.free none (after_note counts.SendFault old.parts.counts));
+        tallies = λ refused a. subst (λ (q : LearnerState). AreTallied refused q.counts past) (sym x.is)
+            (other_tallied refused past counts.SendFault old.parts.counts tt a);
       };
-    }
+      name = ap (λ (q : LearnerState). q.name) x.is;
+      speaks = tt;
+      alone = due_alone old.parts.outbox (dial_to address x.source) moment false old.link new.link x.sends;
+    },
+    λ same. absurd (false≢true same),
+  )
 
--- ---- a turn
+  -- What became of an address: nothing, since a channel has it, or it isn't to be dialled at once, or no seat is free; or the link refused
+  -- its handshake; or it was dialled.
+  pub record Became (dial : Dial) : Type 0 where
+    pub goes : Goes old new past
+    pub how : ((new ≡ old) × ((list_any (has_address dial.address) old.parts.lives.channels ≡ true) ⊎ ((dial.from ≡ Some 0 → ⊥) ⊎ (free_seat old.parts.lives ≡ None))))
+        ⊎ (HasRisen old.link.faults new.link.faults
+        ⊎ (Dials dial.address moment true old new × (list_any (dials (stand_in (name_of old.parts.name)) (address_of dial.address)) goes.on.added ≡ true)))
 
-pub flush_stands : FlushStands
-flush_stands moment old new past whole f s =
-    let t : Seats = f.dropped.lives in
-    let dropped : StandsFor (record old.parts { lives = f.dropped.lives }) past = drops_stand f.seats old.parts f.dropped.lives past f.drops s in
-    let kept : IsWhole (record old.parts { lives = f.dropped.lives }) = record { size = whole.size; swarm = whole.swarm; seats = whole.seats } in
-    let first : Scene = record { parts = f.dropped; link = old.link } in
-    let dials = each_goes (length old.parts.dials) (DialsAt moment) (dial_goes moment) first f.mid past f.dials
-    (subst IsWhole (sym f.dropped_is) kept) (subst (λ (p : LearnerState). StandsFor p past) (sym f.dropped_is) dropped) in
-    let speaks = each_goes 64 (SpeaksAt moment) (speak_goes moment) f.mid new (dials.on.added ++ past) f.speaks dials.whole dials.on.stands in
-    let both = goes_twice first f.mid new past dials.on speaks.on in
-    record {
-      added = both.added;
-      gained = both.gained;
-      stands = both.stands;
-      tallies = λ refused a. both.tallies refused (subst (λ (p : LearnerState). AreTallied refused p.counts past) (sym f.dropped_is) a);
-    }
+  tries_became : (dial : Dial) (sent : Bool) → list_any (has_address dial.address) old.parts.lives.channels ≡ false → Dials dial.address moment sent old new → Became dial
+  tries_became dial true none x = let g = dials_goes dial.address true none x in record { goes = g.0; how = inr (inr (x, g.1 refl)) }
+  tries_became dial false none x = record { goes = (dials_goes dial.address false none x).0; how = inr (inl x.sends.sends.outcome.1) }
+
+  free_became : (o : Option ℕ) (dial : Dial) (from : Option ℕ) → dial.from ≡ o → list_any (has_address dial.address) old.parts.lives.channels ≡ false
+      → DialsFree o dial from moment old new → Became dial
+  free_became None dial from is none x = record {
+    goes = goes_none old new past x.0 whole s;
+    how = inl (x.0, inr (inl (λ (at_once : dial.from ≡ Some 0). none_zero (sym is ∙ at_once))));
+  }
+    where
+      none_zero : {n : ℕ} → None ≡ Some n → ⊥
+      none_zero e = cc
+  free_became (Some at) dial from is none x = match_with (nat_lt old.parts.moment at) x
+      (λ early (n : (new ≡ old) × (from ≡ dial.from)). record {
+        goes = goes_none old new past n.0 whole s;
+        how = inl (n.0, inr (inl (λ (at_once : dial.from ≡ Some 0). not_early (same_Some at 0 (sym is ∙ at_once)) early)));
+      })
+      (λ late (y : Tries dial from moment old new). ⊎_elim
+      (λ (z : (sent : Bool) × Dials dial.address moment sent old new × (from ≡ None)). tries_became dial z.0 none z.1)
+      (λ (n : (free_seat old.parts.lives ≡ None) × (new ≡ old) × (from ≡ dial.from)). record { goes = goes_none old new past n.1 whole s; how = inl (n.1, inr (inr n.0)) }) y)
+    where
+      not_early : at ≡ 0 → nat_lt old.parts.moment at ≡ true → ⊥
+      not_early zero lt = grind (arith, nat_tests)
+
+  pub became : (dial : Dial) (from : Option ℕ) → StepsDial dial from moment old new → Became dial
+  became dial from x = match_with (list_any (has_address dial.address) old.parts.lives.channels) x
+      (λ there (n : (new ≡ old) × (from ≡ None)). record { goes = goes_none old new past n.0 whole s; how = inl (n.0, inl there) })
+      (λ none (y : DialsFree dial.from dial from moment old new). free_became dial.from dial from refl none y)
+
+-- what is kept of the addresses is no matter
+pub dials_set : (old mid new : Scene) (past : List Record) (dials : List Dial) → new ≡ record mid { parts = record mid.parts { dials = dials } }
+    → (g : Goes old mid past) → (h : Goes old new past) × (h.on.added ≡ g.on.added)
+dials_set old mid new past dials is g =
+    let stands = g.on.stands in (
+      record {
+        whole = subst (λ (y : Scene). IsWhole y.parts) (sym is) (record { size = g.whole.size; swarm = g.whole.swarm; seats = g.whole.seats });
+        on = record {
+          added = g.on.added;
+          gained = subst (λ (y : Scene). GainsRecords old.link.traffic g.on.added y.link.traffic) (sym is) g.on.gained;
+          stands = subst (λ (y : Scene). StandsFor y.parts (g.on.added ++ past)) (sym is) (record {
+            now_is = stands.now_is;
+            lives = stands.lives;
+            standing = stands.standing;
+            begun = stands.begun;
+            dialled = stands.dialled;
+            follows = stands.follows;
+          });
+          tallies = λ refused a. subst (λ (y : Scene). AreTallied refused y.parts.counts (g.on.added ++ past)) (sym is) (g.on.tallies refused a);
+        };
+        name = ap (λ (y : Scene). y.parts.name) is ∙ g.name;
+        speaks = g.speaks;
+        alone = subst (λ (y : Scene). SendsAlone old.link y.link) (sym is) g.alone;
+      },
+      refl,
+    )

@@ -16,3 +16,8 @@ pub mod Speaking
 pub mod Dialing
 pub mod Sources
 pub mod Asked
+pub mod Ending
+pub mod Parting
+pub mod Idle
+pub mod Reaching
+pub mod Missing

@@ -29,7 +29,7 @@ use Rattle.pp_learner.specs.declared.dials.Dial.{Dial}
 -- ---- notes
 
 -- the note is a handshake, a REQUEST or none
-abbrev IsModestNote : Note → Type 0
+abbrev pub IsModestNote : Note → Type 0
 IsModestNote KeepAlive = Unit {0}
 IsModestNote (Handshake source) = Unit {0}
 IsModestNote Close = Unit {0}
@@ -40,7 +40,7 @@ requests_modest : (spans : List Span) → list_all is_modest (map (λ span. mess
 requests_modest [] = refl
 requests_modest (span ∷ spans) = requests_modest spans
 
-says_modest : (d : Descriptor) (note : Note) (ms : List Message) → IsModestNote note → Says d note ms → list_all is_modest ms ≡ true
+pub says_modest : (d : Descriptor) (note : Note) (ms : List Message) → IsModestNote note → Says d note ms → list_all is_modest ms ≡ true
 says_modest d KeepAlive ms modest says = ap (list_all is_modest) says
 says_modest d (Handshake source) ms modest says = ap (list_all is_modest) says
 says_modest d Close ms modest says = ap (list_all is_modest) says

@@ -13,7 +13,7 @@ use Rattle.pp_promises.specs.ReadStory.{is_read, read_story}
 use Rattle.pp_outside.specs.Outside.{address_of}
 use Rattle.pp_outside.specs.declared.link.Address.{Address}
 use Rattle.pp_outside.specs.declared.link.Event.TheVariants.{Datagram, Quiet}
-use Rattle.pp_channels.specs.Seats.{Seats, channel_at, is_dialled}
+use Rattle.pp_channels.specs.Seats.{Seats, channel_at}
 use Rattle.pp_channels.specs.declared.channel.Channel.{Channel}
 use Rattle.pp_lives.specs.Arrived.{Arrived}
 use Rattle.pp_lives.specs.Arriving.{Arrives}

@@ -1,5 +1,6 @@
 -- A learner that stands for its traffic still does with what it sends.
 use Rattle.std.proofs.Common.{◌≡◌, ◌≢◌, ◌⊎◌, inl, inr, ⊎_elim, ℕ, zero, suc, ◌+◌, ◌<◌, eqb, Bool, true, false, Option, Some, None, List, [], ◌∷◌, ◌++◌, length, refl, sym, ◌∙◌, ap, subst, arith, append_assoc}
+use Rattle.std.specs.List.{AllByRecursion}
 use Rattle.std.specs.Prelude.{map, slice_set, if◌then◌else◌, option_map, unwrap_or, position, ◌||◌}
 use Rattle.std.proofs.lemmas.Bool.{cases_Bool, eqb-true, eqb-false, false≢true}
 use Rattle.std.proofs.lemmas.List.{length-set}
@@ -10,7 +11,7 @@ use Rattle.pp_terms.specs.format.Messages.{Message, Datagram}
 use Rattle.pp_terms.specs.format.Options.{Options}
 use Rattle.pp_draft.specs.Datagrams.{IsDatagram}
 use Rattle.pp_terms.specs.format.Descriptor.{Descriptor, Method, Bin32, Range32, Bin64, Range64}
-use Rattle.pp_terms.specs.format.Traffic.{Record, Sent}
+use Rattle.pp_terms.specs.format.Traffic.{LinkState, Record, Sent}
 use Rattle.pp_terms.proofs.Addressed.{same_self}
 use Rattle.pp_terms.proofs.Risings.{gains_nothing, gains_twice}
 use Rattle.pp_traffic.specs.Past.{now, read}
@@ -18,10 +19,8 @@ use Rattle.pp_traffic.specs.Life.{Life, begins_as}
 use Rattle.pp_traffic.specs.Story.{Line, Said, say}
 use Rattle.pp_counts.specs.declared.counts.Counts.{Counts}
 use Rattle.pp_outside.specs.Outside.{address_of}
-use Rattle.pp_channels.specs.Seats.{Seats, channel_at, changed, closed, is_begun, is_dialled, with_handshake}
+use Rattle.pp_channels.specs.Seats.{Seats, channel_at, closed, is_begun, with_handshake}
 use Rattle.pp_channels.specs.Timing.{handshake_due, is_over, is_silent}
-use Rattle.pp_channels.specs.declared.channel.Opening.{Opening}
-use Rattle.pp_channels.specs.declared.channel.Opening.TheVariants.{Dialled, Answered}
 use Rattle.pp_channels.specs.declared.channel.Channel.{Channel}
 use Rattle.pp_draft.specs.Notes as notes
 use Rattle.pp_draft.specs.Notes.{AreNames, NamesRange, own_options}
@@ -40,9 +39,10 @@ use Rattle.pp_lives.proofs.Own.{stands_of}
 use Rattle.pp_lives.proofs.Staying.{proven_known}
 use Rattle.pp_lives.proofs.Wholes.{expired_stays}
 use Rattle.pp_targets.specs.Names.{name_of}
+use Rattle.pp_targets.specs.declared.target.SwarmName.{SwarmName}
 use Rattle.pp_learner.specs.Dialling.{Drops}
 use Rattle.pp_learner.specs.Following.{AreTallied, Follows, FollowsIf, AllDialled, StandsFor}
-use Rattle.pp_learner.specs.Laws.{StandsOn}
+use Rattle.pp_learner.specs.Laws.{SendsAlone, Speaks, StandsOn}
 use Rattle.pp_learner.specs.Learners.{LearnerState, IsWhole}
 use Rattle.pp_learner.specs.Reading.{row_at}
 use Rattle.pp_learner.specs.Rows.{RowState}
@@ -51,47 +51,78 @@ use Rattle.pp_learner.specs.declared.due.Due.{Due}
 use Rattle.pp_counts.specs.Counts.{after_note}
 use Rattle.pp_counts.specs.declared.note.Note.TheVariants as counts
 use Rattle.pp_learner.specs.Standing.{stand_in}
+use Rattle.pp_learner.proofs.Modest.{IsModestNote, all_both, says_modest}
 use Rattle.pp_learner.proofs.Staying.{dialled_changed, dialled_closed, dialled_twice, row_same, row_other}
 use Rattle.pp_learner.proofs.Still.{over_there}
 use Rattle.pp_learner.proofs.Tallying.{other_tallied, sent_tallied}
 
 -- ---- one step behind another
 
-pub goes_same : (old new : Scene) (past : List Record) → new ≡ old → StandsFor old.parts past → StandsOn old new past
-goes_same old new past same s = record {
-  added = [];
-  gained = gains_nothing old.link.traffic new.link.traffic (ap (λ (x : Scene). x.link.traffic) same);
-  stands = subst (λ (x : Scene). StandsFor x.parts past) (sym same) s;
-  tallies = λ refused a. subst (λ (x : Scene). AreTallied refused x.parts.counts past) (sym same) a;
+pub alone_same : (old new : LinkState) → new ≡ old → SendsAlone old new
+alone_same old new same = record {
+  nexts = ap (λ (l : LinkState). l.nexts) same;
+  bound = ap (λ (l : LinkState). l.bound) same;
+  later = let faults : new.faults ≡ old.faults = ap (λ (l : LinkState). l.faults) same in omega (arith, faults);
 }
 
-pub goes_twice : (a b c : Scene) (past : List Record) → (x : StandsOn a b past) → StandsOn b c (x.added ++ past) → StandsOn a c past
-goes_twice a b c past x y = record {
-  added = y.added ++ x.added;
-  gained = gains_twice a.link.traffic b.link.traffic c.link.traffic x.added y.added x.gained y.gained;
-  stands = subst (StandsFor c.parts) (sym (append_assoc y.added x.added past)) y.stands;
-  tallies = λ refused k. subst (AreTallied refused c.parts.counts) (sym (append_assoc y.added x.added past)) (y.tallies refused (x.tallies refused k));
+pub alone_twice : (a b c : LinkState) → SendsAlone a b → SendsAlone b c → SendsAlone a c
+alone_twice a b c x y = record {
+  nexts = y.nexts ∙ x.nexts;
+  bound = y.bound ∙ x.bound;
+  later = omega (arith, x.later, y.later);
 }
 
--- a step keeps a learner whole, and standing
+-- A step keeps a learner whole, with its name, and standing; of the link it calls sendings alone, and what it sends is handshakes and
+-- REQUESTs.
 pub record Goes (old new : Scene) (past : List Record) : Type 0 where
   pub whole : IsWhole new.parts
   pub on : StandsOn old new past
+  pub name : new.parts.name ≡ old.parts.name
+  pub speaks : AllByRecursion (Speaks (stand_in (name_of old.parts.name))) on.added
+  pub alone : SendsAlone old.link new.link
 
 abbrev pub GoesAt : (ℕ → Scene → Scene → Type 0) → Type 0
 GoesAt Step = (i : ℕ) (old new : Scene) (past : List Record) → Step i old new → IsWhole old.parts → StandsFor old.parts past → Goes old new past
 
+-- nothing was sent
+pub goes_none : (old new : Scene) (past : List Record) → new ≡ old → IsWhole old.parts → StandsFor old.parts past → Goes old new past
+goes_none old new past same whole s = record {
+  whole = subst (λ (x : Scene). IsWhole x.parts) (sym same) whole;
+  on = record {
+    added = [];
+    gained = gains_nothing old.link.traffic new.link.traffic (ap (λ (x : Scene). x.link.traffic) same);
+    stands = subst (λ (x : Scene). StandsFor x.parts past) (sym same) s;
+    tallies = λ refused a. subst (λ (x : Scene). AreTallied refused x.parts.counts past) (sym same) a;
+  };
+  name = ap (λ (x : Scene). x.parts.name) same;
+  speaks = tt;
+  alone = alone_same old.link new.link (ap (λ (x : Scene). x.link) same);
+}
+
+abbrev pub goes_then : (a b c : Scene) (past : List Record) → (x : Goes a b past) → Goes b c (x.on.added ++ past) → Goes a c past
+goes_then a b c past x y = record {
+  whole = y.whole;
+  on = record {
+    added = y.on.added ++ x.on.added;
+    gained = gains_twice a.link.traffic b.link.traffic c.link.traffic x.on.added y.on.added x.on.gained y.on.gained;
+    stands = subst (StandsFor c.parts) (sym (append_assoc y.on.added x.on.added past)) y.on.stands;
+    tallies = λ refused k. subst (AreTallied refused c.parts.counts) (sym (append_assoc y.on.added x.on.added past))
+        (y.on.tallies refused (x.on.tallies refused k));
+  };
+  name = y.name ∙ x.name;
+  speaks = all_both (Speaks (stand_in (name_of a.parts.name))) y.on.added x.on.added
+      (subst (λ (n : SwarmName). AllByRecursion (Speaks (stand_in (name_of n))) y.on.added) x.name y.speaks) x.speaks;
+  alone = alone_twice a.link b.link c.link x.alone y.alone;
+}
+
 pub each_goes : (n : ℕ) (Step : ℕ → Scene → Scene → Type 0) → GoesAt Step → (old new : Scene) (past : List Record) → EachBelow n Step old new
     → IsWhole old.parts → StandsFor old.parts past → Goes old new past
 unfolding EachBelow
-each_goes zero Step goes old new past each whole s = record {
-  whole = subst (λ (x : Scene). IsWhole x.parts) (sym each) whole;
-  on = goes_same old new past each s;
-}
+each_goes zero Step goes old new past each whole s = goes_none old new past each whole s
 each_goes (suc n) Step goes old new past each whole s =
     let before = each_goes n Step goes old each.0 past each.1 whole s in
     let last = goes n each.0 new (before.on.added ++ past) each.2 before.whole before.on.stands in
-    record { whole = last.whole; on = goes_twice old each.0 new past before.on last.on }
+    goes_then old each.0 new past before last
 
 -- ---- channels whose time is over
 
@@ -275,8 +306,8 @@ module _ (p : LearnerState) (past : List Record) (whole : IsWhole p) (s : Stands
 
 -- what was refused is counted, and sent nothing
 refused_goes : (old new : Scene) (past : List Record) → IsWhole old.parts → StandsFor old.parts past → new.link.traffic ≡ old.link.traffic
-    → new.parts ≡ record old.parts { counts = after_note counts.SendFault old.parts.counts } → Goes old new past
-refused_goes old new past whole s same is = record {
+    → SendsAlone old.link new.link → new.parts ≡ record old.parts { counts = after_note counts.SendFault old.parts.counts } → Goes old new past
+refused_goes old new past whole s same alone is = record {
   whole = subst IsWhole (sym is) (record { size = whole.size; swarm = whole.swarm; seats = whole.seats });
   on = record {
     added = [];
@@ -285,9 +316,31 @@ refused_goes old new past whole s same is = record {
         (record { now_is = s.now_is; lives = s.lives; standing = s.standing; begun = s.begun; dialled = s.dialled; follows = s.follows });
     tallies = λ refused a. subst (λ (p : LearnerState). AreTallied refused p.counts past) (sym is) (other_tallied refused past counts.SendFault old.parts.counts tt a);
   };
+  name = ap (λ (p : LearnerState). p.name) is;
+  speaks = tt;
+  alone = alone;
 }
 
-whole_after : (seat : ℕ) (due : Due) (p : LearnerState) → IsWhole p → IsWhole (after_sending seat due true p)
+-- a note that was said, in the words on traffic
+pub said_speaks : (p : LearnerState) (due : Due) (moment : ℕ) (sent : Bool) (old new : LinkState) → IsWhole p → IsModestNote due.note
+    → (sends : SendsDue p.outbox due moment sent old new) → Speaks (stand_in (name_of p.name)) (Sent moment (address_of due.to.address) sends.bytes)
+said_speaks p due moment sent old new whole modest sends = (
+  moment,
+  record {
+    receiver = address_of due.to.address;
+    channel = due.to.channel;
+    messages = sends.messages;
+    bytes = sends.bytes;
+    is = refl;
+    written = subst (λ (x : Descriptor). IsDatagram x due.to.channel sends.messages sends.bytes) whole.swarm sends.written;
+    modest = says_modest p.outbox due.note sends.messages modest sends.said;
+  },
+)
+
+pub due_alone : (d : Descriptor) (due : Due) (moment : ℕ) (sent : Bool) (old new : LinkState) → SendsDue d due moment sent old new → SendsAlone old new
+due_alone d due moment sent old new s = record { nexts = s.sends.nexts; bound = s.sends.bound; later = s.sends.later }
+
+pub whole_after : (seat : ℕ) (due : Due) (p : LearnerState) → IsWhole p → IsWhole (after_sending seat due true p)
 whole_after seat due p whole = record {
   size = whole.size;
   swarm = whole.swarm;
@@ -296,9 +349,10 @@ whole_after seat due p whole = record {
 
 -- what is due was sent, or refused
 sends_goes : (old new : Scene) (past : List Record) (moment seat : ℕ) (due : Due) (sent : Bool) → IsWhole old.parts → StandsFor old.parts past
+    → IsModestNote due.note
     → (sends : SendsDue old.parts.outbox due moment sent old.link new.link) → new.parts ≡ after_sending seat due sent old.parts
     → StandsFor (after_sending seat due true old.parts) (Sent moment (address_of due.to.address) sends.bytes ∷ past) → Goes old new past
-sends_goes old new past moment seat due true whole s sends is stands = record {
+sends_goes old new past moment seat due true whole s modest sends is stands = record {
   whole = subst IsWhole (sym is) (whole_after seat due old.parts whole);
   on = record {
     added = Sent moment (address_of due.to.address) sends.bytes ∷ [];
@@ -307,9 +361,12 @@ sends_goes old new past moment seat due true whole s sends is stands = record {
     tallies = λ refused a. subst (λ (p : LearnerState). AreTallied refused p.counts (Sent moment (address_of due.to.address) sends.bytes ∷ past)) (sym is)
         (sent_tallied refused moment (address_of due.to.address) sends.bytes past old.parts.counts a);
   };
+  name = ap (λ (p : LearnerState). p.name) is;
+  speaks = (said_speaks old.parts due moment true old.link new.link whole modest sends, tt);
+  alone = due_alone old.parts.outbox due moment true old.link new.link sends;
 }
-sends_goes old new past moment seat due false whole s sends is stands =
-    refused_goes old new past whole s sends.sends.outcome.0 is
+sends_goes old new past moment seat due false whole s modest sends is stands =
+    refused_goes old new past whole s sends.sends.outcome.0 (due_alone old.parts.outbox due moment false old.link new.link sends) is
 
 module _ (old new : Scene) (past : List Record) (moment seat : ℕ) (whole : IsWhole old.parts) (s : StandsFor old.parts past) where
   abbrev p : LearnerState
@@ -322,29 +379,29 @@ module _ (old new : Scene) (past : List Record) (moment seat : ℕ) (whole : IsW
     greeting_goes : is_waiting c ≡ true → (h : Bool)
         → SendsOn (if h then Some (record { to = record { address = c.address; channel = if is_waiting c then 0 else unwrap_or c.remote 0 }; note = Handshake c.local }) else None) seat moment old new
         → Goes old new past
-    greeting_goes waits false sends = record { whole = subst (λ (x : Scene). IsWhole x.parts) (sym sends) whole; on = goes_same old new past sends s }
+    greeting_goes waits false sends = goes_none old new past sends whole s
     greeting_goes waits true sends =
         let due : Due = record { to = record { address = c.address; channel = if is_waiting c then 0 else unwrap_or c.remote 0 }; note = Handshake c.local } in
         let w = sends.1.written in
         let number : (if is_waiting c then 0 else unwrap_or c.remote 0) ≡ 0 = ap (λ (b : Bool). if b then 0 else unwrap_or c.remote 0) waits in
         let own = subst (λ (n : ℕ). IsDatagram old.parts.outbox n (plain.Handshake c.local (own_options old.parts.outbox) ∷ []) sends.1.bytes) number
         (subst (λ (xs : List Message). IsDatagram old.parts.outbox (if is_waiting c then 0 else unwrap_or c.remote 0) xs sends.1.bytes) sends.1.said w) in
-        sends_goes old new past moment seat _ sends.0 whole s sends.1 sends.2
+        sends_goes old new past moment seat _ sends.0 whole s tt sends.1 sends.2
         (greeted_stands old.parts past whole s moment seat c there (after_note counts.Sent old.parts.counts) (own_options old.parts.outbox) sends.1.bytes waits under own)
 
     -- a note is said on a channel that is proven
     speech_goes : is_proven c ≡ true → (asks : Option ℕ) (quiet : Bool) → SendsOn (option_map (on_channel c) (note_for asks quiet)) seat moment old new → Goes old new past
-    speech_goes proven None false sends = record { whole = subst (λ (x : Scene). IsWhole x.parts) (sym sends) whole; on = goes_same old new past sends s }
+    speech_goes proven None false sends = goes_none old new past sends whole s
     speech_goes proven None true sends =
         let own = subst (λ (xs : List Message). IsDatagram old.parts.outbox (unwrap_or c.remote 0) xs sends.1.bytes) sends.1.said sends.1.written in
-        sends_goes old new past moment seat (on_channel c KeepAlive) sends.0 whole s sends.1 sends.2
+        sends_goes old new past moment seat (on_channel c KeepAlive) sends.0 whole s tt sends.1 sends.2
         (spoken_stands old.parts past whole s moment seat c there (record (row_at old.parts.rows seat) { owes = false }) (after_note counts.Sent old.parts.counts) [] sends.1.bytes
         (proven_known c proven) (λ number. refl) own
         (silent_follows (now past) (read_at (stand_in (name_of old.parts.name)) old.parts.lives s.lives past seat) (row_at old.parts.rows seat) (s.follows seat under)))
     speech_goes proven (Some chunk) quiet sends =
         let n = sends.1.said in
         let none : (number : ℕ) → begins_as number sends.1.messages ≡ false = λ number. ap (begins_as number) n.messages ∙ begins_none number n.spans in
-        sends_goes old new past moment seat (on_channel c (Request (record { first = chunk; last = chunk }))) sends.0 whole s sends.1 sends.2
+        sends_goes old new past moment seat (on_channel c (Request (record { first = chunk; last = chunk }))) sends.0 whole s tt sends.1 sends.2
         (spoken_stands old.parts past whole s moment seat c there (asked_at old.parts.moment (row_at old.parts.rows seat)) (after_note counts.Sent old.parts.counts) sends.1.messages sends.1.bytes
         (proven_known c proven) none sends.1.written
         (asked_follows old.parts.outbox.method (now past) old.parts.moment chunk sends.1.messages (read_at (stand_in (name_of old.parts.name)) old.parts.lives s.lives past seat) (row_at old.parts.rows seat)
@@ -353,7 +410,7 @@ module _ (old new : Scene) (past : List Record) (moment seat : ℕ) (whole : IsW
     proven_goes : (b : Bool) → is_proven c ≡ b → (asks : Option ℕ) (quiet : Bool)
         → SendsOn (if b then option_map (on_channel c) (note_for asks quiet) else None) seat moment old new → Goes old new past
     proven_goes true proven asks quiet sends = speech_goes proven asks quiet sends
-    proven_goes false proven asks quiet sends = record { whole = subst (λ (x : Scene). IsWhole x.parts) (sym sends) whole; on = goes_same old new past sends s }
+    proven_goes false proven asks quiet sends = goes_none old new past sends whole s
 
     waiting_goes : (b : Bool) → is_waiting c ≡ b
         → SendsOn (if b then greeting_due old.parts.moment (Some c) else on_proven c (speaks (is_silent old.parts.moment c) old.parts.moment (row_at old.parts.rows seat))) seat moment old new
@@ -363,7 +420,7 @@ module _ (old new : Scene) (past : List Record) (moment seat : ℕ) (whole : IsW
         ((row_at old.parts.rows seat).owes || is_silent old.parts.moment c) sends
 
   seat_goes : (o : Option Channel) → channel_at old.parts.lives seat ≡ o → SendsOn (due_of old.parts.moment o (row_at old.parts.rows seat)) seat moment old new → Goes old new past
-  seat_goes None there sends = record { whole = subst (λ (x : Scene). IsWhole x.parts) (sym sends) whole; on = goes_same old new past sends s }
+  seat_goes None there sends = goes_none old new past sends whole s
   seat_goes (Some c) there sends = waiting_goes c there (is_waiting c) refl sends
 
 pub speak_goes : (moment : ℕ) → GoesAt (SpeaksAt moment)

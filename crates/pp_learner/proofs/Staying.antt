@@ -169,7 +169,7 @@ more_follows : (now : ℕ) (ms : List Message) (o : Option (List Line)) (row : R
 more_follows now ms None row f = tt
 more_follows now ms (Some story) row f = taken_follows now (hear now ms story) (heard_all ms row) (hear_follows now ms story row f)
 
-zero_number : (bytes : List ℕ) → is_for_zero bytes ≡ true → (4 ≤ length bytes) × (from_be_bytes w32 (take 4 bytes) ≡ 0)
+pub zero_number : (bytes : List ℕ) → is_for_zero bytes ≡ true → (4 ≤ length bytes) × (from_be_bytes w32 (take 4 bytes) ≡ 0)
 zero_number bytes is = (grind (arith, nat_tests), grind (arith, nat_tests))
 
 none_some : (e : Descriptor) → None ≡ Some e → ⊥
