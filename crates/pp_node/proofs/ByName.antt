@@ -136,11 +136,24 @@ first_is_P : (name : SwarmName) (size : ℕ) → 80 ≡ slice_index (header (siz
 unfolding header
 first_is_P name size = refl
 
+-- the first byte of an empty file counts as a zero
+pub empty_other : (name : SwarmName) (old new : DiskState) → (IsKnown old → new.history.found ≡ []) → (IsKnown old → IsFreshlyAttached new.history)
+    → IsOtherThan name 0 0 80 old new
+empty_other name old new empty untouched = record {
+  within = omega arith;
+  fixed = inl (omega arith);
+  differ = λ e. omega (arith, e);
+  wanted = first_is_P name;
+  found_is = λ known. ap (λ (r : List ℕ). get_or r 0 0) (sym (empty known));
+  first = λ known k size lt fixed. absurd (omega (arith, lt));
+  untouched = untouched;
+}
+
 module _ (name : SwarmName) (old new : DiskState) (fresh : IsKnown old → IsFreshlyAttached old.history) (keeps : KeepsAll old new) where
   known_before : IsKnown new → IsKnown old
   known_before = known_on new old (sym keeps.tells) (sym keeps.honest)
 
-  kept_found : IsKnown old → new.history.found ≡ old.history.reads
+  pub kept_found : IsKnown old → new.history.found ≡ old.history.reads
   kept_found known = ap (λ (h : History). h.found) keeps.same ∙ (fresh known).showed
 
   kept_fresh : IsKnown old → IsFreshlyAttached new.history
@@ -157,15 +170,7 @@ module _ (name : SwarmName) (old new : DiskState) (fresh : IsKnown old → IsFre
 
   -- an empty file, whose first byte counts as a zero
   pub fresh_other : (IsKnown old → old.history.reads ≡ []) → IsOtherThan name 0 0 80 old new
-  fresh_other empty = record {
-    within = omega arith;
-    fixed = inl (omega arith);
-    differ = λ e. omega (arith, e);
-    wanted = first_is_P name;
-    found_is = λ known. ap (λ (r : List ℕ). get_or r 0 0) (sym (kept_found known ∙ empty known));
-    first = λ known k size lt fixed. absurd (omega (arith, lt));
-    untouched = kept_fresh;
-  }
+  fresh_other empty = empty_other name old new (λ known. kept_found known ∙ empty known) kept_fresh
 
   pub other_kept : (at found want : ℕ) → HasTold name old new (Err (probes.NotAStore at found want)) → IsOtherThan name at found want old new
   other_kept at found want is = record {

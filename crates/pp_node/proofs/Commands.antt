@@ -1,6 +1,9 @@
 -- How a run ended, from how the command ended that its words spell.
 use Rattle.std.proofs.Common.{◌≡◌, ◌⊎◌, inl, inr, ℕ, ◌+◌, List, [], ◌∷◌, codes, refl, sym, ◌∙◌, subst}
+use Rattle.std.specs.Prelude.{Option, Some, None}
 use Rattle.pp_terms.specs.command.Order.{Order}
+use Rattle.pp_terms.specs.command.Tally.{Tally}
+use Rattle.pp_counts.specs.Counts.{tally_of}
 use Rattle.pp_words.specs.Commands.{Command, Import, Seed, Fetch, Check, Export, Upgrade, Replay, Rehearse, Play, Record, Audit}
 use Rattle.pp_words.specs.CommandLine.{Spells, IsImport, IsSeed, IsFetch, IsPlay, IsOnStore, IsOnTarget, IsRehearse, IsRecord, IsOneOf, IsFirstWrong}
 use Rattle.pp_terms.specs.command.Stream.{SourceState, SinkState}
@@ -22,7 +25,8 @@ use Rattle.pp_node.specs.Exporting.{ExportsIn, ExportEnds}
 use Rattle.pp_node.specs.NamedExporting.{NamedExportsIn, NamedExportEnds}
 use Rattle.pp_node.specs.NamedSeeding.{NamedWords, UntoldIn, NamedSeedEnds}
 use Rattle.pp_node.specs.Playing.{PlaysIn, PlayEnds}
-use Rattle.pp_node.specs.Promising.{PeerWords, SeedsIn, SeedEnds, FetchesIn, FetchEnds}
+use Rattle.pp_node.specs.NamedFetching.{UnbegunIn, UnlearnedIn, SoughtEnds, NamedFetchEnds, words_after, behind}
+use Rattle.pp_node.specs.Promising.{PeerWords, SeedsIn, SeedEnds, FetchesIn, FetchEndsBehind, FetchEnds}
 use Rattle.pp_world.specs.Rehearsal.{first_words, rehearsal_key, rehearsal_text}
 use Rattle.pp_world.specs.Schedule.{most_text}
 use Rattle.pp_store.specs.Import.{TakesAtMost}
@@ -125,9 +129,13 @@ module _ (words : List (List ℕ)) (command : Command) (status : Status) (result
   pub named_seed_ends : (w : NamedWords) → IsSeed words w.store (Auto w.name) w.listen w.turns → NamedSeedEnds result w old new
   named_seed_ends w spelled = ended_as (Seed w.store (Auto w.name) w.listen w.turns) spelled
 
-  pub fetch_ends : (w : PeerWords) (order : Order) (peers : List Address) → IsFetch words w.store w.descriptor w.listen w.turns order peers
+  pub fetch_ends : (w : PeerWords) (order : Order) (peers : List Address) → IsFetch words w.store (Sized w.descriptor) w.listen w.turns order peers
       → FetchEnds result w peers old new
-  fetch_ends w order peers spelled = ended_as (Fetch w.store w.descriptor w.listen w.turns order peers) spelled
+  fetch_ends w order peers spelled = ended_as (Fetch w.store (Sized w.descriptor) w.listen w.turns order peers) spelled
+
+  pub named_fetch_ends : (w : NamedWords) (order : Order) (peers : List Address) → IsFetch words w.store (Auto w.name) w.listen w.turns order peers
+      → NamedFetchEnds result w peers old new
+  named_fetch_ends w order peers spelled = ended_as (Fetch w.store (Auto w.name) w.listen w.turns order peers) spelled
 
   pub play_ends : (w : PeerWords) (window : ℕ) (peers : List Address) → IsPlay words w.store w.descriptor w.listen w.turns window peers
       → PlayEnds result w window peers old new
@@ -189,6 +197,19 @@ never_seeds : (w : PeerWords) (number : ℕ) (old new : Outside) → number ≡ 
 never_seeds w number old new one end =
     subst (λ (s : Status). SeedsIn s w old new end.run.added) (usage_only end.run.status (sym end.run.number ∙ one)) end.ends
 
+never_fetches : (earlier : Option Tally) (w : PeerWords) (dial : List Address) (number : ℕ) (old new : Outside) → number ≡ 1
+    → FetchEndsBehind earlier number w dial old new → ⊥
+never_fetches earlier w dial number old new one end =
+    subst (λ (s : Status). FetchesIn s earlier w old new end.run.added) (usage_only end.run.status (sym end.run.number ∙ one)) end.ends
+
+never_sought : (w : NamedWords) (dial : List Address) (number : ℕ) (old new : Outside) → number ≡ 1 → SoughtEnds number w dial old new → ⊥
+never_sought w dial number old new one (inl end) =
+    subst (λ (s : Status). UnbegunIn s w old new) (usage_only end.status (sym end.number ∙ one)) end.ends
+never_sought w dial number old new one (inr (inl end)) =
+    subst (λ (s : Status). UnlearnedIn s (tally_of end.last.parts.counts) old.sink new.sink) (usage_only end.status (sym end.number ∙ one)) end.ends
+never_sought w dial number old new one (inr (inr end)) =
+    never_fetches (Some (tally_of end.last.parts.counts)) (words_after w end.lesson) dial number (behind old end.last.link) new one end.fetches
+
 -- no command ends as wrong words do
 never : (c : Command) (number : ℕ) (old new : Outside) → number ≡ 1 → HasEnded c number old new → ⊥
 never (Import store chunk) number old new one end =
@@ -203,9 +224,16 @@ never (Check store (Sized descriptor)) number old new one end =
     subst (λ (s : Status). ChecksIn s descriptor old new) (usage_only end.status (sym end.number ∙ one)) end.ends
 never (Check store (Auto name)) number old new one end =
     subst (λ (s : Status). NamedChecksIn s name old new) (usage_only end.status (sym end.number ∙ one)) end.ends
-never (Fetch store descriptor listen turns order peers) number old new one end =
-    subst (λ (s : Status). FetchesIn s (record { store = store; descriptor = descriptor; listen = listen; turns = turns }) old new end.run.added)
-    (usage_only end.run.status (sym end.run.number ∙ one)) end.ends
+never (Fetch store (Sized descriptor) listen turns order peers) number old new one end =
+    never_fetches None (record { store = store; descriptor = descriptor; listen = listen; turns = turns }) peers number old new one end
+never (Fetch store (Auto name) listen turns order peers) number old new one (inl none) =
+    subst (λ (s : Status). UntoldIn s name old new) (usage_only none.untold.status (sym none.untold.number ∙ one)) none.untold.ends
+never (Fetch store (Auto name) listen turns order peers) number old new one (inr (inl (e, told, inl end))) =
+    never_fetches None (record { store = store; descriptor = e; listen = listen; turns = turns }) peers number old new one end.fetches
+never (Fetch store (Auto name) listen turns order peers) number old new one (inr (inl (e, told, inr end))) =
+    let number : number_of Shape ≡ 1 = sym end.number ∙ one in cc
+never (Fetch store (Auto name) listen turns order peers) number old new one (inr (inr end)) =
+    never_sought (record { store = store; name = name; listen = listen; turns = turns }) peers number old new one end
 never (Export store (Sized descriptor)) number old new one end =
     subst (λ (s : Status). ExportsIn s descriptor old new) (usage_only end.status (sym end.number ∙ one)) end.ends
 never (Export store (Auto name)) number old new one end =

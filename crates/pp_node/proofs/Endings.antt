@@ -2,7 +2,8 @@
 use Rattle.std.proofs.Common.{◌≡◌, ◌⊎◌, inl, inr, ⊎_elim, ℕ, ◌<◌, Bool, true, Option, None, List, [], length, refl, sym, ◌∙◌, ap, subst, arith, Err}
 use Rattle.std.specs.Prelude.{is_some}
 use Rattle.std.proofs.lemmas.Bool.{false≢true}
-use Rattle.pp_terms.specs.command.Report.{disk_fault_line}
+use Rattle.pp_terms.specs.command.Report.{disk_fault_line, SaysReport}
+use Rattle.pp_terms.specs.command.Tally.{Tally}
 use Rattle.pp_terms.specs.disk.Disk.{DiskState, IsKnown, GainsName}
 use Rattle.pp_terms.specs.disk.Image.{holds}
 use Rattle.pp_terms.specs.disk.Untouched.{IsSyncedAtMost}
@@ -19,8 +20,8 @@ use Rattle.pp_core.specs.Peers.{PeerState}
 use Rattle.pp_node.specs.Looking.{Lasts}
 use Rattle.pp_node.specs.Outside.{Outside}
 use Rattle.pp_node.specs.Preparing.{IsUnsent, HasPrepared, LeavesDisk, LeavesLink}
-use Rattle.pp_node.specs.Promising.{PeerWords, HasRun, IsIncomplete, IsStopped, IsUnturned, FaultsIn, SeedsIn, HasFetched, FetchesIn, LeavesFile, Binds, IsKeptTo, PeerEnds, SeedEnds, DialsAsTold, AsksAsOffered, FetchEnds}
-use Rattle.pp_node.specs.Seeding.{words_of, dials_of, set_of, HasEvery, NamesBehind, Serves, ReportsSeed}
+use Rattle.pp_node.specs.Promising.{PeerWords, HasRun, IsIncomplete, IsStopped, IsUnturned, FaultsIn, SeedsIn, HasFetched, FetchesIn, LeavesFile, Binds, IsKeptTo, PeerEnds, SeedEnds, DialsAsTold, AsksAsOffered, FetchEndsBehind, FetchEnds}
+use Rattle.pp_node.specs.Seeding.{words_of, dials_of, earlier_of, service_of, set_of, told_of, HasEvery, NamesBehind, Serves, ReportsSeed}
 use Rattle.pp_node.specs.Status.{number_of}
 use Rattle.pp_node.specs.Text.{Says}
 use Rattle.pp_turns.specs.Taking.{StopsIn, Ends}
@@ -55,25 +56,26 @@ seeds_in NoLife w old new added f = f
 seeds_in TooLarge w old new added f = f
 seeds_in Shape w old new added f = f
 
-pub fetches_in : (status : Status) (w : PeerWords) (old new : Outside) (added : List Record) → FaultsIn status w old new added → FetchesIn status w old new added
-fetches_in Done w old new added f = absurd f
-fetches_in SinkFault w old new added f = absurd f
-fetches_in Incomplete w old new added f = absurd f
-fetches_in NotAStore w old new added f = f
-fetches_in DiskFault w old new added f = f
-fetches_in LinkFault w old new added f = f
-fetches_in Memory w old new added f = f
-fetches_in Usage w old new added f = f
-fetches_in SourceFault w old new added f = f
-fetches_in NotEmpty w old new added f = f
-fetches_in ContentSize w old new added f = f
-fetches_in Schedule w old new added f = f
-fetches_in Damaged w old new added f = f
-fetches_in AuditNo w old new added f = f
-fetches_in Recording w old new added f = f
-fetches_in NoLife w old new added f = f
-fetches_in TooLarge w old new added f = f
-fetches_in Shape w old new added f = f
+pub fetches_in : (status : Status) (earlier : Option Tally) (w : PeerWords) (old new : Outside) (added : List Record) → FaultsIn status w old new added
+    → FetchesIn status earlier w old new added
+fetches_in Done earlier w old new added f = absurd f
+fetches_in SinkFault earlier w old new added f = absurd f
+fetches_in Incomplete earlier w old new added f = absurd f
+fetches_in NotAStore earlier w old new added f = f
+fetches_in DiskFault earlier w old new added f = f
+fetches_in LinkFault earlier w old new added f = f
+fetches_in Memory earlier w old new added f = f
+fetches_in Usage earlier w old new added f = f
+fetches_in SourceFault earlier w old new added f = f
+fetches_in NotEmpty earlier w old new added f = f
+fetches_in ContentSize earlier w old new added f = f
+fetches_in Schedule earlier w old new added f = f
+fetches_in Damaged earlier w old new added f = f
+fetches_in AuditNo earlier w old new added f = f
+fetches_in Recording earlier w old new added f = f
+fetches_in NoLife earlier w old new added f = f
+fetches_in TooLarge earlier w old new added f = f
+fetches_in Shape earlier w old new added f = f
 
 -- ---- no peer was made ready
 
@@ -104,9 +106,21 @@ pub seed_unsent : (number : ℕ) (w : PeerWords) (old new : Outside) → HasFaul
 unfolding seed_fault
 seed_unsent number w old new f = (seed_fault number w old new f, f.none)
 
-pub fetch_fault : (number : ℕ) (w : PeerWords) (dial : List Address) (old new : Outside) → HasFault number w old new
-    → FetchEnds number w dial old new
-fetch_fault number w dial old new f = record { run = f.run; kept_to = f.kept_to; dials = f.dials dial; asks = f.asks; ends = fetches_in f.run.status w old new f.run.added f.ends }
+pub fetch_fault : (number : ℕ) (earlier : Option Tally) (w : PeerWords) (dial : List Address) (old new : Outside) → HasFault number w old new
+    → FetchEndsBehind earlier number w dial old new
+fetch_fault number earlier w dial old new f = record {
+  run = f.run;
+  kept_to = f.kept_to;
+  dials = f.dials dial;
+  asks = f.asks;
+  ends = fetches_in f.run.status earlier w old new f.run.added f.ends;
+}
+
+-- with no record
+pub fetch_unsent : (number : ℕ) (w : PeerWords) (dial : List Address) (old new : Outside) → HasFault number w old new
+    → (ends : FetchEnds number w dial old new) × (ends.run.added ≡ [])
+unfolding fetch_fault
+fetch_unsent number w dial old new f = (fetch_fault number None w dial old new f, f.none)
 
 module _ (w : Peering) (old new : Outside) (leaves : Leaves w old new) where
   -- what is promised of a run in which nothing was sent
@@ -205,6 +219,10 @@ pub left_damaged : (old new : Outside) → LeavesFile Damaged old new
 left_damaged old new = unleft Damaged old new (λ is. ⊎_elim (λ e. let never : Damaged ≡ NotAStore = e in cc)
     (λ more. ⊎_elim (λ e. let never : Damaged ≡ LinkFault = e in cc) (λ e. let never : Damaged ≡ Memory = e in cc) more) is)
 
+-- nothing was counted before
+pub alone_of : (w : Peering) → w.earlier ≡ None → earlier_of w ≡ None
+alone_of w is = rw is refl
+
 none_some : (o : Option Rank) → o ≡ None → is_some o ≡ true → ⊥
 none_some o is some = absurd (false≢true (ap (λ (x : Option Rank). is_some x) (sym is) ∙ some))
 
@@ -248,7 +266,7 @@ module _ (w : Peering) (old new : Outside) (opened : DiskState) (listens : LinkS
     closed_complete : HasEvery (set_of last) → IsComplete w.descriptor.now (set_of last)
     closed_complete = complete_now w old new opened listens first r w.turns fetches last e
 
-    incomplete : NamesBehind last old.sink new.sink → IsIncomplete w.descriptor.now (set_of last) (tally_of last.parts.counts) old.sink new.sink
+    incomplete : NamesBehind (earlier_of w) last old.sink new.sink → IsIncomplete w.descriptor.now (set_of last) (told_of (earlier_of w) last) old.sink new.sink
     incomplete n = record {
       first = n.names.first;
       missing = missing_now w old new opened listens first r w.turns fetches last e n.names.first n.names.within n.names.missing n.names.before;
@@ -281,40 +299,45 @@ module _ (w : Peering) (old new : Outside) (opened : DiskState) (listens : LinkS
     stopped_asks none = asks_none_now w old new opened listens first r s.taken last s.stops.went k none
 
   abbrev Served : Status → Type 0
-  Served status = Serves status fetches w.turns (b w old new opened listens first r) (start w old new opened listens first r)
+  Served status = Serves status (service_of w) (b w old new opened listens first r) (start w old new opened listens first r)
       (post last new.disk new.link) old.sink new.sink
 
-  pub seed_served : (status : Status) → w.asks ≡ None → Served status → SeedEnds (number_of status) (words_of w) old new
-  seed_served Done none s = record {
+  alone_said : w.earlier ≡ None → SaysReport (set_of last) (told_of (earlier_of w) last) old.sink new.sink
+      → SaysReport (set_of last) (tally_of last.parts.counts) old.sink new.sink
+  alone_said alone = subst (λ (e : Option Tally). SaysReport (set_of last) (told_of e last) old.sink new.sink) (alone_of w alone)
+
+  pub seed_served : (status : Status) → w.asks ≡ None → w.earlier ≡ None → Served status → SeedEnds (number_of status) (words_of w) old new
+  seed_served Done none alone s = record {
     run = closed_run s.0 Done (closed_bound s.0) (left_done old new);
     kept_to = closed_kept s.0;
     asks_none = closed_asks s.0 none;
-    ends = (closed_has s.0 w.turns (closed_all s.0 (λ asked all. none_some w.asks none asked)), s.1.1);
+    ends = (closed_has s.0 w.turns (closed_all s.0 (λ asked all. none_some w.asks none asked)), alone_said alone s.1.1);
   }
-  seed_served SinkFault none s = record {
+  seed_served SinkFault none alone s = record {
     run = closed_run s.0 SinkFault (closed_bound s.0) (left_sink old new);
     kept_to = closed_kept s.0;
     asks_none = closed_asks s.0 none;
     ends = (closed_has s.0 w.turns (closed_all s.0 (λ asked all. none_some w.asks none asked)), s.1);
   }
-  seed_served DiskFault none s = record { run = stopped_run s.0; kept_to = stopped_kept s.0; asks_none = stopped_asks s.0 none; ends = inr (stopped_ends s.0 s.1) }
-  seed_served Incomplete none s = absurd (none_some w.asks none s.1.0)
-  seed_served Usage none s = absurd s
-  seed_served NotAStore none s = absurd s
-  seed_served LinkFault none s = absurd s
-  seed_served SourceFault none s = absurd s
-  seed_served NotEmpty none s = absurd s
-  seed_served ContentSize none s = absurd s
-  seed_served Schedule none s = absurd s
-  seed_served Memory none s = absurd s
-  seed_served Damaged none s = absurd s
-  seed_served AuditNo none s = absurd s
-  seed_served Recording none s = absurd s
-  seed_served NoLife none s = absurd s
-  seed_served TooLarge none s = absurd s
-  seed_served Shape none s = absurd s
+  seed_served DiskFault none alone s = record { run = stopped_run s.0; kept_to = stopped_kept s.0; asks_none = stopped_asks s.0 none; ends = inr (stopped_ends s.0 s.1) }
+  seed_served Incomplete none alone s = absurd (none_some w.asks none s.1.0)
+  seed_served Usage none alone s = absurd s
+  seed_served NotAStore none alone s = absurd s
+  seed_served LinkFault none alone s = absurd s
+  seed_served SourceFault none alone s = absurd s
+  seed_served NotEmpty none alone s = absurd s
+  seed_served ContentSize none alone s = absurd s
+  seed_served Schedule none alone s = absurd s
+  seed_served Memory none alone s = absurd s
+  seed_served Damaged none alone s = absurd s
+  seed_served AuditNo none alone s = absurd s
+  seed_served Recording none alone s = absurd s
+  seed_served NoLife none alone s = absurd s
+  seed_served TooLarge none alone s = absurd s
+  seed_served Shape none alone s = absurd s
 
-  pub fetch_served : (status : Status) → fetches ≡ true → FetchesAll w.descriptor.now first.parts → Served status → FetchEnds (number_of status) (words_of w) (dials_of w) old new
+  pub fetch_served : (status : Status) → fetches ≡ true → FetchesAll w.descriptor.now first.parts → Served status
+      → FetchEndsBehind (earlier_of w) (number_of status) (words_of w) (dials_of w) old new
   fetch_served Done asked all s = record {
     run = closed_run s.0 Done (closed_bound s.0) (left_done old new);
     kept_to = closed_kept s.0;
@@ -357,6 +380,10 @@ module _ (w : Peering) (old new : Outside) (opened : DiskState) (listens : LinkS
   fetch_served NoLife asked all s = absurd s
   fetch_served TooLarge asked all s = absurd s
   fetch_served Shape asked all s = absurd s
+
+  pub fetched_alone : (status : Status) → w.earlier ≡ None → FetchEndsBehind (earlier_of w) (number_of status) (words_of w) (dials_of w) old new
+      → FetchEnds (number_of status) (words_of w) (dials_of w) old new
+  fetched_alone status alone = subst (λ (e : Option Tally). FetchEndsBehind e (number_of status) (words_of w) (dials_of w) old new) (alone_of w alone)
 
   -- what reads gave at the attachment is remembered
   pub found_served : (status : Status) → Served status → IsKnown old.disk → new.disk.history.found ≡ opened.history.found

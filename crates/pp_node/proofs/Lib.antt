@@ -8,6 +8,7 @@ pub mod Readies
 pub mod Peers
 pub mod Endings
 pub mod NamedSeeds
+pub mod NamedFetches
 pub mod Spans
 pub mod Upgrades
 pub mod Commands

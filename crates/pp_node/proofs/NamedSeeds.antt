@@ -21,7 +21,7 @@ use Rattle.pp_named.specs.Shape.{IsMisshapen, IsFirstMisshapen, FindsMisshapen}
 use Rattle.pp_node.specs.Looking.{Lasts}
 use Rattle.pp_named.specs.Front.{size_in}
 use Rattle.pp_terms.specs.disk.Store.{HasHeader}
-use Rattle.pp_node.specs.Naming.{IsTold, HasAttached, TellsNamed, fault_of_name}
+use Rattle.pp_node.specs.Naming.{IsTold, HasAttached, FindsTold, TellsNamed, fault_of_name}
 use Rattle.pp_node.specs.NamedSeeding.{WasInShape}
 use Rattle.pp_node.specs.Outside.{Outside}
 use Rattle.pp_node.specs.Preparing.{IsUnsent, IsReady}
@@ -29,7 +29,7 @@ use Rattle.pp_node.specs.Seeding.{words_of}
 use Rattle.pp_node.specs.declared.preparing.Peering.{Peering}
 use Rattle.pp_node.specs.declared.naming.NamingFault.{NamingFault}
 use Rattle.pp_node.specs.declared.naming.NamingFault.TheVariants as fault
-use Rattle.pp_node.proofs.ByName.{told_later, other_later, fresh_other, other_kept, size_kept, tells_of, told_scanned}
+use Rattle.pp_node.proofs.ByName.{kept_found, told_later, other_later, empty_other, other_kept, size_kept, told_scanned}
 use Rattle.pp_node.proofs.Looks.{found_kept, named_later}
 use Rattle.pp_node.proofs.Peers.{WasReady, was_ready}
 use Rattle.pp_node.proofs.Readies.{ready_since}
@@ -37,32 +37,48 @@ use Rattle.pp_node.proofs.Readies.{ready_since}
 -- ---- what the header tells
 
 module _ (name : SwarmName) (old new : DiskState) (fresh : IsKnown old → IsFreshlyAttached old.history) (keeps : KeepsAll old new) where
-  pub tells_some : (told : Result (Option Descriptor) NameFault) (e : Descriptor) → told ≡ Ok (Some e) → HasTold name old new told
-      → TellsNamed name old new (Ok e)
-  tells_some told e is has = told_scanned name e old new (tells_of name old new told e is has) (found_kept e old new fresh keeps)
+  pub finds_told : (o : Option Descriptor) → HasTold name old new (Ok o) → FindsTold name old new (Ok o)
+  finds_told None has = record {
+    empty = λ known. kept_found name old new fresh keeps known ∙ has known;
+    untouched = λ known. subst IsFreshlyAttached (sym keeps.same) (fresh known);
+  }
+  finds_told (Some e) has = told_scanned name e old new has (found_kept e old new fresh keeps)
 
-  pub tells_none : (told : Result (Option Descriptor) NameFault) → told ≡ Ok None → HasTold name old new told
-      → TellsNamed name old new (Err (fault.NotAStore 0 0 80))
-  tells_none told is has = fresh_other name old new fresh keeps (subst (HasTold name old new) is has)
+  pub finds_fault : (f : NameFault) → HasTold name old new (Err f) → FindsTold name old new (Err (fault_of_name f))
+  finds_fault (probes.NotAStore at found want) has = (
+    other_kept name old new fresh keeps at found want has,
+    λ known. subst (λ (r : List ℕ). 0 < length r) (sym (kept_found name old new fresh keeps known)) (has.some known),
+  )
+  finds_fault (probes.Size size) has = size_kept name old new fresh keeps size has
+  finds_fault probes.Disk has = has
 
-  pub tells_fault : (f : NameFault) → HasTold name old new (Err f) → TellsNamed name old new (Err (fault_of_name f))
-  tells_fault (probes.NotAStore at found want) has = other_kept name old new fresh keeps at found want has
-  tells_fault (probes.Size size) has = size_kept name old new fresh keeps size has
-  tells_fault probes.Disk has = has
-
-pub tells_later : (name : SwarmName) (old mid new : DiskState) → (IsKnown old → IsKnown mid) → old.faults ≤ mid.faults
-    → (result : Result Descriptor NamingFault) → TellsNamed name mid new result → TellsNamed name old new result
-tells_later name old mid new known_mid later (Ok e) is = told_later name old mid new known_mid e is
-tells_later name old mid new known_mid later (Err (fault.NotAStore at found want)) is = other_later name old mid new known_mid at found want is
-tells_later name old mid new known_mid later (Err (fault.Size size)) is = record {
+pub sought_later : (name : SwarmName) (old mid new : DiskState) → (IsKnown old → IsKnown mid) → old.faults ≤ mid.faults
+    → (result : Result (Option Descriptor) NamingFault) → FindsTold name mid new result → FindsTold name old new result
+sought_later name old mid new known_mid later (Ok (Some e)) is = told_later name old mid new known_mid e is
+sought_later name old mid new known_mid later (Ok None) is =
+    record { empty = λ known. is.empty (known_mid known); untouched = λ known. is.untouched (known_mid known) }
+sought_later name old mid new known_mid later (Err (fault.NotAStore at found want)) is =
+    (other_later name old mid new known_mid at found want is.0, λ known. is.1 (known_mid known))
+sought_later name old mid new known_mid later (Err (fault.Size size)) is = record {
   cause = is.cause;
   some = λ known. is.some (known_mid known);
   begins = λ known. is.begins (known_mid known);
   untouched = λ known. is.untouched (known_mid known);
 }
-tells_later name old mid new known_mid later (Err (fault.Shape node)) is = absurd is
-tells_later name old mid new known_mid later (Err fault.Disk) risen = risen_less old.faults mid.faults new.faults later risen
-tells_later name old mid new known_mid later (Err fault.Memory) is = absurd is
+sought_later name old mid new known_mid later (Err (fault.Shape node)) is = absurd is
+sought_later name old mid new known_mid later (Err fault.Disk) risen = risen_less old.faults mid.faults new.faults later risen
+sought_later name old mid new known_mid later (Err fault.Memory) is = absurd is
+
+module _ (name : SwarmName) (old new : DiskState) where
+  pub tells_none : FindsTold name old new (Ok None) → TellsNamed name old new (Err (fault.NotAStore 0 0 80))
+  tells_none is = empty_other name old new is.empty is.untouched
+
+  pub tells_fault : (f : NamingFault) → FindsTold name old new (Err f) → TellsNamed name old new (Err f)
+  tells_fault (fault.NotAStore at found want) is = is.0
+  tells_fault (fault.Size size) is = is
+  tells_fault (fault.Shape node) is = absurd is
+  tells_fault fault.Disk is = is
+  tells_fault fault.Memory is = absurd is
 
 -- as long as what reads gave at the attachment is remembered
 pub told_found : (name : SwarmName) (e : Descriptor) (old mid new : DiskState) → (IsKnown old → new.history.found ≡ mid.history.found)

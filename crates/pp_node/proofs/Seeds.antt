@@ -7,11 +7,10 @@ use Rattle.pp_terms.specs.command.Report.{SaysHeld, held_line, disk_fault_line, 
 use Rattle.pp_terms.specs.command.Stream.{SinkState, Gains}
 use Rattle.pp_terms.specs.command.Tally.{Tally, tally_text}
 use Rattle.pp_promises.specs.Missing.{incomplete_line}
-use Rattle.pp_counts.specs.Counts.{tally_of}
 use Rattle.pp_peer.specs.Standing.{Beginning}
 use Rattle.pp_core.specs.Peers.{PeerState}
 use Rattle.pp_core.specs.Turning.{Closes}
-use Rattle.pp_node.specs.Seeding.{set_of, NamesFirst, Judges, Finishes, Serves, ReportsSeed}
+use Rattle.pp_node.specs.Seeding.{Service, set_of, told_of, NamesFirst, Judges, Finishes, Serves, ReportsSeed}
 use Rattle.pp_node.specs.Text.{Says}
 use Rattle.pp_turns.specs.Taking.{IsSized, TakesAll, StopsIn, Ends}
 use Rattle.pp_turns.specs.Turning.{Post}
@@ -58,33 +57,33 @@ names_first set first text old new result within missing before is gained cause 
 
 -- ---- behind the report
 
-pub finishes_on : (status : Status) (fetches : Bool) (p : PeerState) (old mid new : SinkState) → SaysReport (set_of p) (tally_of p.parts.counts) old mid
-    → Judges status fetches p mid new → Finishes status fetches p old new
-finishes_on Done fetches p old mid new said j = (j.1, subst (SaysReport (set_of p) (tally_of p.parts.counts) old) (sym j.0) said)
-finishes_on Incomplete fetches p old mid new said j = (j.0, record { between = mid; reported = said; names = j.1 })
-finishes_on Usage fetches p old mid new said j = absurd j
-finishes_on NotAStore fetches p old mid new said j = absurd j
-finishes_on DiskFault fetches p old mid new said j = absurd j
-finishes_on LinkFault fetches p old mid new said j = absurd j
-finishes_on SourceFault fetches p old mid new said j = absurd j
-finishes_on SinkFault fetches p old mid new said j = absurd j
-finishes_on NotEmpty fetches p old mid new said j = absurd j
-finishes_on ContentSize fetches p old mid new said j = absurd j
-finishes_on Schedule fetches p old mid new said j = absurd j
-finishes_on Memory fetches p old mid new said j = absurd j
-finishes_on Damaged fetches p old mid new said j = absurd j
-finishes_on AuditNo fetches p old mid new said j = absurd j
-finishes_on Recording fetches p old mid new said j = absurd j
-finishes_on NoLife fetches p old mid new said j = absurd j
-finishes_on TooLarge fetches p old mid new said j = absurd j
-finishes_on Shape fetches p old mid new said j = absurd j
+pub finishes_on : (status : Status) (service : Service) (p : PeerState) (old mid new : SinkState) → SaysReport (set_of p) (told_of service.earlier p) old mid
+    → Judges status service.fetches p mid new → Finishes status service p old new
+finishes_on Done service p old mid new said j = (j.1, subst (SaysReport (set_of p) (told_of service.earlier p) old) (sym j.0) said)
+finishes_on Incomplete service p old mid new said j = (j.0, record { between = mid; reported = said; names = j.1 })
+finishes_on Usage service p old mid new said j = absurd j
+finishes_on NotAStore service p old mid new said j = absurd j
+finishes_on DiskFault service p old mid new said j = absurd j
+finishes_on LinkFault service p old mid new said j = absurd j
+finishes_on SourceFault service p old mid new said j = absurd j
+finishes_on SinkFault service p old mid new said j = absurd j
+finishes_on NotEmpty service p old mid new said j = absurd j
+finishes_on ContentSize service p old mid new said j = absurd j
+finishes_on Schedule service p old mid new said j = absurd j
+finishes_on Memory service p old mid new said j = absurd j
+finishes_on Damaged service p old mid new said j = absurd j
+finishes_on AuditNo service p old mid new said j = absurd j
+finishes_on Recording service p old mid new said j = absurd j
+finishes_on NoLife service p old mid new said j = absurd j
+finishes_on TooLarge service p old mid new said j = absurd j
+finishes_on Shape service p old mid new said j = absurd j
 
-module _ (fetches : Bool) (most : ℕ) (b : Beginning) (first mid last : Post) (old new : SinkState) (takes : TakesAll b most fetches first mid)
+module _ (service : Service) (b : Beginning) (first mid last : Post) (old new : SinkState) (takes : TakesAll b service.most service.fetches first mid)
     (closes : Closes mid.peer last.peer mid.link last.link mid.disk) (disk : last.disk ≡ mid.disk) (sized : IsSized last.peer) where
-  ends_so : Ends b most fetches first last
+  ends_so : Ends b service.most service.fetches first last
   ends_so = record { mid = mid; takes = takes; closes = closes; disk = disk; sized = sized }
 
-  pub serves_on : (status : Status) → Finishes status fetches last.peer old new → Serves status fetches most b first last old new
+  pub serves_on : (status : Status) → Finishes status service last.peer old new → Serves status service b first last old new
   serves_on Done f = (ends_so, f)
   serves_on Incomplete f = (ends_so, f)
   serves_on SinkFault f = (ends_so, f)
@@ -104,7 +103,7 @@ module _ (fetches : Bool) (most : ℕ) (b : Beginning) (first mid last : Post) (
   serves_on TooLarge f = absurd f
   serves_on Shape f = absurd f
 
-pub stops_on : (status : Status) (fetches : Bool) (most : ℕ) (b : Beginning) (first last : Post) (old new : SinkState) → status ≡ DiskFault → StopsIn b most first last
-    → Says disk_fault_line old new → Serves status fetches most b first last old new
-stops_on status fetches most b first last old new is stops said =
-    subst (λ (s : Status). Serves s fetches most b first last old new) (sym is) (stops, said)
+pub stops_on : (status : Status) (service : Service) (b : Beginning) (first last : Post) (old new : SinkState) → status ≡ DiskFault
+    → StopsIn b service.most first last → Says disk_fault_line old new → Serves status service b first last old new
+stops_on status service b first last old new is stops said =
+    subst (λ (s : Status). Serves s service b first last old new) (sym is) (stops, said)

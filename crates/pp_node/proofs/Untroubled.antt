@@ -1,6 +1,6 @@
 -- Where no device refused a call, a command that has what it is for is done, but for want of memory and chunks that are missing.
 use Rattle.std.proofs.Common.{◌≡◌, ◌⊎◌, inl, inr, ℕ, zero, suc, ◌+◌, ◌*◌, ◌^◌, ◌≤◌, List, length, Ok, Err, refl, sym, ◌∙◌, ap, subst, arith}
-use Rattle.std.specs.Prelude.{min, Some, take}
+use Rattle.std.specs.Prelude.{min, ◌<◌, Option, Some, None, take}
 use Rattle.std.proofs.lemmas.List.{take_all}
 use Rattle.rand_core.specs.Steps as steps
 use Rattle.rand_chacha.specs.ChaCha.{of_seed, next_word}
@@ -11,7 +11,10 @@ use Rattle.pp_terms.specs.disk.Disk.{DiskState, IsKnown}
 use Rattle.pp_terms.specs.disk.Sound.{BeganSound}
 use Rattle.pp_terms.specs.disk.Store.{HasHeader}
 use Rattle.pp_terms.specs.format.Descriptor.{Descriptor}
-use Rattle.pp_terms.specs.format.Traffic.{Address, Record}
+use Rattle.pp_terms.specs.command.Tally.{Tally}
+use Rattle.pp_terms.specs.format.Traffic.{Address, LinkState, Record}
+use Rattle.pp_terms.proofs.Risings.{risen_less}
+use Rattle.pp_counts.specs.Counts.{tally_of}
 use Rattle.pp_terms.specs.tree.Content.{IsContentSize}
 use Rattle.pp_store.specs.Old.{HasOldHeader}
 use Rattle.pp_targets.specs.Target.{SwarmName, Sized, Auto}
@@ -32,7 +35,8 @@ use Rattle.pp_node.proofs.ByName.{told_once}
 use Rattle.pp_node.specs.Outside.{Outside}
 use Rattle.pp_node.specs.Playing.{PlaysIn}
 use Rattle.pp_node.specs.NamedSeeding.{NamedWords, words_with, UntoldIn, NamedSeedEnds}
-use Rattle.pp_node.specs.Promising.{PeerWords, SeedsIn, SeedEnds, FetchesIn}
+use Rattle.pp_node.specs.NamedFetching.{UnbegunIn, UnlearnedIn, ToldFetchEnds, SoughtEnds, NamedFetchEnds, words_after, behind}
+use Rattle.pp_node.specs.Promising.{PeerWords, SeedsIn, SeedEnds, FetchesIn, FetchEndsBehind}
 use Rattle.pp_recording.specs.Recording as recordings
 use Rattle.pp_recording.specs.Recording.{Recorded, recording_text, IsWithin}
 use Rattle.pp_node.specs.Auditing.{AuditsIn, AuditsText}
@@ -73,6 +77,36 @@ drawn number = first_words 2002 (rehearsal_key number)
 
 drawn_few : (number : ℕ) → length (drawn number) ≤ 2002
 drawn_few number = omega (arith, words_count (next_word 4) 2002 (of_seed (rehearsal_key number)))
+
+-- what a fetch answers then
+module _ (old new : Outside) (u : IsUntroubled old new) where
+  fetched : (earlier : Option Tally) (w : PeerWords) (added : List Record) (s : Status) → FindsOwn w.descriptor old new → FetchesIn s earlier w old new added
+      → IsDoneOrMissing (number_of s)
+  fetched earlier w added Done own ends = inl (inl refl)
+  fetched earlier w added Incomplete own ends = inr refl
+  fetched earlier w added NotAStore own ends =
+      absurd (none_differs w.descriptor ends.0.at ends.0.found ends.0.want old.disk new.disk own.known own.begins ends.0.other)
+  fetched earlier w added DiskFault own (inl ends) = absurd (u.disk ends.0.refused.risen)
+  fetched earlier w added DiskFault own (inr ends) = absurd (u.hard ends.hard)
+  fetched earlier w added LinkFault own ends = absurd (u.link ends.0.risen)
+  fetched earlier w added SinkFault own ends = absurd (u.sink ends.1)
+  fetched earlier w added Memory own ends = inl (inr refl)
+  fetched earlier w added Usage own ends = absurd ends
+  fetched earlier w added AuditNo own ends = absurd ends
+  fetched earlier w added NoRecording own ends = absurd ends
+  fetched earlier w added NoLife own ends = absurd ends
+  fetched earlier w added TooLarge own ends = absurd ends
+  fetched earlier w added Shape own ends = absurd ends
+  fetched earlier w added SourceFault own ends = absurd ends
+  fetched earlier w added NotEmpty own ends = absurd ends
+  fetched earlier w added ContentSize own ends = absurd ends
+  fetched earlier w added NoSchedule own ends = absurd ends
+  fetched earlier w added Damaged own ends = absurd ends
+
+  fetches_well : (earlier : Option Tally) (w : PeerWords) (dial : List Address) (result : ℕ) → FindsOwn w.descriptor old new
+      → FetchEndsBehind earlier result w dial old new → IsDoneOrMissing result
+  fetches_well earlier w dial result own end =
+      subst IsDoneOrMissing (sym end.run.number) (fetched earlier w end.run.added end.run.status own end.ends)
 
 module _ (old new : Outside) (u : IsUntroubled old new) where
   checked : (d : Descriptor) (s : Status) → FindsOwn d old new → ChecksIn s d old new → IsDoneOrShort (number_of s)
@@ -167,28 +201,6 @@ module _ (old new : Outside) (u : IsUntroubled old new) where
   seeds_by_name w result own (inr (e, told, inl end)) =
       inl (seeds_well (words_with w e) result (record { known = own.known; begins = inr (told.begins own.known) }) end.seeds)
   seeds_by_name w result own (inr (e, told, inr end)) = inr (inr end.number)
-
-  fetched : (w : PeerWords) (added : List Record) (s : Status) → FindsOwn w.descriptor old new → FetchesIn s w old new added → IsDoneOrMissing (number_of s)
-  fetched w added Done own ends = inl (inl refl)
-  fetched w added Incomplete own ends = inr refl
-  fetched w added NotAStore own ends =
-      absurd (none_differs w.descriptor ends.0.at ends.0.found ends.0.want old.disk new.disk own.known own.begins ends.0.other)
-  fetched w added DiskFault own (inl ends) = absurd (u.disk ends.0.refused.risen)
-  fetched w added DiskFault own (inr ends) = absurd (u.hard ends.hard)
-  fetched w added LinkFault own ends = absurd (u.link ends.0.risen)
-  fetched w added SinkFault own ends = absurd (u.sink ends.1)
-  fetched w added Memory own ends = inl (inr refl)
-  fetched w added Usage own ends = absurd ends
-  fetched w added AuditNo own ends = absurd ends
-  fetched w added NoRecording own ends = absurd ends
-  fetched w added NoLife own ends = absurd ends
-  fetched w added TooLarge own ends = absurd ends
-  fetched w added Shape own ends = absurd ends
-  fetched w added SourceFault own ends = absurd ends
-  fetched w added NotEmpty own ends = absurd ends
-  fetched w added ContentSize own ends = absurd ends
-  fetched w added NoSchedule own ends = absurd ends
-  fetched w added Damaged own ends = absurd ends
 
   exported : (d : Descriptor) (s : Status) → FindsOwn d old new → ExportsIn s d old new
       → IsDoneOrMissing (number_of s) ⊎ ((number_of s ≡ number_of Damaged) × (BeganSound d new.disk.history → ⊥))
@@ -451,13 +463,117 @@ module _ (old new : Outside) (u : IsUntroubled old new) where
   audited r TooLarge within left ends = answered ends.text r TooLarge within (whole_text ends.text (recording_text r) r within refl (ends.same (recording_text r) left)) ends.audits
   audited r Shape within left ends = answered ends.text r Shape within (whole_text ends.text (recording_text r) r within refl (ends.same (recording_text r) left)) ends.audits
 
+  -- a learner was to be opened
+  unbegun : (w : NamedWords) (s : Status) → UnbegunIn s w old new → IsDoneOrMissing (number_of s)
+  unbegun w LinkFault ends = absurd (u.link ends.0)
+  unbegun w Memory ends = inl (inr refl)
+  unbegun w Done ends = absurd ends
+  unbegun w Usage ends = absurd ends
+  unbegun w NotAStore ends = absurd ends
+  unbegun w Incomplete ends = absurd ends
+  unbegun w DiskFault ends = absurd ends
+  unbegun w SourceFault ends = absurd ends
+  unbegun w SinkFault ends = absurd ends
+  unbegun w NotEmpty ends = absurd ends
+  unbegun w ContentSize ends = absurd ends
+  unbegun w NoSchedule ends = absurd ends
+  unbegun w Damaged ends = absurd ends
+  unbegun w AuditNo ends = absurd ends
+  unbegun w NoRecording ends = absurd ends
+  unbegun w NoLife ends = absurd ends
+  unbegun w TooLarge ends = absurd ends
+  unbegun w Shape ends = absurd ends
+
+  unlearned : (tally : Tally) (s : Status) → UnlearnedIn s tally old.sink new.sink → IsDoneOrMissing (number_of s)
+  unlearned tally Incomplete ends = inr refl
+  unlearned tally SinkFault ends = absurd (u.sink ends)
+  unlearned tally Done ends = absurd ends
+  unlearned tally Usage ends = absurd ends
+  unlearned tally NotAStore ends = absurd ends
+  unlearned tally DiskFault ends = absurd ends
+  unlearned tally LinkFault ends = absurd ends
+  unlearned tally SourceFault ends = absurd ends
+  unlearned tally NotEmpty ends = absurd ends
+  unlearned tally ContentSize ends = absurd ends
+  unlearned tally NoSchedule ends = absurd ends
+  unlearned tally Memory ends = absurd ends
+  unlearned tally Damaged ends = absurd ends
+  unlearned tally AuditNo ends = absurd ends
+  unlearned tally NoRecording ends = absurd ends
+  unlearned tally NoLife ends = absurd ends
+  unlearned tally TooLarge ends = absurd ends
+  unlearned tally Shape ends = absurd ends
+
+  -- nothing was refused behind a learner either
+  untroubled_behind : (link : LinkState) → old.link.faults ≤ link.faults → IsUntroubled (behind old link) new
+  untroubled_behind link later = record {
+    disk = u.disk;
+    hard = u.hard;
+    link = λ risen. u.link (risen_less old.link.faults link.faults new.link.faults later risen);
+    source = u.source;
+    sink = u.sink;
+  }
+
+  sought : (w : NamedWords) (dial : List Address) (result : ℕ) → IsKnown old.disk → SoughtEnds result w dial old new → IsDoneOrMissing result
+  sought w dial result known (inl end) = subst IsDoneOrMissing (sym end.number) (unbegun w end.status end.ends)
+  sought w dial result known (inr (inl end)) = subst IsDoneOrMissing (sym end.number) (unlearned (tally_of end.last.parts.counts) end.status end.ends)
+  sought w dial result known (inr (inr end)) =
+      let opened_later = end.opening.unsent.later in
+      let closed_later = end.learning.closed.later in
+      fetches_well (behind old end.last.link) new (untroubled_behind end.last.link (omega (arith, opened_later, closed_later)))
+      (Some (tally_of end.last.parts.counts)) (words_after w end.lesson) dial result (record { known = known; begins = inl (end.empty known) }) end.fetches
+
+  -- the header of an empty file tells no size, and an empty file is no fault
+  unfound : (w : NamedWords) (s : Status) → FindsEmpty old new → (s ≡ NotAStore → IsKnown old.disk → 0 < length new.disk.history.found)
+      → UntoldIn s w.name old new → ⊥
+  unfound w NotAStore own some ends = let lt = some refl own.known in omega (arith, lt, ap length own.empty)
+  unfound w DiskFault own some ends = u.disk ends.risen
+  unfound w ContentSize own some ends = let lt = ends.is.some own.known in omega (arith, lt, ap length own.empty)
+  unfound w Done own some ends = ends
+  unfound w Usage own some ends = ends
+  unfound w Incomplete own some ends = ends
+  unfound w LinkFault own some ends = ends
+  unfound w SourceFault own some ends = ends
+  unfound w SinkFault own some ends = ends
+  unfound w NotEmpty own some ends = ends
+  unfound w NoSchedule own some ends = ends
+  unfound w Memory own some ends = ends
+  unfound w Damaged own some ends = ends
+  unfound w Shape own some ends = ends
+  unfound w AuditNo own some ends = ends
+  unfound w NoRecording own some ends = ends
+  unfound w NoLife own some ends = ends
+  unfound w TooLarge own some ends = ends
+
+  -- an empty file, and one that begins with the name's header
+  fetches_empty : (w : NamedWords) (dial : List Address) (result : ℕ) → FindsEmpty old new → NamedFetchEnds result w dial old new → IsDoneOrMissing result
+  fetches_empty w dial result own (inl none) = absurd (unfound w none.untold.status own none.some none.untold.ends)
+  fetches_empty w dial result own (inr (inl (e, told, end))) = absurd (let lt = told.some own.known in omega (arith, lt, ap length own.empty))
+  fetches_empty w dial result own (inr (inr end)) = sought w dial result own.known end
+
+  fetches_told : (w : PeerWords) (dial : List Address) (result : ℕ) → FindsOwn w.descriptor old new → ToldFetchEnds result w dial old new
+      → IsDoneOrMissing result ⊎ (result ≡ number_of ContentSize) ⊎ (result ≡ number_of Shape)
+  fetches_told w dial result own (inl end) = inl (fetches_well old new u None w dial result own end.fetches)
+  fetches_told w dial result own (inr end) = inr (inr end.number)
+
+  fetches_named : (w : NamedWords) (dial : List Address) (result : ℕ) → FindsOfName w.name old new → NamedFetchEnds result w dial old new
+      → IsDoneOrMissing result ⊎ (result ≡ number_of ContentSize) ⊎ (result ≡ number_of Shape)
+  fetches_named w dial result own (inl none) = inr (inl (none.untold.number ∙ untold w.name none.untold.status own none.untold.ends))
+  fetches_named w dial result own (inr (inl (e, told, end))) =
+      fetches_told (words_with w e) dial result (record { known = own.known; begins = inr (told.begins own.known) }) end
+  fetches_named w dial result own (inr (inr end)) = inl (sought w dial result own.known end)
+
   -- what each command answers
   answers : (c : Command) (result : ℕ) → HasEnded c result old new → AnswersWell c result old new
   answers (Import store chunk) result end = λ own content left fits. end.number ∙ imported chunk end.status own content left fits end.ends
   answers (Seed store (Sized d) listen turns) result end = λ own. seeds_well (record { store = store; descriptor = d; listen = listen; turns = turns }) result own end
   answers (Seed store (Auto name) listen turns) result end = λ own. seeds_by_name (record { store = store; name = name; listen = listen; turns = turns }) result own end
-  answers (Fetch store d listen turns order peers) result end = λ own. subst IsDoneOrMissing (sym end.run.number)
-      (fetched (record { store = store; descriptor = d; listen = listen; turns = turns }) end.run.added end.run.status own end.ends)
+  answers (Fetch store (Sized d) listen turns order peers) result end = λ own.
+      fetches_well old new u None (record { store = store; descriptor = d; listen = listen; turns = turns }) peers result own end
+  answers (Fetch store (Auto name) listen turns order peers) result end = (
+    λ own. fetches_empty (record { store = store; name = name; listen = listen; turns = turns }) peers result own end,
+    λ own. fetches_named (record { store = store; name = name; listen = listen; turns = turns }) peers result own end,
+  )
   answers (Check store (Sized d)) result end = λ own. subst IsDoneOrShort (sym end.number) (checked d end.status own end.ends)
   answers (Check store (Auto name)) result end = λ own. subst
       (λ (n : ℕ). IsDoneOrShort n ⊎ (n ≡ number_of ContentSize) ⊎ (n ≡ number_of Shape)) (sym end.number) (named_checked name end.status own end.ends)

@@ -9,12 +9,14 @@ pub mod Preparing
 pub mod Held
 pub mod Checking
 pub mod Naming
-pub mod Seeding
+pub mod Tallies
 pub mod Promising
+pub mod Seeding
 pub mod Playing
 pub mod Exporting
 pub mod NamedExporting
 pub mod NamedSeeding
+pub mod NamedFetching
 pub mod Upgrading
 pub mod Commanding
 pub mod Replaying

@@ -53,7 +53,7 @@ pub record UntoldEnds (result : ℕ) (store : List ℕ) (name : SwarmName) (old 
   pub book : new.book ≡ old.book
 
 -- The book that was scanned has a node that covers no chunk and isn't 32 zero bytes. The first was named, and no turn was taken.
-pub record IsMisshapedSeed (result : ℕ) (w : PeerWords) (old new : Outside) : Type 0 where
+pub record IsMisshapedPeer (result : ℕ) (w : PeerWords) (old new : Outside) : Type 0 where
   pub number : result ≡ number_of Shape
   pub layer : ℕ
   pub offset : ℕ
@@ -78,7 +78,7 @@ pub record IsSeededTold (result : ℕ) (w : PeerWords) (old new : Outside) : Typ
 
 -- The descriptor that the header told was seeded, or its nodes are out of shape.
 abbrev pub ToldSeedEnds : ℕ → PeerWords → Outside → Outside → Type 0
-ToldSeedEnds result w old new = IsSeededTold result w old new ⊎ IsMisshapedSeed result w old new
+ToldSeedEnds result w old new = IsSeededTold result w old new ⊎ IsMisshapedPeer result w old new
 
 -- what reads gave at the attachment is remembered
 abbrev pub KeepsFound : DiskState → DiskState → Type 0

@@ -1,5 +1,5 @@
 -- What a run of `check STORE DESC` does where DESC names a swarm without its size, which the store's header tells.
-use Rattle.std.specs.Prelude.{◌≡◌, ◌⊎◌, ℕ, ◌<◌, ◌≤◌, Bool, true, Ok, Err, List, ◌++◌, length, codes, decimal, slice_index, Result}
+use Rattle.std.specs.Prelude.{◌≡◌, ◌⊎◌, ℕ, ◌<◌, ◌≤◌, Bool, true, Ok, Err, List, [], ◌++◌, length, codes, decimal, slice_index, Option, Some, None, Result}
 use Rattle.pp_terms.specs.Count.{HasRisen}
 use Rattle.pp_terms.specs.command.Report.{line, disk_fault_line, content_size_line, not_a_store_line, SaysHeld}
 use Rattle.pp_terms.specs.command.Stream.{SinkState}
@@ -117,6 +117,22 @@ TellsNamed name old new (Err (fault.Size size)) = IsOfNoSize name size old new
 TellsNamed name old new (Err (fault.Shape node)) = ⊥
 TellsNamed name old new (Err fault.Disk) = HasRisen old.faults new.faults
 TellsNamed name old new (Err fault.Memory) = ⊥
+
+-- The file that was attached was empty, and nothing was done on the disk since.
+pub record FindsNothing (old new : DiskState) : Type 0 where
+  pub empty : IsKnown old → new.history.found ≡ []
+  pub untouched : IsKnown old → IsFreshlyAttached new.history
+
+-- The same, but that an empty file is no fault.
+abbrev pub FindsTold : SwarmName → DiskState → DiskState → Result (Option Descriptor) NamingFault → Type 0
+FindsTold name old new (Ok None) = FindsNothing old new
+FindsTold name old new (Ok (Some e)) = IsTold name e old new
+FindsTold name old new (Err (fault.NotAStore at found want)) =
+    IsOtherThan name at found want old new × (IsKnown old → 0 < length new.history.found)
+FindsTold name old new (Err (fault.Size size)) = IsOfNoSize name size old new
+FindsTold name old new (Err (fault.Shape node)) = ⊥
+FindsTold name old new (Err fault.Disk) = HasRisen old.faults new.faults
+FindsTold name old new (Err fault.Memory) = ⊥
 
 -- the book is as it was, or of a descriptor of the name
 abbrev pub IsRootedByName : SwarmName → BookState → BookState → Type 0

@@ -1,5 +1,5 @@
 -- What a run of `seed STORE DESCRIPTOR LISTEN TURNS` or `fetch STORE DESCRIPTOR LISTEN TURNS ORDER PEER..` promises.
-use Rattle.std.specs.Prelude.{◌≡◌, ◌⊎◌, ℕ, ◌<◌, ◌≤◌, Bool, true, Some, List, [], ◌++◌, length}
+use Rattle.std.specs.Prelude.{◌≡◌, ◌⊎◌, ℕ, ◌<◌, ◌≤◌, Bool, true, Option, Some, None, List, [], ◌++◌, length}
 use Rattle.std.specs.List.{AllByRecursion}
 use Rattle.pp_terms.specs.Count.{HasRisen}
 use Rattle.pp_terms.specs.command.Report.{disk_fault_line, SaysReport}
@@ -34,6 +34,7 @@ use Rattle.pp_node.specs.Looking.{IsOf, Lasts}
 use Rattle.pp_node.specs.Outside.{Outside}
 use Rattle.pp_node.specs.Faults.{Faults}
 use Rattle.pp_node.specs.Status.{number_of}
+use Rattle.pp_node.specs.Tallies.{with_earlier}
 use Rattle.pp_node.specs.Text.{Says}
 use Rattle.pp_node.specs.declared.status.Status.{Status}
 use Rattle.pp_node.specs.declared.status.Status.TheVariants.{Done, NotAStore, Incomplete, DiskFault, LinkFault, SinkFault, Memory}
@@ -123,14 +124,14 @@ pub record HasFetched (w : PeerWords) (old new : Outside) (added : List Record) 
   pub run : HasRun w taken old new added
   pub early : taken < w.turns → IsComplete w.descriptor run.committed
 
--- When each status of a `fetch` comes, and what was said.
-abbrev pub FetchesIn : Status → PeerWords → Outside → Outside → List Record → Type 0
-FetchesIn Done w old new added =
-    (f : HasFetched w old new added) × IsComplete w.descriptor f.run.committed × SaysReport f.run.committed f.run.tally old.sink new.sink
-FetchesIn Incomplete w old new added =
-    (r : HasRun w w.turns old new added) × IsIncomplete w.descriptor r.committed r.tally old.sink new.sink
-FetchesIn SinkFault w old new added = HasFetched w old new added × HasRisen old.sink.faults new.sink.faults
-FetchesIn status w old new added = FaultsIn status w old new added
+-- When each status of a `fetch` comes, and what was said: the report adds what was counted before the peer began.
+abbrev pub FetchesIn : Status → (earlier : Option Tally) → PeerWords → Outside → Outside → List Record → Type 0
+FetchesIn Done earlier w old new added = (f : HasFetched w old new added) × IsComplete w.descriptor f.run.committed
+    × SaysReport f.run.committed (with_earlier earlier f.run.tally) old.sink new.sink
+FetchesIn Incomplete earlier w old new added = (r : HasRun w w.turns old new added)
+    × IsIncomplete w.descriptor r.committed (with_earlier earlier r.tally) old.sink new.sink
+FetchesIn SinkFault earlier w old new added = HasFetched w old new added × HasRisen old.sink.faults new.sink.faults
+FetchesIn status earlier w old new added = FaultsIn status w old new added
 
 -- Nothing was done on the disk since the attachment, where the file is another's, the link refused to listen or memory ran out.
 pub record LeavesFile (status : Status) (old new : Outside) : Type 0 where
@@ -217,10 +218,14 @@ AsksAsOffered d old new added = (before : List Record) → old.link.traffic ≡ 
     → IsSteady d old.disk new.disk → CountsTell (devices_of new)
     → AsksBut (refusals (devices_of old) (devices_of new)) d new.disk.history.reads added
 
--- A run of `fetch`, which is to dial these addresses.
-pub record FetchEnds (result : ℕ) (w : PeerWords) (dial : List Address) (old new : Outside) : Type 0 where
+-- A run of `fetch`, which is to dial these addresses, behind a part of the run that counted something.
+pub record FetchEndsBehind (earlier : Option Tally) (result : ℕ) (w : PeerWords) (dial : List Address) (old new : Outside) : Type 0 where
   pub run : PeerEnds result w old new
   pub kept_to : IsKeptTo w.descriptor old new run.added
   pub dials : DialsAsTold w.descriptor dial old new run.added
   pub asks : AsksAsOffered w.descriptor old new run.added
-  pub ends : FetchesIn run.status w old new run.added
+  pub ends : FetchesIn run.status earlier w old new run.added
+
+-- A run of `fetch`, with nothing before it.
+abbrev pub FetchEnds : (result : ℕ) → PeerWords → List Address → Outside → Outside → Type 0
+FetchEnds = FetchEndsBehind None

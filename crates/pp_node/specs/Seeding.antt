@@ -1,8 +1,9 @@
 -- How a peer that was made ready seeds or fetches, and what is said of it.
-use Rattle.std.specs.Prelude.{◌≡◌, ℕ, ◌<◌, Bool, true, false, List, map, length}
+use Rattle.std.specs.Prelude.{◌≡◌, ℕ, ◌<◌, Bool, true, false, Option, option_map, is_some, List, map, length}
 use Rattle.pp_terms.specs.Count.{HasRisen}
 use Rattle.pp_terms.specs.command.Report.{disk_fault_line, link_fault_line, not_a_store_line, SaysReport}
 use Rattle.pp_terms.specs.command.Stream.{SinkState}
+use Rattle.pp_terms.specs.command.Tally.{Tally}
 use Rattle.pp_terms.specs.disk.Disk.{DiskState}
 use Rattle.pp_terms.specs.format.Traffic.{Address}
 use Rattle.pp_terms.specs.format.Traffic.{LinkState}
@@ -14,6 +15,7 @@ use Rattle.pp_peer.specs.Standing.{Beginning}
 use Rattle.pp_tree.specs.Book.{BookState, IsBookOf}
 use Rattle.pp_core.specs.Peers.{PeerState}
 use Rattle.pp_node.specs.Promising.{PeerWords}
+use Rattle.pp_node.specs.Tallies.{with_earlier}
 use Rattle.pp_node.specs.Text.{Says}
 use Rattle.pp_turns.specs.Taking.{Ends, StopsIn}
 use Rattle.pp_turns.specs.Turning.{Post, post}
@@ -30,6 +32,18 @@ words_of w = record { store = w.store.now; descriptor = w.descriptor.now; listen
 -- the addresses that it is to dial
 abbrev pub dials_of : Peering → List Address
 dials_of w = map address_of w.dial.now.items
+
+-- What a peer is to do: whether it fetches, how many turns it takes at most, and what was counted before it began.
+pub record Service : Type 0 where
+  pub fetches : Bool
+  pub most : ℕ
+  pub earlier : Option Tally
+
+abbrev pub earlier_of : Peering → Option Tally
+earlier_of w = option_map (λ counts. tally_of counts.now) w.earlier
+
+abbrev pub service_of : Peering → Service
+service_of w = record { fetches = is_some w.asks; most = w.turns; earlier = earlier_of w }
 
 -- the set of a peer's committed chunks
 abbrev pub set_of : PeerState → List Bool
@@ -52,36 +66,40 @@ Judges Done fetches p old new = (new ≡ old) × (fetches ≡ true → HasEvery 
 Judges Incomplete fetches p old new = (fetches ≡ true) × NamesFirst (set_of p) old new
 Judges _ fetches p old new = ⊥
 
+-- what is reported of a peer's counts
+abbrev pub told_of : Option Tally → PeerState → Tally
+told_of earlier p = with_earlier earlier (tally_of p.parts.counts)
+
 -- The first missing chunk was named behind the report.
-pub record NamesBehind (p : PeerState) (old new : SinkState) : Type 0 where
+pub record NamesBehind (earlier : Option Tally) (p : PeerState) (old new : SinkState) : Type 0 where
   pub between : SinkState
-  pub reported : SaysReport (set_of p) (tally_of p.parts.counts) old between
+  pub reported : SaysReport (set_of p) (told_of earlier p) old between
   pub names : NamesFirst (set_of p) between new
 
 -- The report was said, and what is to be said behind it; or the sink refused something.
-abbrev pub Finishes : Status → Bool → PeerState → SinkState → SinkState → Type 0
-Finishes Done fetches p old new =
-    (fetches ≡ true → HasEvery (set_of p)) × SaysReport (set_of p) (tally_of p.parts.counts) old new
-Finishes Incomplete fetches p old new = (fetches ≡ true) × NamesBehind p old new
-Finishes SinkFault fetches p old new = HasRisen old.faults new.faults
-Finishes _ fetches p old new = ⊥
+abbrev pub Finishes : Status → Service → PeerState → SinkState → SinkState → Type 0
+Finishes Done service p old new =
+    (service.fetches ≡ true → HasEvery (set_of p)) × SaysReport (set_of p) (told_of service.earlier p) old new
+Finishes Incomplete service p old new = (service.fetches ≡ true) × NamesBehind service.earlier p old new
+Finishes SinkFault service p old new = HasRisen old.faults new.faults
+Finishes _ service p old new = ⊥
 
 -- The turns were taken, the channels closed, and it was reported; or the disk refused something in a turn.
-abbrev pub Serves : Status → (fetches : Bool) → (most : ℕ) → Beginning → Post → Post → SinkState → SinkState → Type 0
-Serves Done fetches most b first last old new =
-    Ends b most fetches first last × Finishes Done fetches last.peer old new
-Serves Incomplete fetches most b first last old new =
-    Ends b most fetches first last × Finishes Incomplete fetches last.peer old new
-Serves SinkFault fetches most b first last old new =
-    Ends b most fetches first last × Finishes SinkFault fetches last.peer old new
-Serves DiskFault fetches most b first last old new = StopsIn b most first last × Says disk_fault_line old new
-Serves _ fetches most b first last old new = ⊥
+abbrev pub Serves : Status → Service → Beginning → Post → Post → SinkState → SinkState → Type 0
+Serves Done service b first last old new =
+    Ends b service.most service.fetches first last × Finishes Done service last.peer old new
+Serves Incomplete service b first last old new =
+    Ends b service.most service.fetches first last × Finishes Incomplete service last.peer old new
+Serves SinkFault service b first last old new =
+    Ends b service.most service.fetches first last × Finishes SinkFault service last.peer old new
+Serves DiskFault service b first last old new = StopsIn b service.most first last × Says disk_fault_line old new
+Serves _ service b first last old new = ⊥
 
 -- A peer served, and its book is the book.
-pub record HasServed (status : Status) (fetches : Bool) (most : ℕ) (b : Beginning) (first : Post) (disk : DiskState) (link : LinkState)
+pub record HasServed (status : Status) (service : Service) (b : Beginning) (first : Post) (disk : DiskState) (link : LinkState)
     (book : BookState) (old new : SinkState) : Type 0 where
   pub last : PeerState
-  pub serves : Serves status fetches most b first (post last disk link) old new
+  pub serves : Serves status service b first (post last disk link) old new
   pub book_is : book ≡ last.parts.holding.book
   pub rooted : IsBookOf last.parts.holding.store.descriptor book
 

@@ -62,7 +62,9 @@ AnswersWell (Import store chunk) result old new =
 AnswersWell (Seed store (Sized d) listen turns) result old new = FindsOwn d old new → IsDoneOrShort result
 AnswersWell (Seed store (Auto name) listen turns) result old new =
     FindsOfName name old new → IsDoneOrShort result ⊎ (result ≡ number_of ContentSize) ⊎ (result ≡ number_of Shape)
-AnswersWell (Fetch store d listen turns order peers) result old new = FindsOwn d old new → IsDoneOrMissing result
+AnswersWell (Fetch store (Sized d) listen turns order peers) result old new = FindsOwn d old new → IsDoneOrMissing result
+AnswersWell (Fetch store (Auto name) listen turns order peers) result old new = (FindsEmpty old new → IsDoneOrMissing result)
+    × (FindsOfName name old new → IsDoneOrMissing result ⊎ (result ≡ number_of ContentSize) ⊎ (result ≡ number_of Shape))
 AnswersWell (Check store (Sized d)) result old new = FindsOwn d old new → IsDoneOrShort result
 AnswersWell (Check store (Auto name)) result old new =
     FindsOfName name old new → IsDoneOrShort result ⊎ (result ≡ number_of ContentSize) ⊎ (result ≡ number_of Shape)

@@ -1,9 +1,10 @@
-// The lines of a peer's counts.
+// The lines of a peer's counts, and the sum of two.
 ghost use Rattle.std.specs.Prelude.{◌≡◌, ◌++◌, OnOk};
 ghost use Rattle.pp_terms.specs.Count.{HasCause};
 ghost use Rattle.pp_terms.specs.command.Stream.{Gains};
 ghost use Rattle.pp_counts.specs.Counts.{tally_of};
 ghost use Rattle.pp_terms.specs.command.Tally.{first_lines, other_lines, tally_text};
+ghost use Rattle.pp_node.specs.Tallies.{total_of};
 
 use crate::printing::put_counted;
 use pp_counts::Counts;
@@ -57,4 +58,36 @@ fn put_others<K: Sink>(counts: &Counts, sink: &mut K) -> Result<(), SinkFault>
     put_counted(sink, b"read_faults ", counts.read_faults, b"\n")?;
     put_counted(sink, b"send_faults ", counts.send_faults, b"\n")?;
     put_counted(sink, b"receive_faults ", counts.receive_faults, b"\n")
+}
+
+/// The counts of two parts of a run together; a sum stands still at the greatest number of 64 bits.
+pub(crate) fn total(one: &Counts, two: &Counts) -> Counts
+    ensures { tally_of result ≡ total_of (tally_of one.now) (tally_of two.now) }
+{
+    Counts {
+        turns: one.turns.saturating_add(two.turns),
+        datagrams: one.datagrams.saturating_add(two.datagrams),
+        sent: one.sent.saturating_add(two.sent),
+        stored: one.stored.saturating_add(two.stored),
+        keepalives: one.keepalives.saturating_add(two.keepalives),
+        short: one.short.saturating_add(two.short),
+        stranger: one.stranger.saturating_add(two.stranger),
+        refused_handshakes: one
+            .refused_handshakes
+            .saturating_add(two.refused_handshakes),
+        no_seat: one.no_seat.saturating_add(two.no_seat),
+        cut: one.cut.saturating_add(two.cut),
+        outside: one.outside.saturating_add(two.outside),
+        not_a_node: one.not_a_node.saturating_add(two.not_a_node),
+        full: one.full.saturating_add(two.full),
+        choked: one.choked.saturating_add(two.choked),
+        unheld: one.unheld.saturating_add(two.unheld),
+        missing: one.missing.saturating_add(two.missing),
+        wrong: one.wrong.saturating_add(two.wrong),
+        repeats: one.repeats.saturating_add(two.repeats),
+        damaged: one.damaged.saturating_add(two.damaged),
+        read_faults: one.read_faults.saturating_add(two.read_faults),
+        send_faults: one.send_faults.saturating_add(two.send_faults),
+        receive_faults: one.receive_faults.saturating_add(two.receive_faults),
+    }
 }

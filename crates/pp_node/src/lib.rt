@@ -9,6 +9,7 @@ mod exporting;
 mod importing;
 mod looking;
 mod named_exporting;
+mod named_fetching;
 mod named_seeding;
 mod naming;
 mod playing;

@@ -9,7 +9,8 @@ ghost use Rattle.pp_tree.specs.Book.{empty_book};
 ghost use Rattle.pp_targets.specs.Names.{target_of};
 ghost use Rattle.pp_targets.specs.TargetText.{IsTarget};
 ghost use Rattle.pp_node.specs.Naming.{HasAttached};
-ghost use Rattle.pp_node.specs.NamedSeeding.{KeepsFound, ToldSeedEnds, TargetSeedEnds, words_for};
+ghost use Rattle.pp_node.specs.NamedFetching.{SharesTold};
+ghost use Rattle.pp_node.specs.NamedSeeding.{KeepsFound, TargetSeedEnds, words_for};
 ghost use Rattle.pp_node.specs.Outside.{outside};
 ghost use Rattle.pp_node.specs.Seeding.{words_of};
 ghost use Rattle.pp_node.specs.Status.{number_of};
@@ -40,6 +41,7 @@ impl Sharing<'_> {
     fn of<'b>(&'b self, descriptor: &'b Descriptor, dial: &'b ArrayVec<Address, 16>) -> Peering<'b>
         ensures words { words_of result ≡ words_for self.now descriptor.now }
         ensures idle { result.asks ≡ None }
+        ensures alone { result.earlier ≡ None }
     {
         Peering {
             store: self.store,
@@ -49,6 +51,7 @@ impl Sharing<'_> {
             asks: None,
             dial,
             random: self.random,
+            earlier: None,
         }
     }
 }
@@ -76,15 +79,15 @@ pub(crate) fn seed_target<D: Disk, L: Link, K: Sink>(
         }
         Target::Auto(name) => match tell_descriptor(words.store, name, disk) {
             Ok(descriptor) => {
-                seed_told(alloc, &words.of(&descriptor, &none), disk, link, sink, book)
+                share_told(alloc, &words.of(&descriptor, &none), disk, link, sink, book)
             }
             Err(fault) => report_naming(fault, sink),
         },
     }
 }
 
-// Seeds the descriptor that the header of the attached store told.
-fn seed_told<D: Disk, L: Link, K: Sink>(
+/// Seeds or fetches the descriptor that the header of the attached store told, unless a node of the scanned book is out of shape.
+pub(crate) fn share_told<D: Disk, L: Link, K: Sink>(
     alloc: Global,
     words: &Peering<'_>,
     disk: &mut D,
@@ -93,13 +96,13 @@ fn seed_told<D: Disk, L: Link, K: Sink>(
     book: &mut Book,
 ) -> Status
     requires empty { book.old ≡ empty_book }
-    requires idle { words.now.asks ≡ None }
+    requires alone { words.now.earlier ≡ None }
     requires attached { IsKnown (D.state disk.old) → IsFreshlyAttached (D.state disk.old).history }
     requires some { IsKnown (D.state disk.old) → 0 < length (D.state disk.old).history.reads }
     requires begins { IsKnown (D.state disk.old) → HasHeader words.now.descriptor.now (D.state disk.old).history.reads }
     ensures { (before : DiskState) (source : SourceState) → HasAttached words.now.store.now before (D.state disk.old)
         → KeepsFound (D.state disk.old) (D.state disk.new)
-        × ToldSeedEnds (number_of result) (words_of words.now)
+        × SharesTold words.now (number_of result)
         (outside before (L.seen link.old) source (K.state sink.old) book.old)
         (outside (D.state disk.new) (L.seen link.new) source (K.state sink.new) book.new) }
 {

@@ -15,7 +15,7 @@ ghost use Rattle.pp_targets.specs.Names.{name_of, target_of};
 ghost use Rattle.pp_targets.specs.TargetText.{IsTarget};
 ghost use Rattle.pp_named.specs.Told.{TellsDescriptor};
 ghost use Rattle.pp_node.specs.Looking.{IsUnwritten, Lasts};
-ghost use Rattle.pp_node.specs.Naming.{IsTold, FindsNamed, HasAttached, TellsNamed, IsRootedByName, IsInShape, fault_of_name, ReportsNaming, NamedChecksIn, TargetCheckEnds, shape_line};
+ghost use Rattle.pp_node.specs.Naming.{IsTold, FindsNamed, HasAttached, FindsTold, TellsNamed, IsRootedByName, IsInShape, fault_of_name, ReportsNaming, NamedChecksIn, TargetCheckEnds, shape_line};
 ghost use Rattle.pp_node.specs.Outside.{outside};
 ghost use Rattle.pp_node.specs.Status.{number_of};
 
@@ -172,7 +172,7 @@ fn look_attached<D: Disk>(
     }
 }
 
-/// Attaches the named store and reads which descriptor of the name its header tells. An empty file tells none.
+/// Attaches the named store and reads which descriptor of the name its header tells; an empty file is a fault.
 pub(crate) fn tell_descriptor<D: Disk>(
     store: &str,
     name: &SwarmName,
@@ -182,21 +182,37 @@ pub(crate) fn tell_descriptor<D: Disk>(
     ensures told { TellsNamed (name_of name.now) (D.state disk.old) (D.state disk.new) result }
     ensures attached { HasAttached store.now (D.state disk.old) (D.state disk.new) }
 {
+    match find_descriptor(store, name, disk) {
+        Ok(Some(descriptor)) => Ok(descriptor),
+        Ok(None) => Err(EMPTY),
+        Err(fault) => Err(fault),
+    }
+}
+
+/// Attaches the named store and reads which descriptor of the name its header tells, None for an empty file.
+pub(crate) fn find_descriptor<D: Disk>(
+    store: &str,
+    name: &SwarmName,
+    disk: &mut D,
+) -> Result<Option<Descriptor>, NamingFault>
+    requires { IsChunkSize name.now.chunk }
+    ensures told { FindsTold (name_of name.now) (D.state disk.old) (D.state disk.new) result }
+    ensures attached { HasAttached store.now (D.state disk.old) (D.state disk.new) }
+{
     match disk.attach(store) {
-        Ok(()) => tell_attached(name, disk),
+        Ok(()) => find_attached(name, disk),
         Err(_) => Err(NamingFault::Disk),
     }
 }
 
-fn tell_attached<D: Disk>(name: &SwarmName, disk: &mut D) -> Result<Descriptor, NamingFault>
+fn find_attached<D: Disk>(name: &SwarmName, disk: &mut D) -> Result<Option<Descriptor>, NamingFault>
     requires size { IsChunkSize name.now.chunk }
     requires attached { IsKnown (D.state disk.old) → IsFreshlyAttached (D.state disk.old).history }
-    ensures told { TellsNamed (name_of name.now) (D.state disk.old) (D.state disk.new) result }
+    ensures told { FindsTold (name_of name.now) (D.state disk.old) (D.state disk.new) result }
     ensures looks { KeepsAll (D.state disk.old) (D.state disk.new) }
 {
     match probe_name(name, disk) {
-        Ok(Some(descriptor)) => Ok(descriptor),
-        Ok(None) => Err(EMPTY),
+        Ok(told) => Ok(told),
         Err(fault) => Err(NamingFault::of_name(fault)),
     }
 }

@@ -9,6 +9,7 @@ ghost use Rattle.pp_node.specs.Preparing.{IsUnsent, HasPrepared, HasOpenedPeer, 
 use arrayvec::ArrayVec;
 use pp_avail::Rank;
 use pp_core::Peer;
+use pp_counts::Counts;
 use pp_outside::{Address, Disk, Link};
 use pp_scan::ScanFault;
 use pp_store::{ProbeFault, probe};
@@ -16,7 +17,7 @@ use pp_tree::Descriptor;
 use std::alloc::{AllocError, Global};
 
 /// What the words of `seed` or `fetch` name. A peer that fetches has an order in which it asks for chunks, and addresses that it
-/// dials. Channel numbers are drawn from `random`, 32 bytes that nobody can guess.
+/// dials. Channel numbers are drawn from `random`, 32 bytes that nobody can guess. The report adds what was counted earlier in the run.
 #[derive(Drop)]
 pub(crate) struct Peering<'a> {
     pub(crate) store: &'a str,
@@ -26,6 +27,7 @@ pub(crate) struct Peering<'a> {
     pub(crate) asks: Option<Rank>,
     pub(crate) dial: &'a ArrayVec<Address, 16>,
     pub(crate) random: [u8; 32],
+    pub(crate) earlier: Option<&'a Counts>,
 }
 
 /// Why a peer couldn't be made ready.
@@ -138,18 +140,24 @@ pub(crate) fn listen_and_open<D: Disk, L: Link>(
     ensures unsent { IsUnsent (L.seen link.old) (L.seen link.new) }
 {
     match link.bind(words.listen) {
-        Ok(()) => open(alloc, words, disk),
+        Ok(()) => open_peer(alloc, words, disk),
         Err(_) => Err(SeedFault::Link),
     }
 }
 
-fn room(alloc: Global) -> Result<Vec<u8>, AllocError>
+/// Room for the longest datagram.
+pub(crate) fn room(alloc: Global) -> Result<Vec<u8>, AllocError>
     ensures { IfOk result (λ bytes. length bytes.items ≡ 65536) }
 {
     vec![in alloc; 0; LONGEST]
 }
 
-fn open<D: Disk>(alloc: Global, words: &Peering<'_>, disk: &mut D) -> Result<Ready, SeedFault>
+/// Takes all memory and opens the store, whose file is empty or begins with the header.
+pub(crate) fn open_peer<D: Disk>(
+    alloc: Global,
+    words: &Peering<'_>,
+    disk: &mut D,
+) -> Result<Ready, SeedFault>
     requires attached { IsKnown (D.state disk.old) → IsFreshlyAttached (D.state disk.old).history }
     requires begins { IsKnown (D.state disk.old) → IsOf words.now.descriptor.now (D.state disk.old).history.reads }
     ensures opened { HasOpenedPeer words.now (D.state disk.old) (D.state disk.new) result }

@@ -3,19 +3,18 @@ ghost use Rattle.std.specs.Prelude.{◌≡◌, None, true, length, is_some, OnOk
 ghost use Rattle.pp_terms.specs.Count.{HasCause};
 ghost use Rattle.pp_terms.specs.command.Report.{SaysReport};
 ghost use Rattle.pp_terms.specs.command.Stream.{SourceState};
-ghost use Rattle.pp_counts.specs.Counts.{tally_of};
 ghost use Rattle.pp_core.specs.Turning.{Closes};
 ghost use Rattle.pp_peer.specs.Standing.{Beginning};
 ghost use Rattle.pp_tree.specs.Book.{empty_book};
 ghost use Rattle.pp_node.specs.Outside.{outside};
-ghost use Rattle.pp_node.specs.Promising.{SeedEnds, FetchEnds};
-ghost use Rattle.pp_node.specs.Seeding.{words_of, dials_of, ReportsSeed, Judges, Finishes, Serves, HasServed};
+ghost use Rattle.pp_node.specs.Promising.{SeedEnds, FetchEndsBehind};
+ghost use Rattle.pp_node.specs.Seeding.{words_of, dials_of, earlier_of, service_of, told_of, ReportsSeed, Judges, Finishes, Serves, HasServed};
 ghost use Rattle.pp_node.specs.Status.{number_of};
 ghost use Rattle.pp_turns.specs.Taking.{IsSized};
 ghost use Rattle.pp_turns.specs.Turning.{post, IsBegun};
 
 use crate::checking::put_not_a_store;
-use crate::counting::put_counts;
+use crate::counting::{put_counts, total};
 use crate::preparing::{Peering, Ready, SeedFault, prepare};
 use crate::printing::put_counted;
 use crate::ranges::put_held;
@@ -40,12 +39,12 @@ pub(crate) fn share<D: Disk, L: Link, K: Sink>(
     book: &mut Book,
 ) -> Status
     requires empty { book.old ≡ empty_book }
-    ensures seeds { words.now.asks ≡ None → (source : SourceState)
+    ensures seeds { words.now.asks ≡ None → words.now.earlier ≡ None → (source : SourceState)
         → SeedEnds (number_of result) (words_of words.now)
         (outside (D.state disk.old) (L.seen link.old) source (K.state sink.old) book.old)
         (outside (D.state disk.new) (L.seen link.new) source (K.state sink.new) book.new) }
     ensures fetches { is_some words.now.asks ≡ true → (source : SourceState)
-        → FetchEnds (number_of result) (words_of words.now) (dials_of words.now)
+        → FetchEndsBehind (earlier_of words.now) (number_of result) (words_of words.now) (dials_of words.now)
         (outside (D.state disk.old) (L.seen link.old) source (K.state sink.old) book.old)
         (outside (D.state disk.new) (L.seen link.new) source (K.state sink.new) book.new) }
 {
@@ -66,7 +65,7 @@ pub(crate) fn serve<D: Disk, L: Link, K: Sink>(
 ) -> Status
     requires room { length ready.buffer.items ≡ 65536 }
     ensures { (b : Beginning) → IsBegun b (post ready.peer (D.state disk.old) (L.seen link.old))
-        → HasServed result (is_some words.now.asks) words.now.turns b (post ready.peer (D.state disk.old) (L.seen link.old))
+        → HasServed result (service_of words.now) b (post ready.peer (D.state disk.old) (L.seen link.old))
         (D.state disk.new) (L.seen link.new) book.new (K.state sink.old) (K.state sink.new) }
 {
     let Ready {
@@ -89,12 +88,12 @@ fn take_all<D: Disk, L: Link, K: Sink>(
 ) -> Status
     requires room { length buffer.old ≡ 65536 }
     ensures { (b : Beginning) → IsBegun b (post peer.old (D.state disk.old) (L.seen link.old))
-        → Serves result (is_some words.now.asks) words.now.turns b (post peer.old (D.state disk.old) (L.seen link.old))
+        → Serves result (service_of words.now) b (post peer.old (D.state disk.old) (L.seen link.old))
         (post peer.new (D.state disk.new) (L.seen link.new)) (K.state sink.old) (K.state sink.new) }
 {
     let fetches = words.asks.is_some();
     match take_turns(peer, words.turns, fetches, buffer, disk, link) {
-        Ok(()) => finish(peer, fetches, disk, link, sink),
+        Ok(()) => finish(peer, words, disk, link, sink),
         Err(_) => report(SeedFault::Disk, sink),
     }
 }
@@ -102,31 +101,35 @@ fn take_all<D: Disk, L: Link, K: Sink>(
 // Closes the channels and reports.
 fn finish<D: Disk, L: Link, K: Sink>(
     peer: &mut Peer,
-    fetches: bool,
+    words: &Peering<'_>,
     disk: &D,
     link: &mut L,
     sink: &mut K,
 ) -> Status
     ensures closes { Closes peer.old peer.new (L.seen link.old) (L.seen link.new) (D.state disk.now) }
-    ensures finishes { Finishes result fetches peer.new (K.state sink.old) (K.state sink.new) }
+    ensures finishes { Finishes result (service_of words.now) peer.new (K.state sink.old) (K.state sink.new) }
     ensures sized { IsSized peer.new }
 {
     peer.close(disk, link);
     // Its contract tells of how many chunks the set is.
     let _ = peer.book();
-    match put_report(peer, sink) {
-        Ok(()) => judge(peer, fetches, sink),
+    match put_report(peer, words, sink) {
+        Ok(()) => judge(peer, words.asks.is_some(), sink),
         Err(_) => Status::SinkFault,
     }
 }
 
-fn put_report<K: Sink>(peer: &Peer, sink: &mut K) -> Result<(), SinkFault>
+// Says which chunks the peer has, and what was counted.
+fn put_report<K: Sink>(peer: &Peer, words: &Peering<'_>, sink: &mut K) -> Result<(), SinkFault>
     requires { IsSized peer.now }
-    ensures said { OnOk result (SaysReport peer.now.parts.holding.store.committed (tally_of peer.now.parts.counts) (K.state sink.old) (K.state sink.new)) }
+    ensures said { OnOk result (SaysReport peer.now.parts.holding.store.committed (told_of (earlier_of words.now) peer.now) (K.state sink.old) (K.state sink.new)) }
     ensures cause { HasCause (K.state sink.old).faults (K.state sink.new).faults result }
 {
     put_held(peer.committed(), peer.descriptor().chunks(), sink)?;
-    put_counts(peer.counts(), sink)
+    match words.earlier {
+        Some(counts) => put_counts(&total(counts, peer.counts()), sink),
+        None => put_counts(peer.counts(), sink),
+    }
 }
 
 // A fetch is done where all chunks are committed. A line that the sink refuses is given up.

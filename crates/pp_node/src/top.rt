@@ -20,6 +20,7 @@ ghost use Rattle.pp_node.specs.Checking.{CheckEnds};
 ghost use Rattle.pp_node.specs.Naming.{NamedCheckEnds};
 ghost use Rattle.pp_node.specs.Exporting.{ExportEnds};
 ghost use Rattle.pp_node.specs.NamedExporting.{NamedExportEnds};
+ghost use Rattle.pp_node.specs.NamedFetching.{NamedFetchEnds};
 ghost use Rattle.pp_node.specs.NamedSeeding.{NamedWords, NamedSeedEnds};
 ghost use Rattle.pp_node.specs.Upgrading.{UpgradeEnds};
 ghost use Rattle.pp_node.specs.Playing.{PlayEnds};
@@ -33,6 +34,7 @@ use crate::auditing::audit;
 use crate::built::read_built;
 use crate::importing::import;
 use crate::named_exporting::export_target;
+use crate::named_fetching::{Fetching, fetch_target};
 use crate::named_seeding::{Sharing, seed_target};
 use crate::naming::check_target;
 use crate::playing::play;
@@ -40,7 +42,6 @@ use crate::preparing::Peering;
 use crate::recording::record;
 use crate::refusing::refuse;
 use crate::replaying::{rehearse, replay};
-use crate::seeding::share;
 use crate::status::Status;
 use crate::upgrading::upgrade;
 use pp_avail::Rank;
@@ -91,8 +92,13 @@ pub fn run<D: Disk, L: Link, S: Source, K: Sink>(
         (outside (D.state disk.new) (L.seen link.new) (S.state source.new) (K.state sink.new) book.new) }
 
     ensures fetch { (w : PeerWords) (order : orders.Order) (peers : List Address)
-        → IsFetch (texts words.now) w.store w.descriptor w.listen w.turns order peers
+        → IsFetch (texts words.now) w.store (Sized w.descriptor) w.listen w.turns order peers
         → FetchEnds result w peers (outside (D.state disk.old) (L.seen link.old) (S.state source.old) (K.state sink.old) book.old)
+        (outside (D.state disk.new) (L.seen link.new) (S.state source.new) (K.state sink.new) book.new) }
+
+    ensures named_fetch { (w : NamedWords) (order : orders.Order) (peers : List Address)
+        → IsFetch (texts words.now) w.store (Auto w.name) w.listen w.turns order peers
+        → NamedFetchEnds result w peers (outside (D.state disk.old) (L.seen link.old) (S.state source.old) (K.state sink.old) book.old)
         (outside (D.state disk.new) (L.seen link.new) (S.state source.new) (K.state sink.new) book.new) }
 
     ensures play { (w : PeerWords) (window : ℕ) (peers : List Address)
@@ -192,22 +198,22 @@ fn obey<D: Disk, L: Link, S: Source, K: Sink>(
         }
         Command::Fetch {
             store,
-            descriptor,
+            target,
             listen,
             turns,
             order,
             peers,
         } => {
-            let words = Peering {
+            let words = Fetching {
                 store,
-                descriptor,
+                target,
                 listen,
                 turns: *turns,
-                asks: Some(rank_of(*order)),
+                rank: rank_of(*order),
                 dial: peers,
                 random,
             };
-            share(alloc, &words, disk, link, sink, book)
+            fetch_target(alloc, &words, disk, link, sink, book)
         }
         Command::Check { store, target } => check_target(alloc, store, target, disk, sink, book),
         Command::Export { store, target } => export_target(alloc, store, target, disk, sink, book),
@@ -232,6 +238,7 @@ fn obey<D: Disk, L: Link, S: Source, K: Sink>(
                 asks: Some(Rank::Blocks),
                 dial: peers,
                 random,
+                earlier: None,
             };
             play(alloc, &words, *window, disk, link, sink, book)
         }

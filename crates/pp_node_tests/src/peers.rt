@@ -119,6 +119,14 @@ impl Coming {
         Ok(())
     }
 
+    // A wait in which nothing came.
+    fn wait(&mut self) -> Result<(), Fail> {
+        let at = BEGIN.saturating_add(self.count);
+        self.link.add(Event::Quiet { at }, &[])?;
+        self.count = self.count.saturating_add(1);
+        Ok(())
+    }
+
     // Seeds the store of `abc` for a turn for each datagram and a quiet one.
     fn seed<D: Disk>(self, disk: &mut D) -> Result<Ran, Fail> {
         self.seed_as(DESCRIPTOR_OF_ABC, Method::Range32, disk)

@@ -414,7 +414,7 @@ fn are_of_sixteen(words: &[String]) -> bool {
         Ok(descriptor) => {
             let fetch = Command::Fetch {
                 store: STORE,
-                descriptor,
+                target: Target::Sized(descriptor),
                 listen: LISTEN,
                 turns: 1,
                 order: Order::Sequential,

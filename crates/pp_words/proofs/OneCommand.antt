@@ -104,22 +104,22 @@ seed_only words store target listen turns one (Seed store' target' listen' turns
     ∙ ap (λ n. Seed store' target' listen' n) (number_same turns turns' one.few two.few d.0)
 seed_only words store target listen turns one d two = absurd (true≢false (sym (name_is words (codes "seed") _ d one.spelled two refl)))
 
-fetch_only : (words : List (List ℕ)) (store : List ℕ) (descriptor : Descriptor) (listen : Address) (turns : ℕ) (order : Order) (peers : List Address)
-    → IsFetch words store descriptor listen turns order peers → (d : Command) → Spells words d → Fetch store descriptor listen turns order peers ≡ d
-fetch_only words store descriptor listen turns order peers one (Fetch store' descriptor' listen' turns' order' peers') two =
+fetch_only : (words : List (List ℕ)) (store : List ℕ) (target : Target) (listen : Address) (turns : ℕ) (order : Order) (peers : List Address)
+    → IsFetch words store target listen turns order peers → (d : Command) → Spells words d → Fetch store target listen turns order peers ≡ d
+fetch_only words store target listen turns order peers one (Fetch store' target' listen' turns' order' peers') two =
     let a = cons_same _ _ _ _ (cons_same _ _ _ _ (sym one.spelled ∙ two.spelled)).1 in
     let b = cons_same _ _ _ _ a.1 in
     let c = cons_same _ _ _ _ b.1 in
     let d = cons_same _ _ _ _ c.1 in
     let f = cons_same _ _ _ _ d.1 in
-    ap (λ s. Fetch s descriptor listen turns order peers) a.0
-    ∙ ap (λ x. Fetch store' x listen turns order peers) (described_same _ _ _ _ b.0 one.descriptor_is two.descriptor_is)
-    ∙ ap (λ x. Fetch store' descriptor' x turns order peers) (listen_same _ _ _ _ c.0 one.listen_is two.listen_is)
-    ∙ ap (λ n. Fetch store' descriptor' listen' n order peers) (number_same turns turns' one.few two.few d.0)
-    ∙ ap (λ o. Fetch store' descriptor' listen' turns' o peers) (order_same order order' f.0)
-    ∙ ap (λ ps. Fetch store' descriptor' listen' turns' order' ps)
+    ap (λ s. Fetch s target listen turns order peers) a.0
+    ∙ ap (λ x. Fetch store' x listen turns order peers) (named_same _ _ _ _ b.0 one.target_is two.target_is)
+    ∙ ap (λ x. Fetch store' target' x turns order peers) (listen_same _ _ _ _ c.0 one.listen_is two.listen_is)
+    ∙ ap (λ n. Fetch store' target' listen' n order peers) (number_same turns turns' one.few two.few d.0)
+    ∙ ap (λ o. Fetch store' target' listen' turns' o peers) (order_same order order' f.0)
+    ∙ ap (λ ps. Fetch store' target' listen' turns' order' ps)
     (peers_same two.dialled peers peers' (subst (λ ws. AllZip IsAddress ws peers) f.1 one.dialled_are) two.dialled_are)
-fetch_only words store descriptor listen turns order peers one d two =
+fetch_only words store target listen turns order peers one d two =
     absurd (true≢false (sym (name_is words (codes "fetch") _ d one.spelled two refl)))
 
 -- the store and the descriptor of a command on a store
@@ -202,7 +202,7 @@ audit_only words one d two = absurd (true≢false (sym (name_is words (codes "au
 pub one_command : (words : List (List ℕ)) (c d : Command) → Spells words c → Spells words d → c ≡ d
 one_command words (Import store chunk) d one two = import_only words store chunk one d two
 one_command words (Seed store target listen turns) d one two = seed_only words store target listen turns one d two
-one_command words (Fetch store descriptor listen turns order peers) d one two = fetch_only words store descriptor listen turns order peers one d two
+one_command words (Fetch store target listen turns order peers) d one two = fetch_only words store target listen turns order peers one d two
 one_command words (Check store target) d one two = check_only words store target one d two
 one_command words (Export store target) d one two = export_only words store target one d two
 one_command words (Upgrade store descriptor) d one two = upgrade_only words store descriptor one d two

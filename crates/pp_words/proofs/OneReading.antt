@@ -100,12 +100,12 @@ words_of words (Seed store target listen turns) is = record {
   named = is.spelled;
   right = (is.named, ((target, is.target_is), ((listen, is.listen_is), ((turns, refl, is.some_turns, is.few), tt))));
 }
-words_of words (Fetch store descriptor listen turns order peers) is = record {
+words_of words (Fetch store target listen turns order peers) is = record {
   rest = _;
   named = is.spelled;
   right = (
     is.named,
-    ((descriptor, is.descriptor_is), ((listen, is.listen_is), ((turns, refl, is.some_turns, is.few), ((order, refl), first_peer_right is.dialled peers is.dialled_are is.some is.most)))),
+    ((target, is.target_is), ((listen, is.listen_is), ((turns, refl, is.some_turns, is.few), ((order, refl), first_peer_right is.dialled peers is.dialled_are is.some is.most)))),
   );
 }
 words_of words (Check store target) is = record { rest = _; named = is.spelled; right = (is.named, ((target, is.target_is), tt)) }
@@ -137,7 +137,7 @@ command_not_wrong shapes words c u one is bad =
 pub one_of_all : (c : Command) → IsOneOf commands c
 one_of_all (Import store chunk) = refl
 one_of_all (Seed store descriptor listen turns) = refl
-one_of_all (Fetch store descriptor listen turns order peers) = refl
+one_of_all (Fetch store target listen turns order peers) = refl
 one_of_all (Check store target) = refl
 one_of_all (Export store descriptor) = refl
 one_of_all (Upgrade store descriptor) = refl

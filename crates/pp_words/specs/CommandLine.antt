@@ -57,15 +57,15 @@ pub record IsSeed (words : List (List ℕ)) (store : List ℕ) (target : Target)
   pub some_turns : 1 ≤ turns
   pub few : turns < 2 ^ 32
 
--- `fetch STORE DESCRIPTOR LISTEN TURNS ORDER PEER..`, with 1 to 16 peers
-pub record IsFetch (words : List (List ℕ)) (store : List ℕ) (descriptor : Descriptor) (listen : Address)
+-- `fetch STORE TARGET LISTEN TURNS ORDER PEER..`, with 1 to 16 peers
+pub record IsFetch (words : List (List ℕ)) (store : List ℕ) (target : Target) (listen : Address)
     (turns : ℕ) (order : Order) (peers : List Address) : Type 0 where
   pub described : List ℕ
   pub listening : List ℕ
   pub dialled : List (List ℕ)
   pub spelled : words ≡ codes "fetch" ∷ store ∷ described ∷ listening ∷ decimal turns ∷ order_text order ∷ dialled
   pub named : IsStore store
-  pub descriptor_is : IsDescriptorText described descriptor
+  pub target_is : IsTargetText described target
   pub listen_is : IsAddress listening listen
   pub some_turns : 1 ≤ turns
   pub few : turns < 2 ^ 32
@@ -121,7 +121,7 @@ pub record IsRecord (words : List (List ℕ)) (peer life : ℕ) : Type 0 where
 abbrev pub Spells : List (List ℕ) → Command → Type 0
 Spells words (Import store chunk) = IsImport words store chunk
 Spells words (Seed store target listen turns) = IsSeed words store target listen turns
-Spells words (Fetch store descriptor listen turns order peers) = IsFetch words store descriptor listen turns order peers
+Spells words (Fetch store target listen turns order peers) = IsFetch words store target listen turns order peers
 Spells words (Check store target) = IsOnTarget (codes "check") words store target
 Spells words (Export store target) = IsOnTarget (codes "export") words store target
 Spells words (Upgrade store descriptor) = IsOnStore (codes "upgrade") words store descriptor
@@ -176,7 +176,7 @@ seed_shape = record { name = codes "seed"; slots = AStore ∷ ATarget ∷ AnAddr
 abbrev pub fetch_shape : Shape
 fetch_shape = record {
   name = codes "fetch";
-  slots = AStore ∷ ADescriptor ∷ AnAddress ∷ ANumber 1 (2 ^ 32) ∷ AnOrder ∷ AnAddress ∷ [];
+  slots = AStore ∷ ATarget ∷ AnAddress ∷ ANumber 1 (2 ^ 32) ∷ AnOrder ∷ AnAddress ∷ [];
   peers = 15;
 }
 
@@ -217,7 +217,7 @@ commands =
 abbrev pub shape_of : Command → Shape
 shape_of (Import store chunk) = import_shape
 shape_of (Seed store target listen turns) = seed_shape
-shape_of (Fetch store descriptor listen turns order peers) = fetch_shape
+shape_of (Fetch store target listen turns order peers) = fetch_shape
 shape_of (Check store target) = check_shape
 shape_of (Export store target) = export_shape
 shape_of (Upgrade store descriptor) = upgrade_shape

@@ -10,7 +10,7 @@ use Rattle.pp_targets.specs.Target.{Target}
 pub data Command : Type 0 where
   Import : (store : List ℕ) (chunk : ℕ) → Command
   Seed : (store : List ℕ) (target : Target) (listen : Address) (turns : ℕ) → Command
-  Fetch : (store : List ℕ) (descriptor : Descriptor) (listen : Address) (turns : ℕ) (order : Order) (peers : List Address) → Command
+  Fetch : (store : List ℕ) (target : Target) (listen : Address) (turns : ℕ) (order : Order) (peers : List Address) → Command
   Check : (store : List ℕ) (target : Target) → Command
   Export : (store : List ℕ) (target : Target) → Command
   Upgrade : (store : List ℕ) (descriptor : Descriptor) → Command

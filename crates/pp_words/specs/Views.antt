@@ -28,8 +28,8 @@ order_of Rarest = orders.Rarest
 abbrev pub command_of : Command → terms.Command
 command_of (Import store chunk) = terms.Import store.now chunk
 command_of (Seed store target listen turns) = terms.Seed store.now (target_of target) (address_of listen) turns
-command_of (Fetch store descriptor listen turns order peers) =
-    terms.Fetch store.now descriptor (address_of listen) turns (order_of order) (map address_of peers.items)
+command_of (Fetch store target listen turns order peers) =
+    terms.Fetch store.now (target_of target) (address_of listen) turns (order_of order) (map address_of peers.items)
 command_of (Check store target) = terms.Check store.now (target_of target)
 command_of (Export store target) = terms.Export store.now (target_of target)
 command_of (Upgrade store descriptor) = terms.Upgrade store.now descriptor

@@ -45,14 +45,14 @@ pub(crate) fn fetch(words: &[String]) -> Result<Command<'_>, Usage>
         IsWrongFrom fetch_shape.slots fetch_shape.peers 1 (drop 1 (texts words.now)) (usage_of u)) }
 {
     let store = slots::store(words, 1)?;
-    let descriptor = slots::descriptor(words, 2)?;
+    let target = slots::target(words, 2)?;
     let listen = slots::address(words, 3)?;
     let turns = slots::some_number(words, 4, 1 << 32)?;
     let order = slots::order(words, 5)?;
     let peers = slots::peers(words, 6)?;
     Ok(Command::Fetch {
         store,
-        descriptor,
+        target,
         listen,
         turns,
         order,

@@ -28,10 +28,10 @@ pub enum Command<'a> {
         listen: Address,
         turns: u32,
     },
-    /// `fetch STORE DESCRIPTOR LISTEN TURNS ORDER PEER..`, with 1 to 16 peers
+    /// `fetch STORE TARGET LISTEN TURNS ORDER PEER..`, with 1 to 16 peers
     Fetch {
         store: &'a str,
-        descriptor: Descriptor,
+        target: Target,
         listen: Address,
         turns: u32,
         order: Order,

@@ -78,18 +78,10 @@ fn ask_in(swarm: &Descriptor, bytes: &[u8], spans: &mut Vec<(u64, u64)>) -> Resu
     Ok(())
 }
 
-// A wait in which nothing came.
-fn wait(coming: &mut Coming) -> Result<(), Fail> {
-    let at = BEGIN.saturating_add(coming.count);
-    coming.link.add(Event::Quiet { at }, &[])?;
-    coming.count = coming.count.saturating_add(1);
-    Ok(())
-}
-
 // The dialled peer answers, and has all chunks.
 fn answered(alloc: Global) -> Result<Coming, Fail> {
     let mut coming = Coming::none(alloc)?;
-    wait(&mut coming)?;
+    coming.wait()?;
     coming.add(&[
         &OURS,
         &[0],
@@ -123,7 +115,7 @@ fn bring(coming: &mut Coming, i: u8, other: &[u8; 32]) -> Result<(), Fail> {
         &[0; 8],
         chunk,
     ])?;
-    wait(coming)
+    coming.wait()
 }
 
 // Whether the bytes are the content's first two chunks.

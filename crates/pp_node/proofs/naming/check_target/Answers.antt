@@ -1,7 +1,6 @@
 use Rattle.std.proofs.Common.{ap, subst}
 use Rattle.pp_targets.specs.Names.{name_of, target_of}
 use Rattle.pp_targets.specs.TargetText.{IsTarget}
-use Rattle.pp_node.specs.Naming.{TargetCheckEnds}
 use Rattle.pp_node.proofs.Commands.{check_ended, named_check_ended}
 use Rattle.pp_node.proofs.naming.check_target.Goals as goal
 

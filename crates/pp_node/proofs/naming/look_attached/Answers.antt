@@ -1,4 +1,4 @@
-use Rattle.std.proofs.Common.{Ok, Err, ◌∙◌, ap, subst}
+use Rattle.std.proofs.Common.{Ok, ◌∙◌, ap, subst}
 use Rattle.pp_terms.proofs.Knowing.{known_on}
 use Rattle.pp_terms.specs.format.Descriptor.{Descriptor}
 use Rattle.pp_targets.specs.Names.{name_of}

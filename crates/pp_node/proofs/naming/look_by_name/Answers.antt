@@ -1,4 +1,3 @@
-use Rattle.std.proofs.Common.{inl, refl, rules}
 use Rattle.pp_named.specs.Front.{sized}
 use Rattle.pp_targets.specs.Names.{name_of}
 use Rattle.pp_terms.proofs.Knowing.{known_on}

@@ -1,18 +1,19 @@
-use Rattle.pp_terms.proofs.Knowing.{known_on}
+use Rattle.std.proofs.Common.{Ok, ◌∙◌, ap, subst}
 use Rattle.pp_targets.specs.Names.{name_of}
-use Rattle.pp_node.proofs.NamedSeeds.{tells_later, attached_alone, attached_read}
+use Rattle.pp_node.specs.Naming.{FindsTold}
+use Rattle.pp_node.proofs.NamedSeeds.{tells_none, tells_fault}
 use Rattle.pp_node.proofs.naming.tell_descriptor.Goals as goal
 
-pub returns-in-Ok-clause-told : goal.returns-in-Ok-clause-told
-returns-in-Ok-clause-told g c =
-    tells_later (name_of c.args.name.now) (g.D.Disk.state c.args.disk.now) (g.D.Disk.state c.attach.new.self) (g.D.Disk.state c.tell_attached.new.disk)
-    (known_on (g.D.Disk.state c.args.disk.now) (g.D.Disk.state c.attach.new.self) c.in-Ok.ensures.call.tells c.in-Ok.ensures.call.honest)
-    c.in-Ok.ensures.call.cause.later c.tell_attached.result c.tell_attached.ensures.told
+pub returns-in-Ok-None-clause-told : goal.returns-in-Ok-None-clause-told
+returns-in-Ok-None-clause-told g c =
+    tells_none (name_of c.args.name.now) (g.D.Disk.state c.args.disk.now) (g.D.Disk.state c.find_descriptor.new.disk)
+    (subst (FindsTold (name_of c.args.name.now) (g.D.Disk.state c.args.disk.now) (g.D.Disk.state c.find_descriptor.new.disk)) (c.in-Ok-None.is ∙ ap Ok c.in-Ok-None.field-0-is) c.find_descriptor.ensures.told)
 
-pub returns-in-Ok-clause-attached : goal.returns-in-Ok-clause-attached
-returns-in-Ok-clause-attached g c =
-    attached_read c.args.store.now (g.D.Disk.state c.args.disk.now) (g.D.Disk.state c.attach.new.self) (g.D.Disk.state c.tell_attached.new.disk)
-    (attached_alone c.args.store.now _ _ _ c.in-Ok.ensures) c.tell_attached.ensures.looks
+pub returns-in-Ok-Some-clause-told : goal.returns-in-Ok-Some-clause-told
+returns-in-Ok-Some-clause-told g c =
+    subst (FindsTold (name_of c.args.name.now) (g.D.Disk.state c.args.disk.now) (g.D.Disk.state c.find_descriptor.new.disk)) (c.in-Ok-Some.is ∙ ap Ok c.in-Ok-Some.field-0-is) c.find_descriptor.ensures.told
 
-pub returns-in-Err-clause-attached : goal.returns-in-Err-clause-attached
-returns-in-Err-clause-attached g c = attached_alone c.args.store.now _ _ _ c.in-Err.ensures
+pub returns-in-Err-clause-told : goal.returns-in-Err-clause-told
+returns-in-Err-clause-told g c =
+    tells_fault (name_of c.args.name.now) (g.D.Disk.state c.args.disk.now) (g.D.Disk.state c.find_descriptor.new.disk) c.in-Err.fault
+    (subst (FindsTold (name_of c.args.name.now) (g.D.Disk.state c.args.disk.now) (g.D.Disk.state c.find_descriptor.new.disk)) c.in-Err.is c.find_descriptor.ensures.told)

@@ -11,5 +11,5 @@ returns-in-Err-clause-unwritten g c known some = inl (c.requires.attached known)
 
 pub returns-in-Ok-clause-link : goal.returns-in-Ok-clause-link
 returns-in-Ok-clause-link g c =
-    bound_open c.args.words.now (g.D.Disk.state c.args.disk.now) (g.D.Disk.state c.open.new.disk)
-    (g.L.Link.seen c.args.link.now).bound (address_of c.args.words.now.listen.now) (g.L.Link.seen c.bind.new.self).bound c.open.result c.in-Ok.ensures.bound c.open.ensures.opened
+    bound_open c.args.words.now (g.D.Disk.state c.args.disk.now) (g.D.Disk.state c.open_peer.new.disk)
+    (g.L.Link.seen c.args.link.now).bound (address_of c.args.words.now.listen.now) (g.L.Link.seen c.bind.new.self).bound c.open_peer.result c.in-Ok.ensures.bound c.open_peer.ensures.opened

@@ -1,4 +1,4 @@
-use Rattle.std.proofs.Common.{ap, refl, subst}
+use Rattle.std.proofs.Common.{ap, subst}
 use Rattle.pp_words.specs.CommandLine.{Spells}
 use Rattle.pp_words.specs.Views.{command_of}
 use Rattle.pp_node.proofs.Commands.{audit_ended, record_ended, rehearse_ended, replay_ended, upgrade_ended}
@@ -8,7 +8,10 @@ pub import-requires : goal.import-requires
 import-requires g c = (subst (Spells c.requires.spelled.0) (ap command_of c.in-Import.is) c.requires.spelled.1).size
 
 pub returns-in-Fetch-clause-ended : goal.returns-in-Fetch-clause-ended
-returns-in-Fetch-clause-ended g c = rw c.in-Fetch.is (c.share.ensures.fetches refl (g.S.Source.state c.args.source.now))
+returns-in-Fetch-clause-ended g c = rw c.in-Fetch.is (c.fetch_target.ensures (g.S.Source.state c.args.source.now))
+
+pub fetch_target-requires-clause-valid : goal.fetch_target-requires-clause-valid
+fetch_target-requires-clause-valid g c = (subst (Spells c.requires.spelled.0) (ap command_of c.in-Fetch.is) c.requires.spelled.1).target_is.valid
 
 pub returns-in-Upgrade-clause-ended : goal.returns-in-Upgrade-clause-ended
 returns-in-Upgrade-clause-ended g c =

@@ -3,9 +3,37 @@ use Rattle.pp_targets.specs.Target.{Sized, Auto}
 use Rattle.pp_words.specs.Commands.{Audit, Check, Export, Fetch, Seed, Upgrade, Record, Replay, Rehearse, Play}
 use Rattle.pp_words.specs.Views.{texts, command_of, usage_of}
 use Rattle.pp_node.specs.Outside.{outside}
-use Rattle.pp_node.proofs.Commands.{none_spelled, import_ends, seed_ends, named_seed_ends, fetch_ends, play_ends, check_ends, named_check_ends, export_ends, named_export_ends, upgrade_ends, replay_ends, rehearse_ends, record_ends, audit_ends}
+use Rattle.pp_node.proofs.Commands.{no_usage, none_spelled, import_ends, seed_ends, named_seed_ends, fetch_ends, named_fetch_ends, play_ends, check_ends, named_check_ends, export_ends, named_export_ends, upgrade_ends, replay_ends, rehearse_ends, record_ends, audit_ends}
 use Rattle.pp_node.proofs.Untroubled.{answers_well}
 use Rattle.pp_node.proofs.top.run.Goals as goal
+
+-- a command that was done ends with another number
+pub returns-in-Ok-clause-usage : goal.returns-in-Ok-clause-usage
+returns-in-Ok-clause-usage g c = (
+  λ is. absurd (no_usage (command_of c.in-Ok.command) c.obey.result c.number.result
+      (outside (g.D.Disk.state c.args.disk.now) (g.L.Link.seen c.args.link.now) (g.S.Source.state c.args.source.now) (g.K.Sink.state c.args.sink.now) c.args.book.now)
+      (outside (g.D.Disk.state c.obey.new.disk) (g.L.Link.seen c.obey.new.link) (g.S.Source.state c.obey.new.source) (g.K.Sink.state c.obey.new.sink) c.obey.new.book)
+      c.number.ensures c.obey.ensures.ended is),
+  λ none. absurd (none (command_of c.in-Ok.command) c.in-Ok.ensures.ok.1 c.in-Ok.ensures.ok.0),
+)
+
+pub returns-in-Ok-clause-line : goal.returns-in-Ok-clause-line
+returns-in-Ok-clause-line g c is = absurd (no_usage (command_of c.in-Ok.command) c.obey.result c.number.result
+    (outside (g.D.Disk.state c.args.disk.now) (g.L.Link.seen c.args.link.now) (g.S.Source.state c.args.source.now) (g.K.Sink.state c.args.sink.now) c.args.book.now)
+    (outside (g.D.Disk.state c.obey.new.disk) (g.L.Link.seen c.obey.new.link) (g.S.Source.state c.obey.new.source) (g.K.Sink.state c.obey.new.sink) c.obey.new.book)
+    c.number.ensures c.obey.ensures.ended is)
+
+pub returns-in-Ok-clause-disk : goal.returns-in-Ok-clause-disk
+returns-in-Ok-clause-disk g c is = absurd (no_usage (command_of c.in-Ok.command) c.obey.result c.number.result
+    (outside (g.D.Disk.state c.args.disk.now) (g.L.Link.seen c.args.link.now) (g.S.Source.state c.args.source.now) (g.K.Sink.state c.args.sink.now) c.args.book.now)
+    (outside (g.D.Disk.state c.obey.new.disk) (g.L.Link.seen c.obey.new.link) (g.S.Source.state c.obey.new.source) (g.K.Sink.state c.obey.new.sink) c.obey.new.book)
+    c.number.ensures c.obey.ensures.ended is)
+
+pub returns-in-Ok-clause-source : goal.returns-in-Ok-clause-source
+returns-in-Ok-clause-source g c is = absurd (no_usage (command_of c.in-Ok.command) c.obey.result c.number.result
+    (outside (g.D.Disk.state c.args.disk.now) (g.L.Link.seen c.args.link.now) (g.S.Source.state c.args.source.now) (g.K.Sink.state c.args.sink.now) c.args.book.now)
+    (outside (g.D.Disk.state c.obey.new.disk) (g.L.Link.seen c.obey.new.link) (g.S.Source.state c.obey.new.source) (g.K.Sink.state c.obey.new.sink) c.obey.new.book)
+    c.number.ensures c.obey.ensures.ended is)
 
 pub returns-in-Ok-clause-import : goal.returns-in-Ok-clause-import
 returns-in-Ok-clause-import g c =
@@ -31,6 +59,13 @@ returns-in-Ok-clause-named_seed g c =
 pub returns-in-Ok-clause-fetch : goal.returns-in-Ok-clause-fetch
 returns-in-Ok-clause-fetch g c =
     fetch_ends (texts c.args.words.now) (command_of c.in-Ok.command) c.obey.result c.number.result
+    (outside (g.D.Disk.state c.args.disk.now) (g.L.Link.seen c.args.link.now) (g.S.Source.state c.args.source.now) (g.K.Sink.state c.args.sink.now) c.args.book.now)
+    (outside (g.D.Disk.state c.obey.new.disk) (g.L.Link.seen c.obey.new.link) (g.S.Source.state c.obey.new.source) (g.K.Sink.state c.obey.new.sink) c.obey.new.book)
+    c.in-Ok.ensures.ok.0 c.number.ensures c.obey.ensures.ended
+
+pub returns-in-Ok-clause-named_fetch : goal.returns-in-Ok-clause-named_fetch
+returns-in-Ok-clause-named_fetch g c =
+    named_fetch_ends (texts c.args.words.now) (command_of c.in-Ok.command) c.obey.result c.number.result
     (outside (g.D.Disk.state c.args.disk.now) (g.L.Link.seen c.args.link.now) (g.S.Source.state c.args.source.now) (g.K.Sink.state c.args.sink.now) c.args.book.now)
     (outside (g.D.Disk.state c.obey.new.disk) (g.L.Link.seen c.obey.new.link) (g.S.Source.state c.obey.new.source) (g.K.Sink.state c.obey.new.sink) c.obey.new.book)
     c.in-Ok.ensures.ok.0 c.number.ensures c.obey.ensures.ended
@@ -129,7 +164,11 @@ returns-in-Err-clause-named_seed g c = λ w spelled.
 
 pub returns-in-Err-clause-fetch : goal.returns-in-Err-clause-fetch
 returns-in-Err-clause-fetch g c = λ w order peers spelled.
-    absurd (none_spelled (texts c.args.words.now) (usage_of c.in-Err.usage) c.in-Err.ensures.err (Fetch w.store w.descriptor w.listen w.turns order peers) refl spelled)
+    absurd (none_spelled (texts c.args.words.now) (usage_of c.in-Err.usage) c.in-Err.ensures.err (Fetch w.store (Sized w.descriptor) w.listen w.turns order peers) refl spelled)
+
+pub returns-in-Err-clause-named_fetch : goal.returns-in-Err-clause-named_fetch
+returns-in-Err-clause-named_fetch g c = λ w order peers spelled.
+    absurd (none_spelled (texts c.args.words.now) (usage_of c.in-Err.usage) c.in-Err.ensures.err (Fetch w.store (Auto w.name) w.listen w.turns order peers) refl spelled)
 
 pub returns-in-Err-clause-play : goal.returns-in-Err-clause-play
 returns-in-Err-clause-play g c = λ w window peers spelled.

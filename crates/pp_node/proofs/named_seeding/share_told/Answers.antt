@@ -1,4 +1,5 @@
-use Rattle.std.proofs.Common.{◌∙◌, ◌<◌, List, ℕ, Err, inl, inr, refl, sym, subst, length}
+use Rattle.std.specs.Prelude.{is_some}
+use Rattle.std.proofs.Common.{◌≡◌, ◌∙◌, ◌<◌, true, None, List, ℕ, Err, inl, inr, refl, sym, subst, length}
 use Rattle.pp_terms.proofs.Knowing.{known_on}
 use Rattle.pp_terms.specs.disk.Disk.{DiskState, IsKnown}
 use Rattle.pp_terms.specs.format.Descriptor.{Descriptor}
@@ -6,17 +7,19 @@ use Rattle.pp_terms.specs.format.Traffic.{LinkState}
 use Rattle.pp_tree.specs.Book.{BookState, entry, IsBookOf}
 use Rattle.pp_named.specs.Shape.{IsFirstMisshapen}
 use Rattle.pp_core.specs.Peers.{PeerState}
-use Rattle.pp_node.specs.NamedSeeding.{IsSeededTold, IsMisshapedSeed}
+use Rattle.pp_core.proofs.Offered.{begun_fetches}
+use Rattle.pp_node.specs.NamedSeeding.{IsSeededTold, IsMisshapedPeer}
 use Rattle.pp_node.specs.Outside.{Outside, outside}
-use Rattle.pp_node.specs.Seeding.{words_of}
+use Rattle.pp_node.specs.NamedFetching.{IsFetchedTold}
+use Rattle.pp_node.specs.Seeding.{words_of, dials_of}
 use Rattle.pp_node.specs.Status.{number_of}
 use Rattle.pp_node.proofs.Lines.{says}
 use Rattle.pp_node.proofs.Peers.{WasReady, HasBook, b, has_begun}
 use Rattle.pp_node.proofs.Readies.{prepared_since}
-use Rattle.pp_node.proofs.Endings.{Leaves, HasFault, seed_unsent, fault_ends, seed_served, found_served}
+use Rattle.pp_node.proofs.Endings.{Leaves, HasFault, seed_unsent, fetch_unsent, fault_ends, seed_served, fetch_served, fetched_alone, found_served}
 use Rattle.pp_node.proofs.Looks.{named_later}
 use Rattle.pp_node.proofs.NamedSeeds.{was_ready_told, was_in_shape, none_misshapen, some_misshapen}
-use Rattle.pp_node.proofs.named_seeding.seed_told.Goals as goal
+use Rattle.pp_node.proofs.named_seeding.share_told.Goals as goal
 
 pub returns-in-None : goal.returns-in-None
 returns-in-None g c before source a =
@@ -35,11 +38,21 @@ returns-in-None g c before source a =
     let found = found_served c.args.words.now old new opened listens first r s.last k c.serve.result s.serves in
     let shaped = none_misshapen c.args.words.now.descriptor.now first.parts.holding.store.descriptor c.book.result.now first.parts.holding.book c.book.ensures.same
     c.book.ensures.tied.book_is r.swarm c.in-None.ensures in
-    let seeded : IsSeededTold (number_of c.serve.result) (words_of c.args.words.now) old new = record {
-      seeds = seed_served c.args.words.now old new opened listens first r s.last k c.serve.result c.requires.idle s.serves;
-      shaped = inl (was_in_shape c.args.words.now old new mid opened listens first len a c.in-Ok.ensures.prepared shaped found);
+    let was = was_in_shape c.args.words.now old new mid opened listens first len a c.in-Ok.ensures.prepared shaped found in
+    let seeded : c.args.words.now.asks ≡ None → IsSeededTold (number_of c.serve.result) (words_of c.args.words.now) old new = λ none. record {
+      seeds = seed_served c.args.words.now old new opened listens first r s.last k c.serve.result none c.requires.alone s.serves;
+      shaped = inl was;
     } in
-    (λ known. found (known_on mid before (sym a.tells) (sym a.honest) known) ∙ c.listen_and_open.ensures.found known, inl seeded)
+    let fetched : is_some c.args.words.now.asks ≡ true → IsFetchedTold (number_of c.serve.result) (words_of c.args.words.now) (dials_of c.args.words.now) old new = λ asked. record {
+      fetches = fetched_alone c.args.words.now old new opened listens first r s.last k c.serve.result c.requires.alone
+          (fetch_served c.args.words.now old new opened listens first r s.last k c.serve.result asked
+          (begun_fetches c.args.words.now.descriptor.now c.args.words.now.random c.args.words.now.asks c.args.words.now.dial.now.items first
+          c.in-Ok.ensures.prepared.begun asked) s.serves);
+      shaped = inl was;
+    } in (
+      λ known. found (known_on mid before (sym a.tells) (sym a.honest) known) ∙ c.listen_and_open.ensures.found known,
+      (λ none. inl (seeded none), λ asked. inl (fetched asked)),
+    )
 
 pub returns-in-Some : goal.returns-in-Some
 returns-in-Some g c before source a =
@@ -53,7 +66,7 @@ returns-in-Some g c before source a =
     let at = some_misshapen d first.parts.holding.store.descriptor c.book.result.now first.parts.holding.book c.book.ensures.same
     c.book.ensures.tied.book_is swarm c.in-Some.node c.in-Some.ensures in
     let knows : IsKnown before → IsKnown mid = known_on before mid a.tells a.honest in
-    let named : IsMisshapedSeed 13 (words_of c.args.words.now) old new = record {
+    let named : IsMisshapedPeer 13 (words_of c.args.words.now) old new = record {
       number = refl;
       layer = c.in-Some.node.layer;
       offset = c.in-Some.node.offset;
@@ -68,7 +81,7 @@ returns-in-Some g c before source a =
       lasts = λ known. c.listen_and_open.ensures.lasts (knows known);
       unread = refl;
     } in
-    (c.listen_and_open.ensures.found, inr named)
+    (c.listen_and_open.ensures.found, (λ none. inr named, λ asked. inr named))
 
 pub returns-in-Err : goal.returns-in-Err
 returns-in-Err g c before source a =
@@ -89,9 +102,14 @@ returns-in-Err g c before source a =
     (prepared_since c.args.words.now before mid opened (g.L.Link.seen c.args.link.now) (g.L.Link.seen c.listen_and_open.new.link) a.tells a.honest a.faults a.hard
     (Err c.in-Err.fault) c.in-Err.ensures.prepared)
     (λ known. c.in-Err.ensures.disk (knows known)) c.in-Err.ensures.link c.listen_and_open.ensures.unsent c.report.ensures in
-    let unsent = seed_unsent (number_of c.report.result) (words_of c.args.words.now) old new f in
+    let seeds = seed_unsent (number_of c.report.result) (words_of c.args.words.now) old new f in
+    let fetches = fetch_unsent (number_of c.report.result) (words_of c.args.words.now) (dials_of c.args.words.now) old new f in
     let seeded : IsSeededTold (number_of c.report.result) (words_of c.args.words.now) old new = record {
-      seeds = unsent.0;
-      shaped = inr (unsent.1, c.listen_and_open.ensures.unsent.nexts);
+      seeds = seeds.0;
+      shaped = inr (seeds.1, c.listen_and_open.ensures.unsent.nexts);
     } in
-    (c.listen_and_open.ensures.found, inl seeded)
+    let fetched : IsFetchedTold (number_of c.report.result) (words_of c.args.words.now) (dials_of c.args.words.now) old new = record {
+      fetches = fetches.0;
+      shaped = inr (fetches.1, c.listen_and_open.ensures.unsent.nexts);
+    } in
+    (c.listen_and_open.ensures.found, (λ none. inl seeded, λ asked. inl fetched))

@@ -1,7 +1,7 @@
 use Rattle.std.proofs.Common.{inl}
 use Rattle.pp_tree.specs.Book.{entry}
 use Rattle.pp_node.proofs.Readies.{known_opened, lasts_fresh, lasts_opened, is_fresh, opened_fault, leaves_fault, unwritten_opened}
-use Rattle.pp_node.proofs.preparing.open.Goals as goal
+use Rattle.pp_node.proofs.preparing.open_peer.Goals as goal
 
 pub returns-in-Ok-open-clause-opened : goal.returns-in-Ok-open-clause-opened
 returns-in-Ok-open-clause-opened g c = record {
