@@ -5,3 +5,5 @@ pub mod Turned
 pub mod Loops
 pub mod Limited
 pub mod Between
+pub mod Alike
+pub mod Counted

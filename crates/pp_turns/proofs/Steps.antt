@@ -39,7 +39,7 @@ use Rattle.pp_core.specs.Peers.{PeerState}
 use Rattle.pp_core.specs.Keeping.{IsThere, IsKeeping}
 use Rattle.pp_core.specs.Remembering.{KeepsWrote, StaysUnchoked, KeepsTold, HasNoTicket, KeepsAcks, HasNoRepeat}
 use Rattle.pp_core.specs.Storing.{StoresIn, CommitsTold}
-use Rattle.pp_core.specs.Turning.{scene, Goes, Sends, Closes, after_refusal}
+use Rattle.pp_core.specs.Turning.{scene, without_tickets, Goes, Sends, Closes, after_refusal}
 use Rattle.pp_turns.specs.Turning.{Post, post, stock_in, IsBegun, Went, TakesTurns, Stops}
 use Rattle.pp_turns.proofs.Idle.{absorbs_idle}
 use Rattle.pp_turns.proofs.Promising.{event_open}
@@ -408,8 +408,19 @@ module _ (n : ℕ) (b : Beginning) (first old new : Post) (mid : Parts) (refused
     idle = λ idle. same.fetching ∙ (f.seeds (q.idle idle)).fetching;
   }
 
-pub turns_flushed : (n : ℕ) (b : Beginning) (first old new : Post) (refused : ℕ)
-    → Sends refused old.peer new.peer old.link new.link old.disk new.disk → TakesTurns b n first old → TakesTurns b n first new
+-- What a flush sent, whatever its course: the link gained these records, and the peer stands for them and keeps its disk with them.
+pub record Flushed (refused : ℕ) (old new : Post) : Type 0 where
+  pub sent : Parts
+  pub flushes : Flushes refused (scene old.peer.parts old.link old.disk) (scene sent new.link new.disk)
+  pub goes : Goes refused flushes.added old.peer new.peer old.disk new.disk
+  pub rest : new.peer.parts ≡ without_tickets sent
+
+abbrev pub flushed_by : (refused : ℕ) (old new : Post) → Sends refused old.peer new.peer old.link new.link old.disk new.disk
+    → Flushed refused old new
+flushed_by refused old new s = record { sent = s.sent; flushes = s.flushes; goes = s.goes; rest = s.rest }
+
+pub turns_flushed : (n : ℕ) (b : Beginning) (first old new : Post) (refused : ℕ) → Flushed refused old new
+    → TakesTurns b n first old → TakesTurns b n first new
 turns_flushed n b first old new refused s q =
     turns_sent n b first old new s.sent refused s.flushes s.goes (record {
       store = ap (λ (p : Parts). p.holding.store) s.rest;
@@ -419,7 +430,7 @@ turns_flushed n b first old new refused s q =
     }) q
 
 pub flushed_turned : (n : ℕ) (b : Beginning) (first old new : Post) (refused : ℕ)
-    → (course : Sends refused old.peer new.peer old.link new.link old.disk new.disk) → (q : TakesTurns b n first old)
+    → (course : Flushed refused old new) → (q : TakesTurns b n first old)
     → ((turns_flushed n b first old new refused course q).went.added ≡ course.flushes.added ++ q.went.added)
     × ((turns_flushed n b first old new refused course q).refused ≡ q.refused + refused)
 unfolding turns_flushed turns_sent

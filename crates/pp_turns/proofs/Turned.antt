@@ -51,12 +51,12 @@ use Rattle.pp_turns.specs.Promising.{Stage, Ended, Came, Refused, faults_of, Tel
 use Rattle.pp_turns.specs.Taking.{TakesTurn, Waits, Finishes}
 use Rattle.pp_turns.specs.Turning.{Post, IsBegun, TakesTurns}
 use Rattle.pp_turns.proofs.Promising.{each_grows, each_ships, each_sent, commits_told, fails_event, fails_refused, fails_sent, fails_sent_late, fails_none, owes_none, keeps_none, tells_none, acknowledges_none, asks_none, ends_before, ends_sent, event_last, gained_some, event_open, event_below}
-use Rattle.pp_turns.proofs.Steps.{Kept, Absorbed, turns_none, none_turned, turns_event, event_turned, sent_none, stops_event, event_stopped, turns_refused, refused_turned, turns_flushed, flushed_turned}
+use Rattle.pp_turns.proofs.Steps.{Flushed, flushed_by, Kept, Absorbed, turns_none, none_turned, turns_event, event_turned, sent_none, stops_event, event_stopped, turns_refused, refused_turned, turns_flushed, flushed_turned}
 
 -- ---- what was refused
 
 -- where the link refused nothing it refused nothing before
-calm_before : (first old new : Post) → old.link.faults ≤ new.link.faults → IsCalmLink first new → IsCalmLink first old
+pub calm_before : (first old new : Post) → old.link.faults ≤ new.link.faults → IsCalmLink first new → IsCalmLink first old
 calm_before first old new later calm risen = calm (risen_more first.link.faults old.link.faults new.link.faults later risen)
 
 -- where both counts tell they told before
@@ -339,7 +339,7 @@ at_most_open Came = omega arith
 at_most_open Refused = omega arith
 
 module _ (stage : Stage) (n : ℕ) (b : Beginning) (first old new : Post) (refused : ℕ)
-    (course : Sends refused old.peer new.peer old.link new.link old.disk new.disk)
+    (course : Flushed refused old new)
     (promises : Promises refused old.peer new.peer old.link new.link old.disk new.disk course.flushes.added)
     (q : HasTurned stage b n first old) where
   abbrev all : List Record
@@ -536,7 +536,7 @@ module _ (stage : Stage) (n : ℕ) (b : Beginning) (first old new : Post) (refus
       (q.dials addresses are few traffic is (told_before old new course.flushes.later disk tells) m (omega (arith, sum, one)))
 
 abbrev sent_as : (stage : Stage) (n : ℕ) (b : Beginning) (first old new : Post) (refused : ℕ)
-    → (course : Sends refused old.peer new.peer old.link new.link old.disk new.disk)
+    → (course : Flushed refused old new)
     → (promises : Promises refused old.peer new.peer old.link new.link old.disk new.disk course.flushes.added)
     → (q : HasTurned stage b n first old)
     → (IsTelling b first new → (h : History) → IsFoundIn b h → (most : ℕ) → faults_of new ≤ faults_of first + most
@@ -580,7 +580,7 @@ sent_as stage n b first old new refused course promises q serves keeps_up lets_i
     (lost stage n b first old new refused course promises q) (omega arith) (dials_on stage n b first old new refused course promises q some one)
 
 pub turned_sent : (n : ℕ) (b : Beginning) (first old new : Post) (refused : ℕ)
-    → (course : Sends refused old.peer new.peer old.link new.link old.disk new.disk)
+    → (course : Flushed refused old new)
     → Promises refused old.peer new.peer old.link new.link old.disk new.disk course.flushes.added
     → HasTurned Came b n first old → HasTurned Ended b n first new
 turned_sent n b first old new refused course promises q =
@@ -614,7 +614,7 @@ turned_sent n b first old new refused course promises q =
     (λ i is. contains i (held_then Came n b first old new refused course promises q i is)))) (omega arith) refl
 
 pub turned_late : (n : ℕ) (b : Beginning) (first old new : Post) (refused : ℕ)
-    → (course : Sends refused old.peer new.peer old.link new.link old.disk new.disk)
+    → (course : Flushed refused old new)
     → Promises refused old.peer new.peer old.link new.link old.disk new.disk course.flushes.added
     → HasTurned Refused b n first old → HasTurned Ended b n first new
 turned_late n b first old new refused course promises q =
@@ -639,7 +639,7 @@ turned_late n b first old new refused course promises q =
     (λ i is. contains i (held_then Refused n b first old new refused course promises q i is)))) (omega arith) refl
 
 -- what is due, behind a wait
-pub finish_whole : (old new : Post) (refused : ℕ) → (course : Sends refused old.peer new.peer old.link new.link old.disk new.disk)
+pub finish_whole : (old new : Post) (refused : ℕ) → (course : Flushed refused old new)
     → Promises refused old.peer new.peer old.link new.link old.disk new.disk course.flushes.added → Finishes old new
 finish_whole old new refused course promises b taken first waited = ⊎_elim
     (λ came. turned_sent taken b first old new refused course promises came)
@@ -651,4 +651,4 @@ pub turn_whole : (old mid new : Post) (refused : ℕ) (u v : Unit {0}) → Waits
     → (course : Sends refused mid.peer new.peer mid.link new.link mid.disk new.disk)
     → Promises refused mid.peer new.peer mid.link new.link mid.disk new.disk course.flushes.added → TakesTurn old new (Ok v)
 turn_whole old mid new refused u v waits course promises b taken first q =
-    finish_whole mid new refused course promises b (taken + 1) first (waits b taken first q)
+    finish_whole mid new refused (flushed_by refused mid new course) promises b (taken + 1) first (waits b taken first q)

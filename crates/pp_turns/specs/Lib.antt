@@ -1,3 +1,4 @@
 pub mod Turning
 pub mod Promising
 pub mod Taking
+pub mod Alike

@@ -1,6 +1,6 @@
 //! The turns of a peer.
 
-ghost use Rattle.std.specs.Prelude.{◌≡◌, true, length, MatchBool, IfOk, OnOk};
+ghost use Rattle.std.specs.Prelude.{◌≡◌, true, false, length, MatchBool, IfOk, OnOk, OnErr};
 ghost use Rattle.pp_terms.specs.Count.{HasCause};
 ghost use Rattle.pp_terms.specs.format.Traffic.{LinkState};
 ghost use Rattle.pp_outside.specs.Outside.{size_of, FitsIn, DoesNext};
@@ -9,6 +9,7 @@ ghost use Rattle.pp_holding.specs.Holding.{stock_of};
 ghost use Rattle.pp_holding.specs.Stock.{Advances};
 ghost use Rattle.pp_peer.specs.Standing.{Beginning};
 ghost use Rattle.pp_core.specs.Offering.{limit_of};
+ghost use Rattle.pp_turns.specs.Alike.{Carries, GainsAlike};
 ghost use Rattle.pp_turns.specs.Taking.{TakesTurn, Waits, Finishes, TurnsEnd, HasAll, LacksSome};
 ghost use Rattle.pp_turns.specs.Turning.{post, IsBegun};
 
@@ -85,6 +86,7 @@ pub fn hear<D: Disk>(
     // Only where the disk refused a write or a sync it answers a fault.
     ensures cause { peer.old.parts.holding.store.live ≡ true → HasCause (D.state disk.old).hard (D.state disk.new).hard result }
     ensures live { peer.old.parts.holding.store.live ≡ true → OnOk result (peer.new.parts.holding.store.live ≡ true) }
+    ensures dead { OnErr result (peer.new.parts.holding.store.live ≡ false) }
     // The number below which the peer asks for chunks stays.
     ensures limit { OnOk result (limit_of peer.new.parts.fetching ≡ limit_of peer.old.parts.fetching) }
 {
@@ -101,6 +103,11 @@ pub fn hear<D: Disk>(
 pub fn finish_turn<D: Disk, L: Link>(peer: &mut Peer, disk: &mut D, link: &mut L)
     ensures ends { Finishes (post peer.old (D.state disk.old) (L.seen link.old))
         (post peer.new (D.state disk.new) (L.seen link.new)) }
+    // The link gained what was sent; over each other that gains the same a turn ends, too.
+    ensures carries { Carries (post peer.old (D.state disk.old) (L.seen link.old))
+        (post peer.new (D.state disk.new) (L.seen link.new)) }
+    ensures alike { (seen seen' : LinkState) → GainsAlike (L.seen link.old) (L.seen link.new) seen seen'
+        → Finishes (post peer.old (D.state disk.old) seen) (post peer.new (D.state disk.new) seen') }
     // What the peer holds stays, and the disk is only read.
     ensures store { peer.new.parts.holding.store ≡ peer.old.parts.holding.store }
     ensures book { peer.new.parts.holding.book ≡ peer.old.parts.holding.book }
