@@ -1,0 +1,3 @@
+pub mod Routing
+pub mod Sharing
+pub mod Hubs
