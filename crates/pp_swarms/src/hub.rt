@@ -1,6 +1,7 @@
 //! Several swarms on one socket.
 
 ghost use Rattle.std.specs.Prelude.{◌≡◌, ◌<◌, ◌≤◌, length, map, slice_get, Some, IfOk, option_map};
+ghost use Rattle.std.specs.List.{list_any};
 ghost use Rattle.pp_outside.specs.Outside.{FitsIn};
 
 use crate::closing::close_all;
@@ -40,7 +41,7 @@ impl Model for Hub {
 impl Hub {
     ghost use Rattle.pp_swarms.specs.Hubs.{HubState, empty_hub, Joins, count_unrouted};
     ghost use Rattle.pp_swarms.specs.Routing.{route_of};
-    ghost use Rattle.pp_swarms.specs.Sharing.{fleet, HearsAll, RefusesAll, SendsAll, ClosesAll};
+    ghost use Rattle.pp_swarms.specs.Sharing.{fleet, is_live, HearsAll, RefusesAll, SendsAll, ClosesAll};
 
     /// No swarm yet. The room for 16 peers is taken; the error comes where memory is missing.
     pub fn new(alloc: Global) -> Result<Hub, AllocError>
@@ -128,6 +129,13 @@ impl Hub {
         ensures { slice_get self.now.peers swarm ≡ Some result.now }
     {
         &self.peers[usize::from(swarm)]
+    }
+
+    /// Whether some swarm goes on: its disk has refused no write and no sync.
+    pub fn goes_on(&self) -> bool
+        ensures { result ≡ list_any is_live self.now.peers }
+    {
+        self.peers.iter().any(|peer| peer.is_live())
     }
 
     /// How many swarms there are, at most 16.
